@@ -1,0 +1,5 @@
+pub mod Tests
+pub mod Members
+pub mod Count
+pub mod Numbers
+pub mod Least

@@ -1,0 +1,4 @@
+pub mod Walk
+pub mod Visit
+pub mod Arcs
+pub mod Graph
