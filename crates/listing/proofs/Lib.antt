@@ -1,0 +1,4 @@
+pub mod FieldLaws
+pub mod PartLaws
+pub mod ReadLaws
+pub mod LinksLaws

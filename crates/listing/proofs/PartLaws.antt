@@ -1,0 +1,91 @@
+-- A part as the code reads it, at places of the listing, against its definition on the bytes from there on. Assumes nothing.
+use mathlib.Core.Path.{_≡_, refl, sym, ap, ap₂, _∙_, subst}
+use mathlib.Core.Bool.{Bool, true, false, not, _&&_, _||_}
+use mathlib.Core.List.{List, [], _∷_, _++_}
+use Prim.Native.Nat.{ℕ, zero, suc, _+_, _-_, _*_, _/_, _%_, _^_, _≤_, _<_}
+use native.Mathlib.Omega.{arith}
+use borrow.Author.Tests.{lt-ltb, le-ltb, le-leb, lt-leb, eq-eqb, ne-eqb}
+use lib.Dec.{eqb, leb, ltb}
+use lib.ListN.{length, getD, take, drop, length-drop}
+use lib.Seq.{drop-drop, getD-drop}
+use Rattle.plant.specs.Refusals.{Answer, given, refused, refuse}
+use Rattle.listing.specs.declared.Field.{Field}
+use Rattle.listing.specs.Part.{taken, size, valueOf, repeats, values, someRedundant, mapByte, mapMissing, mapUndefined, fieldMissing, fieldRedundant, fieldValues, afterPart, part}
+use Rattle.listing.specs.Answers.{fieldsOf}
+
+or-false-right : (a b c : Bool) → a || (b || (c || false)) ≡ a || (b || c)
+or-false-right true b c = refl
+or-false-right false true c = refl
+or-false-right false false true = refl
+or-false-right false false false = refl
+
+module _ (s : List ℕ) (at m : ℕ) (f g h : Field) where
+  -- the values that stand at the places of the fields, and the bytes that each takes
+  pub record Stand (x y z u v w : ℕ) : Type 0 where
+    pub first : x ≡ valueOf f (m % 2) (drop at s)
+    pub second : y ≡ valueOf g (m / 2 % 2) (drop (at + u) s)
+    pub third : z ≡ valueOf h (m / 2 / 2 % 2) (drop (at + u + v) s)
+    pub size-first : u ≡ taken f (m % 2)
+    pub size-second : v ≡ taken g (m / 2 % 2)
+    pub size-third : w ≡ taken h (m / 2 / 2 % 2)
+
+  -- what the fields answer, by the test whether one of them is redundant
+  fields-answer : (x y z u v w : ℕ) (t : Bool) → Stand x y z u v w
+      → t ≡ repeats (m % 2) x (f .absent) || (repeats (m / 2 % 2) y (g .absent) || repeats (m / 2 / 2 % 2) z (h .absent))
+      → refuse 4 t (given (x ∷ y ∷ z ∷ [], drop (at + u + v + w) s)) ≡ fieldsOf (f ∷ g ∷ h ∷ []) m (drop at s)
+  unfolding fieldsOf
+  fields-answer x y z u v w t r b =
+      let e : drop (taken f (m % 2)) (drop at s) ≡ drop (at + u) s = rw (r .size-first) (drop-drop (taken f (m % 2)) at s) in
+      let d : drop (taken g (m / 2 % 2)) (drop (at + u) s) ≡ drop (at + u + v) s = rw (r .size-second) (drop-drop (taken g (m / 2 % 2)) (at + u) s) in
+      let q : drop (size m (f ∷ g ∷ h ∷ [])) (drop at s) ≡ drop (at + u + v + w) s =
+      let k : at + size m (f ∷ g ∷ h ∷ []) ≡ at + u + v + w = omega (arith, r .size-first, r .size-second, r .size-third) in
+      drop-drop (size m (f ∷ g ∷ h ∷ [])) at s ∙ ap (λ (n : ℕ). drop n s) k in
+      sym (rw (q, e, d, sym (r .first), sym (r .second), sym (r .third), or-false-right, sym b) refl)
+
+  module _ (x y z u v w : ℕ) (t : Bool) (r : Stand x y z u v w)
+      (e : t ≡ repeats (m % 2) x (f .absent) || (repeats (m / 2 % 2) y (g .absent) || repeats (m / 2 / 2 % 2) z (h .absent)))
+    where
+      -- 4
+      pub fields-redundant : t ≡ true → refused 4 ≡ fieldsOf (f ∷ g ∷ h ∷ []) m (drop at s)
+      fields-redundant b = rw b at (fields-answer x y z u v w t r e)
+
+      pub fields-given : t ≡ false → given (x ∷ y ∷ z ∷ [], drop (at + u + v + w) s) ≡ fieldsOf (f ∷ g ∷ h ∷ []) m (drop at s)
+      fields-given b = rw b at (fields-answer x y z u v w t r e)
+
+module _ (s : List ℕ) (at : ℕ) (f g h : Field) where
+  abbrev fs : List Field
+  fs = f ∷ g ∷ h ∷ []
+
+  -- 1
+  pub part-none : length s ≤ at → refused 1 ≡ part fs (drop at s)
+  unfolding part mapMissing
+  part-none e = let z : length s - at ≡ 0 = omega arith in rw (length-drop at s, z) refl
+
+  module _ (some : at < length s) (m : ℕ) (is : m ≡ getD s at 0) where
+    there : mapMissing (drop at s) ≡ false
+    unfolding mapMissing
+    there = rw (length-drop at s) (ne-eqb (length s - at) 0 (λ e. omega arith))
+
+    byte : mapByte (drop at s) ≡ m
+    byte = let z : at + 0 ≡ at = omega arith in getD-drop at s 0 0 ∙ ap (λ (n : ℕ). getD s n 0) z ∙ sym is
+
+    -- 2
+    pub part-undefined : 8 ≤ m → refused 2 ≡ part fs (drop at s)
+    unfolding part mapUndefined
+    part-undefined k = rw (there, byte, le-leb 8 m k) refl
+
+    module _ (defined : m < 8) where
+      known : mapUndefined fs (drop at s) ≡ false
+      unfolding mapUndefined
+      known = rw byte (lt-leb 8 m defined)
+
+      -- 3
+      pub part-short : (n : ℕ) → n ≡ size m fs → length s - (at + 1) < n → refused 3 ≡ part fs (drop at s)
+      unfolding part fieldMissing
+      part-short n e k = rw (there, known, byte, length-drop at s, sym e, lt-ltb (length s - at) (1 + n) (omega arith)) refl
+
+      -- else what the fields answer
+      pub part-fields : (n : ℕ) → n ≡ size m fs → n ≤ length s - (at + 1) → fieldsOf fs m (drop (at + 1) s) ≡ part fs (drop at s)
+      unfolding part fieldMissing fieldRedundant fieldValues afterPart fieldsOf
+      part-fields n e k =
+          sym (rw (there, known, byte, length-drop at s, drop-drop 1 at s, sym e, le-ltb (length s - at) (1 + n) (omega arith)) refl)

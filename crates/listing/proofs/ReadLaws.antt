@@ -1,0 +1,99 @@
+-- The header, a link and the links as the code reads them, at places of the listing, against their definitions. Assumes nothing.
+use mathlib.Core.Path.{_≡_, refl, sym, ap, ap₂, _∙_, subst}
+use mathlib.Core.Bool.{Bool, true, false, not, _&&_, _||_}
+use mathlib.Core.List.{List, [], _∷_, _++_}
+use Prim.Native.Nat.{ℕ, zero, suc, _+_, _-_, _^_, _≤_, _<_}
+use native.Mathlib.Omega.{arith}
+use borrow.Author.Tests.{leb-true, ltb-true, not-false}
+use lib.Dec.{eqb, leb, ltb}
+use lib.ListN.{length, getD, take, drop}
+use Rattle.lists.specs.Tests.{and-true}
+use Rattle.plant.specs.declared.Link.{Link}
+use Rattle.plant.specs.declared.Plant.{Plant}
+use Rattle.plant.specs.Links.{plantWith}
+use Rattle.plant.specs.Refusals.{Answer, given, refused, refuse, _>>=_, numberOf}
+use Rattle.plant.specs.declared.Refusal.{Refusal}
+use Rattle.model.specs.Answers.{given-given, refuse-given, then-given}
+use Rattle.model.specs.Limits.{maxSwitches, maxLinks}
+use Rattle.listing.specs.declared.Field.{Field}
+use Rattle.listing.specs.declared.Part.{Part}
+use Rattle.listing.specs.declared.Part.the-variants as part-is
+use Rattle.listing.specs.declared.Header.{Header}
+use Rattle.listing.specs.declared.Header.the-variants as header-is
+use Rattle.listing.specs.Part.{part}
+use Rattle.listing.specs.Listing.{headerFields, headerFrom, headerOutOfRange, judgedHeader, linkFields, linkFrom, valueOutOfRange, endOutOfRange, selfLink, judged, linkOf, header, link, afterHeader, decode}
+use Rattle.listing.specs.Answers.{partAnswer, Fits, headerAnswer}
+
+-- the third value of a part fits its width
+pub third-fits : (f g h : Field) (r : Part) (a b c next : ℕ) → Fits f g h r → r ≡ part-is.Fields a b c next → c < (2 ^ 8) ^ h .width
+third-fits f g h r a b c next q e = (subst (λ (x : Part). Fits f g h x) e q) .2
+
+-- ---- header
+
+pub record InRange (switches count start : ℕ) : Type 0 where
+  pub some-switch : 1 ≤ switches
+  pub few-switches : switches ≤ maxSwitches
+  pub few-links : count ≤ maxLinks
+  pub start-in : start < switches
+
+pub in-range : (switches count start : ℕ) → valueOutOfRange switches count start ≡ false → InRange switches count start
+unfolding valueOutOfRange
+in-range a b c e =
+    let t = not-false _ e in
+    let q = and-true _ _ t in
+    let r = and-true _ _ (q .0) in
+    let u = and-true _ _ (r .0) in
+    record { some-switch = leb-true 1 a (u .0); few-switches = leb-true a maxSwitches (u .1); few-links = leb-true b maxLinks (r .1); start-in = ltb-true c a (q .1) }
+
+-- the header of a listing that has one: the values of its fields are in range
+pub header-given : (t rest : List ℕ) (p : Plant) → header t ≡ given (p, rest)
+    → (vs : List ℕ) × (part headerFields t ≡ given (vs, rest)) × (p ≡ headerFrom vs) × InRange (p .switches) (p .count) (p .start)
+unfolding header judgedHeader plantWith
+header-given t rest p e = (q .0 .0, q .1 ∙ ap (λ (r : List ℕ). given (q .0 .0, r)) (ap (λ (z : Plant × List ℕ). z .1) same), sym of, subst (λ (x : Plant). InRange (x .switches) (x .count) (x .start)) of (in-range _ _ _ (u .0)))
+  where
+    q : (x : List ℕ × List ℕ) × (part headerFields t ≡ given x) × (judgedHeader (x .0) (x .1) ≡ given (p, rest))
+    q = then-given (part headerFields t) (λ r. judgedHeader (r .0) (r .1)) (p, rest) e
+
+    u : (headerOutOfRange (q .0 .0) ≡ false) × (_≡_ {A = Answer (Plant × List ℕ)} (given (headerFrom (q .0 .0), q .0 .1)) (given (p, rest)))
+    u = refuse-given {A = Plant × List ℕ} 5 (headerOutOfRange (q .0 .0)) (given (headerFrom (q .0 .0), q .0 .1)) (p, rest) (q .2)
+
+    same : _≡_ {A = Plant × List ℕ} (headerFrom (q .0 .0), q .0 .1) (p, rest)
+    same = given-given {A = Plant × List ℕ} (headerFrom (q .0 .0), q .0 .1) (p, rest) (u .1)
+
+    of : headerFrom (q .0 .0) ≡ p
+    of = ap (λ (z : Plant × List ℕ). z .0) same
+
+module _ (s : List ℕ) (r : Header) where
+  pub header-few : (a b c next : ℕ) (t : List ℕ) → headerAnswer s r ≡ header t → r ≡ header-is.Values a b c next → b ≤ maxLinks
+  unfolding plantWith
+  header-few a b c next t e f = header-given t (drop next s) (plantWith maxLinks a b c) (sym e ∙ ap (headerAnswer s) f) .3 .few-links
+
+  pub decode-header : (a b c next : ℕ) → headerAnswer s r ≡ header (drop 0 s) → r ≡ header-is.Values a b c next
+      → afterHeader (plantWith maxLinks a b c) (drop next s) ≡ decode s
+  unfolding decode
+  decode-header a b c next e f = rw (sym e ∙ ap (headerAnswer s) f) refl
+
+  pub decode-refused : (k : Refusal) → headerAnswer s r ≡ header (drop 0 s) → r ≡ header-is.Refused k → refused (numberOf k) ≡ decode s
+  unfolding decode
+  decode-refused k e f = rw (sym e ∙ ap (headerAnswer s) f) refl
+
+module _ (s : List ℕ) (at : ℕ) (r : Part) where
+  pub header-values : (a b c next : ℕ) → partAnswer s r ≡ part headerFields (drop at s) → r ≡ part-is.Fields a b c next
+      → refuse 5 (valueOutOfRange a b c) (given (plantWith maxLinks a b c, drop next s)) ≡ header (drop at s)
+  unfolding header judgedHeader
+  header-values a b c next e f = rw (sym e ∙ ap (partAnswer s) f) refl
+
+  pub header-refused : (k : Refusal) → partAnswer s r ≡ part headerFields (drop at s) → r ≡ part-is.Refused k → refused (numberOf k) ≡ header (drop at s)
+  unfolding header
+  header-refused k e f = rw (sym e ∙ ap (partAnswer s) f) refl
+
+  -- ---- a link
+
+  module _ (switches : ℕ) (before : Link) (e : partAnswer s r ≡ part (linkFields before) (drop at s)) where
+    pub link-values : (a b c next : ℕ) → r ≡ part-is.Fields a b c next → judged switches (linkOf a b c) (drop next s) ≡ link switches before (drop at s)
+    unfolding link
+    link-values a b c next f = rw (sym e ∙ ap (partAnswer s) f) refl
+
+    pub link-refused : (k : Refusal) → r ≡ part-is.Refused k → refused (numberOf k) ≡ link switches before (drop at s)
+    unfolding link
+    link-refused k f = rw (sym e ∙ ap (partAnswer s) f) refl

@@ -1,0 +1,19 @@
+use borrow.Author.Tests.{eq-eqb, ne-eqb}
+use Rattle.listing.specs.Part.{repeats}
+use Rattle.listing.proofs.is_redundant.Statement.{statement}
+use Rattle.listing.proofs.is_redundant.Tie as tie
+use Rattle.listing.proofs.is_redundant.Reads as reads
+use Rattle.listing.proofs.is_redundant.Lts as lts
+
+-- src/lib.rt:103:9
+returns : tie.Need-returns
+unfolding repeats
+returns c = simp (eq-eqb _ _ (c .if1 .taken))
+
+-- src/lib.rt:99:1
+returns-2 : tie.Need-returns-2
+unfolding repeats
+returns-2 c = simp (ne-eqb _ _ (c .if1 .left))
+
+pub is-redundant-spec : {M : Type 1} → statement M
+is-redundant-spec = tie.close (tie.spec returns returns-2)

@@ -1,0 +1,103 @@
+use mathlib.Core.Path.{_∙_}
+use native.Mathlib.Omega.{arith}
+use Rattle.listing.proofs.PartLaws.{part-none, part-undefined, part-short, part-fields}
+use borrow.Author.Needs.{needs}
+use Rattle.listing.proofs.read_part.Statement.{statement}
+use Rattle.listing.proofs.read_part.Tie as tie
+use Rattle.listing.proofs.read_part.Reads as reads
+use Rattle.listing.proofs.read_part.Lts as lts
+use Rattle.listing.proofs.read_fields.Reads as read-fields-reads
+use Rattle.listing.proofs.taken_by.Reads as taken-by-reads
+use Rattle.listing.proofs.wide.Reads as wide-reads
+
+-- src/lib.rt:142:9
+returns : tie.Need-returns
+returns c = (part-none _ _ _ _ _ (c .if1 .taken), tt)
+
+-- src/lib.rt:144:20
+shared-slice-read-wide : tie.Need-shared-slice-read-wide
+shared-slice-read-wide c = search needs
+
+-- src/lib.rt:144:15
+wide-requires : tie.Need-wide-requires
+wide-requires c κs = search needs
+
+-- src/lib.rt:144:15
+cast-map : tie.Need-cast-map
+cast-map c = search needs
+
+-- src/lib.rt:146:9
+returns-2 : tie.Need-returns-2
+returns-2 c = (part-undefined _ _ _ _ _ (c .before .before .before .if1 .left) _ (c .before .wide .ensures .0) (c .if2 .taken), tt)
+
+-- src/lib.rt:148:16
+add-from : tie.Need-add-from
+add-from c = search needs
+
+-- src/lib.rt:149:16
+taken-by-requires : tie.Need-taken-by-requires
+taken-by-requires c κs = search needs
+
+-- src/lib.rt:149:39
+taken-by-requires-2 : tie.Need-taken-by-requires-2
+taken-by-requires-2 c κs = search needs
+
+-- src/lib.rt:149:16
+add-size : tie.Need-add-size
+add-size c = search needs
+
+-- src/lib.rt:149:66
+taken-by-requires-3 : tie.Need-taken-by-requires-3
+taken-by-requires-3 c κs = search needs
+
+-- src/lib.rt:149:16
+add-size-2 : tie.Need-add-size-2
+add-size-2 c = search needs
+
+-- src/lib.rt:150:8
+sub-if3 : tie.Need-sub-if3
+sub-if3 c = search needs
+
+-- src/lib.rt:151:9
+returns-3 : tie.Need-returns-3
+returns-3 c =
+    let w = c .before .before .before .before in (
+      part-short _ _ _ _ _ (w .before .before .before .if1 .left) _ (w .before .wide .ensures .0) (w .if2 .left) _
+          (omega (arith, c .before .before .before .taken-by .ensures .0, c .before .before .taken-by2 .ensures .0, c .before .taken-by3 .ensures .0)) (c .if3 .taken),
+      tt,
+    )
+
+-- src/lib.rt:153:5
+read-fields-requires : tie.Need-read-fields-requires
+read-fields-requires c κs = search needs
+
+-- src/lib.rt:136:1
+returns-4 : tie.Need-returns-4
+returns-4 c =
+    let d = c .before in
+    let w = d .before .before .before .before in (
+      c .read-fields .ensures .0
+          ∙ part-fields _ _ _ _ _ (w .before .before .before .if1 .left) _ (w .before .wide .ensures .0) (w .if2 .left) _
+          (omega (arith, d .before .before .before .taken-by .ensures .0, d .before .before .taken-by2 .ensures .0, d .before .taken-by3 .ensures .0)) (d .if3 .left),
+      c .read-fields .ensures .1,
+    )
+
+pub read-part-spec : {M : Type 1} → statement M
+read-part-spec =
+    tie.close
+    (tie.spec
+    returns
+    shared-slice-read-wide
+    wide-requires
+    cast-map
+    returns-2
+    add-from
+    taken-by-requires
+    taken-by-requires-2
+    add-size
+    taken-by-requires-3
+    add-size-2
+    sub-if3
+    returns-3
+    read-fields-requires
+    returns-4)

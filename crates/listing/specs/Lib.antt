@@ -1,0 +1,5 @@
+pub mod Field
+pub mod Part
+pub mod Listing
+pub mod Writing
+pub mod Answers

@@ -1,0 +1,43 @@
+-- What the writer answers and leaves in the lent buffer: refusals 5, 6, 7 and 16 in checking order, for any plant value.
+use mathlib.Core.Bool.{Bool, true, false, not, _&&_, _||_}
+use mathlib.Core.List.{List, [], _∷_, _++_}
+use Prim.Native.Nat.{ℕ}
+use lib.Dec.{eqb, ltb}
+use lib.ListN.{length, drop}
+use Rattle.lists.specs.Members.{all}
+use Rattle.plant.specs.declared.Link.{Link}
+use Rattle.plant.specs.declared.Plant.{Plant}
+use Rattle.plant.specs.Refusals.{Answer, given, refused, refuse}
+use Rattle.listing.specs.Listing.{valueOutOfRange, endOutOfRange, selfLink, linksOf, encode}
+
+unfoldable pub isZero : Link → Bool
+isZero l = eqb (l .first) 0 && (eqb (l .second) 0 && eqb (l .tag) 0)
+
+-- 5, of a plant: a header value is outside its range, the start is not below the switch count, or a place past the links is not zero
+unfoldable pub plantOutOfRange : Plant → Bool
+plantOutOfRange p = valueOutOfRange (p .switches) (p .count) (p .start) || not (all isZero (drop (p .count) (p .links)))
+
+-- 6 and 7, record by record
+abbrev pub tryLinks : {A : Type 0} → ℕ → List Link → Answer A → Answer A
+tryLinks switches [] a = a
+tryLinks switches (l ∷ ls) a = refuse 6 (endOutOfRange switches l) (refuse 7 (selfLink l) (tryLinks switches ls a))
+
+-- 16: the lent buffer is shorter than the listing
+unfoldable pub bufferShort : Plant → List ℕ → Bool
+bufferShort p b = ltb (length b) (length (encode p))
+
+-- the length of the listing
+unfoldable pub written : Plant → List ℕ → Answer ℕ
+written p b =
+    refuse 5 (plantOutOfRange p)
+    (tryLinks (p .switches) (linksOf p)
+    (refuse 16 (bufferShort p b)
+    (given (length (encode p)))))
+
+-- the buffer afterwards: the listing, then its old bytes; at a refusal as it was
+abbrev pub leaves : Plant → List ℕ → Answer ℕ → List ℕ
+leaves p b (given n) = encode p ++ drop n b
+leaves p b (refused n) = b
+
+unfoldable pub bufferAfter : Plant → List ℕ → List ℕ
+bufferAfter p b = leaves p b (written p b)

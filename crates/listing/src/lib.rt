@@ -1,0 +1,331 @@
+// The listing of a plant (document 01, "Listing bytes"): its reader and its writer.
+use plant::Link;
+use plant::Plant;
+use plant::Refusal;
+ghost use mathlib.Core.Path.{_≡_};
+ghost use mathlib.Core.Bool.{_||_};
+ghost use mathlib.Core.List.{List, [], _∷_};
+ghost use Prim.Native.Nat.{ℕ, _+_, _*_, _^_, _≤_, _<_};
+ghost use lib.ListN.{length, take, drop};
+ghost use Rattle.listing.specs.Field.{number};
+ghost use Rattle.listing.specs.Part.{taken, size, valueOf, repeats, part};
+ghost use Rattle.plant.specs.declared.Link.{Link};
+ghost use Rattle.plant.specs.Links.{plantWith};
+ghost use Rattle.plant.specs.Refusals.{given, refused, refuse, numberOf};
+ghost use Rattle.model.specs.Limits.{maxLinks};
+ghost use Rattle.listing.specs.Listing.{valueOutOfRange, linkOf, judged, header, link, afterHeader, decode};
+ghost use Rattle.listing.specs.Answers.{fieldsOf, Proper, Fits, partAnswer, headerAnswer, recordAnswer, Reads};
+
+// A field of a part: its width in bytes, and the value that its absence means.
+pub struct Field {
+    pub width: usize,
+    pub absent: u32,
+}
+
+// A part's three values by rising bit and the place after it, or why there is none.
+pub enum Part {
+    Fields(u32, u32, u32, usize),
+    Refused(Refusal),
+}
+
+// Switch count, link count and start of a header and the place after it.
+pub enum Header {
+    Values(u8, u16, u8, usize),
+    Refused(Refusal),
+}
+
+// A link of a record and the place after it.
+pub enum Record {
+    Link(Link, usize),
+    Refused(Refusal),
+}
+
+pub enum Verdict {
+    Sound,
+    Refused(Refusal),
+}
+
+// A plant that was read. At a refusal it is the plant of one switch and no link.
+pub struct Decoded {
+    pub verdict: Verdict,
+    pub plant: Plant,
+}
+
+// The length of a listing that was written.
+pub enum Written {
+    Length(usize),
+    Refused(Refusal),
+}
+
+fn wide(b: u8) -> u32
+    ensures { λ r. ⌜ (r ≡ b) × (r < 256) ⌝ }
+{
+    b as u32
+}
+
+// The number in `width` bytes from `at` on, low byte first.
+fn number_at(s: &[u8], at: usize, width: usize) -> u32
+    requires { ⌜ (width ≤ 4) × (at + width ≤ length (now s)) ⌝ }
+    ensures { λ r. ⌜ (r ≡ number (take width (drop at (now (s .entry))))) × (r < (2 ^ 8) ^ width) ⌝ }
+{
+    let mut n: u32 = 0;
+    let mut i = width;
+    while 0 < i {
+        i -= 1;
+        n = n * 256 + wide(s[at + i]);
+    }
+    n
+}
+
+// The value of a field: the number in its bytes if its bit is set, else what its absence means.
+fn value_at(s: &[u8], at: usize, bit: usize, f: Field) -> u32
+    requires { ⌜ Proper f × (at + taken f bit ≤ length (now s)) ⌝ }
+    ensures { λ r. ⌜ (r ≡ valueOf f bit (drop at (now (s .entry)))) × (r < (2 ^ 8) ^ f .width) ⌝ }
+{
+    if bit == 0 {
+        return f.absent;
+    }
+    let width = f.width;
+    number_at(s, at, width)
+}
+
+// The bytes that a field takes, by its bit.
+fn taken_by(f: Field, bit: usize) -> usize
+    requires { ⌜ Proper f ⌝ }
+    ensures { λ r. ⌜ (r ≡ taken f bit) × (r ≤ 4) ⌝ }
+{
+    if bit == 0 {
+        return 0;
+    }
+    f.width
+}
+
+// Is a field given with the value that its absence means?
+fn is_redundant(bit: usize, value: u32, absent: u32) -> bool
+    ensures { λ r. ⌜ r ≡ repeats bit value absent ⌝ }
+{
+    if bit == 0 {
+        return false;
+    }
+    value == absent
+}
+
+// Is one of three fields redundant, each told by its bit, its value and the value that its absence means?
+fn any_redundant(
+    i: usize,
+    x: u32,
+    f: u32,
+    j: usize,
+    y: u32,
+    g: u32,
+    k: usize,
+    z: u32,
+    h: u32,
+) -> bool
+    ensures { λ r. ⌜ r ≡ repeats i x f || (repeats j y g || repeats k z h) ⌝ }
+{
+    if is_redundant(i, x, f) {
+        return true;
+    }
+    if is_redundant(j, y, g) {
+        return true;
+    }
+    is_redundant(k, z, h)
+}
+
+// The fields of a part whose map was read and whose bytes are there, from `at` on: refused if one is redundant.
+fn read_fields(s: &[u8], at: usize, map: usize, f: Field, g: Field, h: Field) -> Part
+    requires { ⌜ Proper f × Proper g × Proper h × (at + size map (f ∷ g ∷ h ∷ []) ≤ length (now s)) ⌝ }
+    ensures { λ r. ⌜ partAnswer (now (s .entry)) r ≡ fieldsOf (f ∷ g ∷ h ∷ []) map (drop at (now (s .entry))) ⌝ }
+    ensures { λ r. ⌜ Fits f g h r ⌝ }
+{
+    let i = map % 2;
+    let j = map / 2 % 2;
+    let k = map / 2 / 2 % 2;
+    let second = at + taken_by(f, i);
+    let third = second + taken_by(g, j);
+    let next = third + taken_by(h, k);
+    let x = value_at(s, at, i, f);
+    let y = value_at(s, second, j, g);
+    let z = value_at(s, third, k, h);
+    if any_redundant(i, x, f.absent, j, y, g.absent, k, z, h.absent) {
+        return Part::Refused(Refusal::FieldRedundant);
+    }
+    Part::Fields(x, y, z, next)
+}
+
+// The part that begins at `at`, with these three fields by rising bit.
+fn read_part(s: &[u8], at: usize, f: Field, g: Field, h: Field) -> Part
+    requires { ⌜ Proper f × Proper g × Proper h ⌝ }
+    ensures { λ r. ⌜ partAnswer (now (s .entry)) r ≡ part (f ∷ g ∷ h ∷ []) (drop at (now (s .entry))) ⌝ }
+    ensures { λ r. ⌜ Fits f g h r ⌝ }
+{
+    if s.len() <= at {
+        return Part::Refused(Refusal::MapMissing);
+    }
+    let map = wide(s[at]) as usize;
+    if 8 <= map {
+        return Part::Refused(Refusal::MapUndefined);
+    }
+    let from = at + 1;
+    let size = taken_by(f, map % 2) + taken_by(g, map / 2 % 2) + taken_by(h, map / 2 / 2 % 2);
+    if s.len() - from < size {
+        return Part::Refused(Refusal::FieldMissing);
+    }
+    read_fields(s, from, map, f, g, h)
+}
+
+// Refusal 5's condition on the values of a header.
+fn out_of_range(switches: u32, count: u32, start: u32) -> bool
+    ensures { λ r. ⌜ r ≡ valueOutOfRange switches count start ⌝ }
+{
+    if switches < 1 {
+        return true;
+    }
+    if (Plant::MAX_SWITCHES as u32) < switches {
+        return true;
+    }
+    if (Plant::MAX_LINKS as u32) < count {
+        return true;
+    }
+    if start < switches {
+        return false;
+    }
+    true
+}
+
+// The values of a header, judged.
+fn judge_header(switches: u32, count: u32, start: u32, next: usize) -> Header
+    ensures { λ r. ⌜ ((s : List ℕ) → headerAnswer s r ≡ refuse 5 (valueOutOfRange switches count start) (given (plantWith maxLinks switches count start, drop next s))) ⌝ }
+{
+    if out_of_range(switches, count, start) {
+        return Header::Refused(Refusal::ValueOutOfRange);
+    }
+    Header::Values(switches as u8, count as u16, start as u8, next)
+}
+
+// The header that begins at `at`.
+pub fn read_header(s: &[u8], at: usize) -> Header
+    ensures { λ r. ⌜ headerAnswer (now (s .entry)) r ≡ header (drop at (now (s .entry))) ⌝ }
+{
+    let f = Field {
+        width: 1,
+        absent: 1,
+    };
+    let g = Field {
+        width: 2,
+        absent: 0,
+    };
+    let h = Field {
+        width: 1,
+        absent: 0,
+    };
+    match read_part(s, at, f, g, h) {
+        Part::Fields(switches, count, start, next) => judge_header(switches, count, start, next),
+        Part::Refused(k) => Header::Refused(k),
+    }
+}
+
+// The ends and the tag of a link, judged.
+fn judge_link(first: u32, second: u32, tag: u32, switches: u8, next: usize) -> Record
+    requires { ⌜ tag < 2 ^ 16 ⌝ }
+    ensures { λ r. ⌜ ((s : List ℕ) → recordAnswer s r ≡ judged switches (linkOf first second tag) (drop next s)) ⌝ }
+{
+    let most = switches as u32;
+    if most <= first {
+        return Record::Refused(Refusal::EndOutOfRange);
+    }
+    if most <= second {
+        return Record::Refused(Refusal::EndOutOfRange);
+    }
+    if first == second {
+        return Record::Refused(Refusal::SelfLink);
+    }
+    let l = Link {
+        first: first as u8,
+        second: second as u8,
+        tag: tag as u16,
+    };
+    Record::Link(l, next)
+}
+
+// The link record that begins at `at`, after the record `before`, in a plant of so many switches.
+pub fn read_link(s: &[u8], at: usize, before: Link, switches: u8) -> Record
+    ensures { λ r. ⌜ recordAnswer (now (s .entry)) r ≡ link switches before (drop at (now (s .entry))) ⌝ }
+{
+    let f = Field {
+        width: 1,
+        absent: before.first as u32,
+    };
+    let g = Field {
+        width: 1,
+        absent: before.second as u32,
+    };
+    let h = Field {
+        width: 2,
+        absent: 0,
+    };
+    match read_part(s, at, f, g, h) {
+        Part::Fields(first, second, tag, next) => judge_link(first, second, tag, switches, next),
+        Part::Refused(k) => Record::Refused(k),
+    }
+}
+
+// A refused reading.
+fn refused_reading(k: Refusal) -> Decoded
+    ensures { λ r. ⌜ Reads (refused (numberOf k)) r ⌝ }
+{
+    let plant = Plant::empty();
+    Decoded {
+        verdict: Verdict::Refused(k),
+        plant,
+    }
+}
+
+// The links that follow a header with these values, from `from` to the end of the listing.
+fn read_links(s: &[u8], from: usize, switches: u8, count: u16, start: u8) -> Decoded
+    requires { ⌜ count ≤ maxLinks ⌝ }
+    ensures { λ r. ⌜ Reads (afterHeader (plantWith maxLinks switches count start) (drop from (now (s .entry)))) r ⌝ }
+{
+    let mut p = Plant::with(switches, count, start);
+    let n = count as usize;
+    let mut before = Link::zero();
+    let mut at = from;
+    let mut i: usize = 0;
+    while i < n {
+        match read_link(s, at, before, switches) {
+            Record::Link(l, next) => {
+                p.links[i] = l;
+                before = l;
+                at = next;
+            }
+            Record::Refused(k) => {
+                return refused_reading(k);
+            }
+        }
+        i += 1;
+    }
+    if at < s.len() {
+        return refused_reading(Refusal::BytesRemain);
+    }
+    Decoded {
+        verdict: Verdict::Sound,
+        plant: p,
+    }
+}
+
+// The plant of a listing, or why there is none: refusals 1 to 8.
+pub fn read(listing: &[u8]) -> Decoded
+    ensures { λ r. ⌜ Reads (decode (now (listing .entry))) r ⌝ }
+{
+    match read_header(listing, 0) {
+        Header::Values(switches, count, start, next) => read_links(
+            listing,
+            next,
+            switches,
+            count,
+            start,
+        ),
+        Header::Refused(k) => refused_reading(k),
+    }
+}
