@@ -4,7 +4,7 @@ use mathlib.Core.Bool.{Bool, true, false, not, _&&_, _||_}
 use mathlib.Core.List.{List, [], _∷_, _++_}
 use Prim.Native.Nat.{ℕ, zero, suc, _+_, _-_, _^_, _≤_, _<_}
 use native.Mathlib.Omega.{arith}
-use borrow.Author.Tests.{leb-true, ltb-true, not-false}
+use borrow.Author.Tests.{leb-true, ltb-true, eqb-false, not-false}
 use lib.Dec.{eqb, leb, ltb}
 use lib.ListN.{length, getD, take, drop}
 use Rattle.lists.specs.Tests.{and-true}
@@ -21,7 +21,7 @@ use Rattle.listing.specs.declared.Part.the-variants as part-is
 use Rattle.listing.specs.declared.Header.{Header}
 use Rattle.listing.specs.declared.Header.the-variants as header-is
 use Rattle.listing.specs.Part.{part}
-use Rattle.listing.specs.Listing.{headerFields, headerFrom, headerOutOfRange, judgedHeader, linkFields, linkFrom, valueOutOfRange, endOutOfRange, selfLink, judged, linkOf, header, link, afterHeader, decode}
+use Rattle.listing.specs.Listing.{headerFields, headerFrom, headerOutOfRange, judgedHeader, linkFields, linkFrom, valueOutOfRange, endOutOfRange, selfLink, soundLink, judged, linkOf, header, link, afterHeader, decode}
 use Rattle.listing.specs.Answers.{partAnswer, Fits, headerAnswer}
 
 -- the third value of a part fits its width
@@ -44,6 +44,20 @@ in-range a b c e =
     let r = and-true _ _ (q .0) in
     let u = and-true _ _ (r .0) in
     record { some-switch = leb-true 1 a (u .0); few-switches = leb-true a maxSwitches (u .1); few-links = leb-true b maxLinks (r .1); start-in = ltb-true c a (q .1) }
+
+-- a link that is not refused
+pub record Ends (switches : ℕ) (l : Link) : Type 0 where
+  pub first-in : l .first < switches
+  pub second-in : l .second < switches
+  pub apart : l .first ≡ l .second → ⊥
+
+pub sound-ends : (switches : ℕ) (l : Link) → soundLink switches l ≡ given tt → Ends switches l
+unfolding soundLink endOutOfRange selfLink
+sound-ends switches l e =
+    let six = refuse-given 6 (endOutOfRange switches l) (refuse 7 (selfLink l) (given tt)) tt e in
+    let seven = refuse-given 7 (selfLink l) (given tt) tt (six .1) in
+    let q = and-true _ _ (not-false _ (six .0)) in
+    record { first-in = ltb-true _ _ (q .0); second-in = ltb-true _ _ (q .1); apart = eqb-false _ _ (seven .0) }
 
 -- the header of a listing that has one: the values of its fields are in range
 pub header-given : (t rest : List ℕ) (p : Plant) → header t ≡ given (p, rest)

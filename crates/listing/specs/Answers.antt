@@ -6,7 +6,7 @@ use lib.ListN.{drop}
 use Rattle.plant.specs.declared.Link.{Link}
 use Rattle.plant.specs.declared.Plant.{Plant}
 use Rattle.plant.specs.Links.{plantWith}
-use Rattle.plant.specs.Refusals.{Answer, given, refused, refuse, numberOf}
+use Rattle.plant.specs.Refusals.{Answer, given, refused, refuse, _>>=_, numberOf}
 use Rattle.model.specs.Limits.{maxLinks}
 use Rattle.listing.specs.declared.Field.{Field}
 use Rattle.listing.specs.Part.{size, values, someRedundant}
@@ -42,12 +42,12 @@ fieldsOf fs m s = refuse 4 (someRedundant m fs s) (given (values m fs s, drop (s
 
 -- ---- reading
 
-abbrev pub answered : Plant → Verdict → Answer Plant
-answered p verdict.Sound = given p
-answered p (verdict.Refused k) = refused (numberOf k)
+abbrev pub verdictAnswer : Verdict → Answer Unit
+verdictAnswer verdict.Sound = given tt
+verdictAnswer (verdict.Refused k) = refused (numberOf k)
 
 abbrev pub readAnswer : Decoded → Answer Plant
-readAnswer r = answered (r .plant) (r .verdict)
+readAnswer r = verdictAnswer (r .verdict) >>= λ _. given (r .plant)
 
 -- the plant part of the answer: at a refusal the plant of one switch and no link
 abbrev pub plantPart : Answer Plant → Plant

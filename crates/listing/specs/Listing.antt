@@ -40,6 +40,10 @@ endOutOfRange switches l = not (ltb (l .first) switches && ltb (l .second) switc
 unfoldable pub selfLink : Link → Bool
 selfLink l = eqb (l .first) (l .second)
 
+-- a link is tried against both
+unfoldable pub soundLink : ℕ → Link → Answer Unit
+soundLink switches l = refuse 6 (endOutOfRange switches l) (refuse 7 (selfLink l) (given tt))
+
 -- 8: bytes remain
 unfoldable pub bytesRemain : List ℕ → Bool
 bytesRemain s = ltb 0 (length s)
@@ -67,7 +71,7 @@ header s = part headerFields s >>= λ r. judgedHeader (r .0) (r .1)
 
 -- a link and the bytes after it, by refusals 6 and 7
 unfoldable pub judged : ℕ → Link → List ℕ → Answer (Link × List ℕ)
-judged switches l rest = refuse 6 (endOutOfRange switches l) (refuse 7 (selfLink l) (given (l, rest)))
+judged switches l rest = soundLink switches l >>= λ _. given (l, rest)
 
 -- one link, after the record `before`, and the bytes after it
 unfoldable pub link : ℕ → Link → List ℕ → Answer (Link × List ℕ)

@@ -7,8 +7,8 @@ use lib.ListN.{length, drop}
 use Rattle.lists.specs.Members.{all}
 use Rattle.plant.specs.declared.Link.{Link}
 use Rattle.plant.specs.declared.Plant.{Plant}
-use Rattle.plant.specs.Refusals.{Answer, given, refused, refuse}
-use Rattle.listing.specs.Listing.{valueOutOfRange, endOutOfRange, selfLink, linksOf, encode}
+use Rattle.plant.specs.Refusals.{Answer, given, refused, refuse, _>>=_}
+use Rattle.listing.specs.Listing.{valueOutOfRange, soundLink, linksOf, encode}
 
 unfoldable pub isZero : Link → Bool
 isZero l = eqb (l .first) 0 && (eqb (l .second) 0 && eqb (l .tag) 0)
@@ -18,9 +18,13 @@ unfoldable pub plantOutOfRange : Plant → Bool
 plantOutOfRange p = valueOutOfRange (p .switches) (p .count) (p .start) || not (all isZero (drop (p .count) (p .links)))
 
 -- 6 and 7, record by record
-abbrev pub tryLinks : {A : Type 0} → ℕ → List Link → Answer A → Answer A
-tryLinks switches [] a = a
-tryLinks switches (l ∷ ls) a = refuse 6 (endOutOfRange switches l) (refuse 7 (selfLink l) (tryLinks switches ls a))
+abbrev pub soundLinks : ℕ → List Link → Answer Unit
+soundLinks switches [] = given tt
+soundLinks switches (l ∷ ls) = soundLink switches l >>= λ _. soundLinks switches ls
+
+-- all of 5, then 6 and 7
+unfoldable pub soundPlant : Plant → Answer Unit
+soundPlant p = refuse 5 (plantOutOfRange p) (soundLinks (p .switches) (linksOf p))
 
 -- 16: the lent buffer is shorter than the listing
 unfoldable pub bufferShort : Plant → List ℕ → Bool
@@ -28,11 +32,7 @@ bufferShort p b = ltb (length b) (length (encode p))
 
 -- the length of the listing
 unfoldable pub written : Plant → List ℕ → Answer ℕ
-written p b =
-    refuse 5 (plantOutOfRange p)
-    (tryLinks (p .switches) (linksOf p)
-    (refuse 16 (bufferShort p b)
-    (given (length (encode p)))))
+written p b = soundPlant p >>= λ _. refuse 16 (bufferShort p b) (given (length (encode p)))
 
 -- the buffer afterwards: the listing, then its old bytes; at a refusal as it was
 abbrev pub leaves : Plant → List ℕ → Answer ℕ → List ℕ

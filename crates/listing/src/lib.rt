@@ -13,8 +13,8 @@ ghost use Rattle.plant.specs.declared.Link.{Link};
 ghost use Rattle.plant.specs.Links.{plantWith};
 ghost use Rattle.plant.specs.Refusals.{given, refused, refuse, numberOf};
 ghost use Rattle.model.specs.Limits.{maxLinks};
-ghost use Rattle.listing.specs.Listing.{valueOutOfRange, linkOf, judged, header, link, afterHeader, decode};
-ghost use Rattle.listing.specs.Answers.{fieldsOf, Proper, Fits, partAnswer, headerAnswer, recordAnswer, Reads};
+ghost use Rattle.listing.specs.Listing.{valueOutOfRange, linkOf, soundLink, judged, header, link, afterHeader, decode};
+ghost use Rattle.listing.specs.Answers.{fieldsOf, Proper, Fits, partAnswer, headerAnswer, recordAnswer, verdictAnswer, Reads};
 
 // A field of a part: its width in bytes, and the value that its absence means.
 pub struct Field {
@@ -226,27 +226,39 @@ pub fn read_header(s: &[u8], at: usize) -> Header
     }
 }
 
+// Refusals 6 and 7 of a link with these ends.
+fn judge_ends(first: u32, second: u32, switches: u8) -> Verdict
+    ensures { λ r. ⌜ ((tag : ℕ) → verdictAnswer r ≡ soundLink switches (linkOf first second tag)) ⌝ }
+{
+    let most = switches as u32;
+    if most <= first {
+        return Verdict::Refused(Refusal::EndOutOfRange);
+    }
+    if most <= second {
+        return Verdict::Refused(Refusal::EndOutOfRange);
+    }
+    if first == second {
+        return Verdict::Refused(Refusal::SelfLink);
+    }
+    Verdict::Sound
+}
+
 // The ends and the tag of a link, judged.
 fn judge_link(first: u32, second: u32, tag: u32, switches: u8, next: usize) -> Record
     requires { ⌜ tag < 2 ^ 16 ⌝ }
     ensures { λ r. ⌜ ((s : List ℕ) → recordAnswer s r ≡ judged switches (linkOf first second tag) (drop next s)) ⌝ }
 {
-    let most = switches as u32;
-    if most <= first {
-        return Record::Refused(Refusal::EndOutOfRange);
+    match judge_ends(first, second, switches) {
+        Verdict::Sound => {
+            let l = Link {
+                first: first as u8,
+                second: second as u8,
+                tag: tag as u16,
+            };
+            Record::Link(l, next)
+        }
+        Verdict::Refused(k) => Record::Refused(k),
     }
-    if most <= second {
-        return Record::Refused(Refusal::EndOutOfRange);
-    }
-    if first == second {
-        return Record::Refused(Refusal::SelfLink);
-    }
-    let l = Link {
-        first: first as u8,
-        second: second as u8,
-        tag: tag as u16,
-    };
-    Record::Link(l, next)
 }
 
 // The link record that begins at `at`, after the record `before`, in a plant of so many switches.

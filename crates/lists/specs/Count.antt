@@ -125,6 +125,18 @@ unfolding count
 pairs-ge zero p q f = omega arith
 pairs-ge (suc n) p q f = omega (arith, count-two n p, f n (omega arith), pairs-ge n p q (λ l h. f l (omega arith)))
 
+-- the even numbers below 2 n, and the odd ones
+pub pairs : (n : ℕ) (p : ℕ → Bool) → count (2 * n) p ≡ count n (λ l. p (2 * l)) + count n (λ l. p (2 * l + 1))
+unfolding count
+pairs zero p = refl
+pairs (suc n) p = omega (arith, count-two n p, pairs n p)
+
+-- two counts together, compared with two others at each number
+pub counts-le : (n : ℕ) (p q r s : ℕ → Bool) → ((k : ℕ) → k < n → bit (p k) + bit (q k) ≤ bit (r k) + bit (s k)) → count n p + count n q ≤ count n r + count n s
+unfolding count
+counts-le zero p q r s f = omega arith
+counts-le (suc n) p q r s f = omega (arith, f n (omega arith), counts-le n p q r s (λ k h. f k (omega arith)))
+
 -- distinct numbers below n are as many as the numbers below n that are among them
 pub distinct-count : (n : ℕ) (xs : List ℕ) → Distinct xs → ((x : ℕ) → In x xs → x < n) → length xs ≡ count n (λ k. memb k xs)
 distinct-count n [] d f = sym (count-none n (λ k. false) (λ k h t. t))

@@ -1,10 +1,10 @@
 -- Document 01, "Bridges, arcs in use and the trail", as far as the arcs in use: what is joined, bridges, the depth-first visit, arcs in use and their number.
 -- Each definition computes. `Tests` says what each means in terms of walks.
-use mathlib.Core.Path.{_≡_}
-use mathlib.Core.Bool.{Bool, true, false, not, _&&_, _||_}
+use mathlib.Core.Logic.{_⊎_}
+use mathlib.Core.Bool.{Bool, not, _&&_, _||_}
 use mathlib.Core.List.{List, [], _∷_}
 use Prim.Native.Nat.{ℕ, _+_, _*_, _/_, _<_}
-use lib.Dec.{T, eqb, ltb}
+use lib.Dec.{eqb, ltb}
 use Rattle.lists.specs.Tests.{choose}
 use Rattle.lists.specs.Members.{In, memb}
 use Rattle.lists.specs.Count.{count}
@@ -14,6 +14,10 @@ use Rattle.plant.specs.Links.{first, second, live}
 use Rattle.walks.specs.Walk.{Walk, Reach}
 use Rattle.walks.specs.Visit.{St, visit, rank}
 use Rattle.walks.specs.Arcs.{labels, tail, head, Arc, Avoid}
+
+-- the walk w crosses link l, one way or the other
+abbrev pub Crosses : ℕ → List ℕ → Type 0
+Crosses l w = In (2 * l) w ⊎ In (2 * l + 1) w
 
 module _ (p : Plant) where
   -- v is reached from u by a walk over the arcs of the kind ok

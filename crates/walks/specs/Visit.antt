@@ -1,14 +1,14 @@
 -- The depth-first visit over a list of arcs: as a function with fuel, and as a relation that proofs go by; its laws. Assumes nothing.
 use mathlib.Core.Path.{_≡_, refl, sym, ap, _∙_, subst}
 use mathlib.Core.Logic.{_⊎_, inl, inr}
-use mathlib.Core.Bool.{Bool, true, false, not, _&&_, _||_}
-use mathlib.Core.List.{List, [], _∷_, _++_, append-assoc}
-use Prim.Native.Nat.{ℕ, zero, suc, _+_, _≤_, _<_}
+use mathlib.Core.Bool.{Bool, true, false, not, _&&_}
+use mathlib.Core.List.{List, [], _∷_}
+use Prim.Native.Nat.{ℕ, zero, suc, _≤_, _<_}
 use native.Mathlib.Omega.{arith}
-use lib.Dec.{T, T-not, eqb, ltb, eqb→eq, eqb-refl, lt→ltb, ltb→lt}
+use lib.Dec.{T, eqb, eqb→eq}
 use lib.ListN.{length}
-use Rattle.lists.specs.Tests.{eq?, eq→eqb, T-or, and-left, and-right, and-both}
-use Rattle.lists.specs.Members.{In, memb, memb→in, in→memb, in?, in-append-right}
+use Rattle.lists.specs.Tests.{eq?, eq→eqb}
+use Rattle.lists.specs.Members.{In, memb, in?}
 use Rattle.walks.specs.Walk.{Reach, here, step, trans, weaken, one, exits}
 
 -- the switches visited so far, the last one first, and the arcs entered so far, the last one first

@@ -1,0 +1,120 @@
+-- Plants with what is expected of them, and one computed test over the table. Assumes nothing.
+use mathlib.Core.Path.{_≡_, refl}
+use mathlib.Core.Bool.{Bool, true, false}
+use mathlib.Core.List.{List, [], _∷_, map, reverse}
+use Prim.Native.Nat.{ℕ, _*_}
+use lib.ListN.{length}
+use Rattle.lists.specs.Count.{count}
+use Rattle.lists.specs.Numbers.{range, keep, every}
+use Rattle.plant.specs.declared.Plant.{Plant}
+use Rattle.plant.specs.Links.{live}
+use Rattle.walks.specs.Visit.{scan, visit}
+use Rattle.walks.specs.Arcs.{tail, head}
+use Rattle.walks.specs.Graph.{arcs, others, visitFrom, visited, connected, bridge, entered, earlier, used}
+
+-- the ends of the links, first and second
+abbrev pub plantOf : ℕ → ℕ → List (ℕ × ℕ) → Plant
+plantOf switches start ends = record { switches = switches; count = length ends; start = start; links = map (λ e. record { first = e .0; second = e .1; tag = 0 }) ends }
+
+pub record Row : Type 0 where
+  pub plant : Plant
+  -- is it connected?
+  pub joined : Bool
+  -- its bridges, by link number
+  pub bridging : List ℕ
+  -- the labels of its arcs in use
+  pub in-use : List ℕ
+  -- its switches in the order of the visit
+  pub order : List ℕ
+
+-- the row of a plant by the definitions
+unfoldable pub rowOf : Plant → Row
+rowOf p = record {
+  plant = p;
+  joined = connected p;
+  bridging = keep (bridge p) (range 0 (p .count));
+  in-use = keep (used p) (range 0 (2 * p .count));
+  order = reverse (visited p .ord);
+}
+
+abbrev pub triangle : Row
+triangle = record {
+  plant = plantOf 3 0 ((0, 1) ∷ (1, 2) ∷ (2, 0) ∷ []);
+  joined = true;
+  bridging = [];
+  in-use = 0 ∷ 2 ∷ 4 ∷ [];
+  order = 0 ∷ 1 ∷ 2 ∷ [];
+}
+
+abbrev pub oneLink : Row
+oneLink = record {
+  plant = plantOf 2 0 ((0, 1) ∷ []);
+  joined = true;
+  bridging = 0 ∷ [];
+  in-use = 0 ∷ 1 ∷ [];
+  order = 0 ∷ 1 ∷ [];
+}
+
+abbrev pub threeParallel : Row
+threeParallel = record {
+  plant = plantOf 2 0 ((0, 1) ∷ (0, 1) ∷ (0, 1) ∷ []);
+  joined = true;
+  bridging = [];
+  in-use = 0 ∷ 3 ∷ 5 ∷ [];
+  order = 0 ∷ 1 ∷ [];
+}
+
+abbrev pub alone : Row
+alone = record {
+  plant = plantOf 1 0 [];
+  joined = true;
+  bridging = [];
+  in-use = [];
+  order = 0 ∷ [];
+}
+
+-- four switches in a row, begun at the third
+abbrev pub path : Row
+path = record {
+  plant = plantOf 4 2 ((0, 1) ∷ (1, 2) ∷ (2, 3) ∷ []);
+  joined = true;
+  bridging = 0 ∷ 1 ∷ 2 ∷ [];
+  in-use = 0 ∷ 1 ∷ 2 ∷ 3 ∷ 4 ∷ 5 ∷ [];
+  order = 2 ∷ 1 ∷ 0 ∷ 3 ∷ [];
+}
+
+abbrev pub ringWithTail : Row
+ringWithTail = record {
+  plant = plantOf 4 0 ((0, 1) ∷ (1, 2) ∷ (2, 0) ∷ (0, 3) ∷ []);
+  joined = true;
+  bridging = 3 ∷ [];
+  in-use = 0 ∷ 2 ∷ 4 ∷ 6 ∷ 7 ∷ [];
+  order = 0 ∷ 1 ∷ 2 ∷ 3 ∷ [];
+}
+
+-- the plant of source document 003's Table I: switches s1 to s7 are 0 to 6
+abbrev pub tableOne : Row
+tableOne = record {
+  plant = plantOf 7 0 ((0, 4) ∷ (4, 1) ∷ (1, 2) ∷ (2, 5) ∷ (5, 6) ∷ (6, 3) ∷ (3, 2) ∷ (5, 4) ∷ (1, 0) ∷ []);
+  joined = true;
+  bridging = [];
+  in-use = 0 ∷ 2 ∷ 4 ∷ 6 ∷ 8 ∷ 10 ∷ 12 ∷ 14 ∷ 16 ∷ [];
+  order = 0 ∷ 4 ∷ 1 ∷ 2 ∷ 5 ∷ 6 ∷ 3 ∷ [];
+}
+
+-- switch 2 is joined to nothing
+abbrev pub apart : Row
+apart = record {
+  plant = plantOf 3 0 ((0, 1) ∷ []);
+  joined = false;
+  bridging = 0 ∷ [];
+  in-use = 0 ∷ 1 ∷ [];
+  order = 0 ∷ 1 ∷ [];
+}
+
+abbrev pub table : List Row
+table = triangle ∷ oneLink ∷ threeParallel ∷ alone ∷ path ∷ ringWithTail ∷ tableOne ∷ apart ∷ []
+
+pub as-expected : map (λ r. rowOf (r .plant)) table ≡ table
+unfolding rowOf connected bridge used entered earlier visited visitFrom arcs others visit scan tail head live every
+as-expected = refl
