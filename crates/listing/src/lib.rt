@@ -7,14 +7,16 @@ ghost use mathlib.Core.Bool.{_||_};
 ghost use mathlib.Core.List.{List, [], _∷_};
 ghost use Prim.Native.Nat.{ℕ, _+_, _*_, _^_, _≤_, _<_};
 ghost use lib.ListN.{length, take, drop};
-ghost use Rattle.listing.specs.Field.{number};
-ghost use Rattle.listing.specs.Part.{taken, size, valueOf, repeats, part};
-ghost use Rattle.plant.specs.declared.Link.{Link};
-ghost use Rattle.plant.specs.Links.{plantWith};
+ghost use lib.Seq.{sets};
+ghost use Rattle.listing.specs.Field.{number, bytesOf};
+ghost use Rattle.listing.specs.Part.{taken, size, valueOf, repeats, part, fieldBytes, isGiven, partBytes};
+ghost use Rattle.lists.specs.Members.{all};
+ghost use Rattle.plant.specs.Links.{zeroLink, plantWith};
 ghost use Rattle.plant.specs.Refusals.{given, refused, refuse, numberOf};
 ghost use Rattle.model.specs.Limits.{maxLinks};
-ghost use Rattle.listing.specs.Listing.{valueOutOfRange, linkOf, soundLink, judged, header, link, afterHeader, decode};
-ghost use Rattle.listing.specs.Answers.{fieldsOf, Proper, Fits, partAnswer, headerAnswer, recordAnswer, verdictAnswer, Reads};
+ghost use Rattle.listing.specs.Listing.{valueOutOfRange, linkOf, soundLink, judged, header, link, afterHeader, decode, linksOf, headerBytes, linkBytes, linksBytes, encode};
+ghost use Rattle.listing.specs.Writing.{isZero, soundLinks, soundPlant, written, bufferAfter};
+ghost use Rattle.listing.specs.Answers.{fieldsOf, Proper, Fits, partAnswer, headerAnswer, recordAnswer, verdictAnswer, Reads, writeAnswer};
 
 // A field of a part: its width in bytes, and the value that its absence means.
 pub struct Field {
@@ -339,5 +341,307 @@ pub fn read(listing: &[u8]) -> Decoded
             start,
         ),
         Header::Refused(k) => refused_reading(k),
+    }
+}
+
+// Is this the link place that is not in use?
+fn is_zero(l: Link) -> bool
+    ensures { λ r. ⌜ r ≡ isZero l ⌝ }
+{
+    if l.first != 0 {
+        return false;
+    }
+    if l.second != 0 {
+        return false;
+    }
+    if l.tag != 0 {
+        return false;
+    }
+    true
+}
+
+// Is every link place past the links zero?
+fn places_zero(p: Plant) -> bool
+    ensures { λ r. ⌜ r ≡ all isZero (drop (p .count) (p .links)) ⌝ }
+{
+    let mut i = p.count as usize;
+    while i < Plant::MAX_LINKS {
+        if !is_zero(p.links[i]) {
+            return false;
+        }
+        i += 1;
+    }
+    true
+}
+
+// Refusals 6 and 7, link by link.
+fn judge_links(p: Plant) -> Verdict
+    requires { ⌜ p .count ≤ maxLinks ⌝ }
+    ensures { λ r. ⌜ verdictAnswer r ≡ soundLinks (p .switches) (linksOf p) ⌝ }
+{
+    let n = p.count as usize;
+    let switches = p.switches;
+    let mut i: usize = 0;
+    while i < n {
+        let l = p.links[i];
+        match judge_ends(l.first as u32, l.second as u32, switches) {
+            Verdict::Sound => {}
+            Verdict::Refused(k) => {
+                return Verdict::Refused(k);
+            }
+        }
+        i += 1;
+    }
+    Verdict::Sound
+}
+
+// Refusals 5, 6 and 7 of any plant value.
+fn judge_plant(p: Plant) -> Verdict
+    ensures { λ r. ⌜ verdictAnswer r ≡ soundPlant p ⌝ }
+{
+    if out_of_range(p.switches as u32, p.count as u32, p.start as u32) {
+        return Verdict::Refused(Refusal::ValueOutOfRange);
+    }
+    if !places_zero(p) {
+        return Verdict::Refused(Refusal::ValueOutOfRange);
+    }
+    judge_links(p)
+}
+
+// A number into `width` bytes from `at` on, low byte first.
+fn put_number(buf: &mut [u8], at: usize, width: usize, value: u32)
+    requires { ⌜ at + width ≤ length (now buf) ⌝ }
+    ensures { λ _. ⌜ now (buf .exit) ≡ sets (now (buf .entry)) at (bytesOf width value) ⌝ }
+{
+    let mut v = value;
+    let mut i: usize = 0;
+    while i < width {
+        buf[at + i] = (v % 256) as u8;
+        v = v / 256;
+        i += 1;
+    }
+}
+
+// The bytes that a field with this value takes: none if its absence means it.
+fn field_size(f: Field, value: u32) -> usize
+    requires { ⌜ Proper f ⌝ }
+    ensures { λ r. ⌜ (r ≡ length (fieldBytes f value)) × (r ≤ 4) ⌝ }
+{
+    if value == f.absent {
+        return 0;
+    }
+    f.width
+}
+
+// The bit of a field with this value.
+fn field_bit(f: Field, value: u32) -> u8
+    ensures { λ r. ⌜ (r ≡ isGiven f value) × (r ≤ 1) ⌝ }
+{
+    if value == f.absent {
+        return 0;
+    }
+    1
+}
+
+// A field from `at` on; the place after it.
+fn put_field(buf: &mut [u8], at: usize, f: Field, value: u32) -> usize
+    requires { ⌜ at + length (fieldBytes f value) ≤ length (now buf) ⌝ }
+    ensures { λ r. ⌜ r ≡ at + length (fieldBytes f value) ⌝ }
+    ensures { λ _. ⌜ now (buf .exit) ≡ sets (now (buf .entry)) at (fieldBytes f value) ⌝ }
+{
+    if value == f.absent {
+        return at;
+    }
+    let width = f.width;
+    put_number(buf, at, width, value);
+    at + width
+}
+
+// The bytes of a part with these fields and values.
+fn part_size(f: Field, x: u32, g: Field, y: u32, h: Field, z: u32) -> usize
+    requires { ⌜ Proper f × Proper g × Proper h ⌝ }
+    ensures { λ r. ⌜ (r ≡ length (partBytes (f ∷ g ∷ h ∷ []) (x ∷ y ∷ z ∷ []))) × (r ≤ 13) ⌝ }
+{
+    1 + field_size(f, x) + field_size(g, y) + field_size(h, z)
+}
+
+// A part from `at` on; the place after it.
+fn put_part(
+    buf: &mut [u8],
+    at: usize,
+    f: Field,
+    x: u32,
+    g: Field,
+    y: u32,
+    h: Field,
+    z: u32,
+) -> usize
+    requires { ⌜ at + length (partBytes (f ∷ g ∷ h ∷ []) (x ∷ y ∷ z ∷ [])) ≤ length (now buf) ⌝ }
+    ensures { λ r. ⌜ r ≡ at + length (partBytes (f ∷ g ∷ h ∷ []) (x ∷ y ∷ z ∷ [])) ⌝ }
+    ensures { λ _. ⌜ now (buf .exit) ≡ sets (now (buf .entry)) at (partBytes (f ∷ g ∷ h ∷ []) (x ∷ y ∷ z ∷ [])) ⌝ }
+{
+    buf[at] = field_bit(f, x) + 2 * (field_bit(g, y) + 2 * field_bit(h, z));
+    let second = put_field(buf, at + 1, f, x);
+    let third = put_field(buf, second, g, y);
+    put_field(buf, third, h, z)
+}
+
+// The bytes of a plant's header.
+fn header_size(p: Plant) -> usize
+    ensures { λ r. ⌜ (r ≡ length (headerBytes p)) × (r ≤ 13) ⌝ }
+{
+    let f = Field {
+        width: 1,
+        absent: 1,
+    };
+    let g = Field {
+        width: 2,
+        absent: 0,
+    };
+    let h = Field {
+        width: 1,
+        absent: 0,
+    };
+    part_size(f, p.switches as u32, g, p.count as u32, h, p.start as u32)
+}
+
+// A plant's header at the front of the buffer; the place after it.
+fn put_header(buf: &mut [u8], p: Plant) -> usize
+    requires { ⌜ length (headerBytes p) ≤ length (now buf) ⌝ }
+    ensures { λ r. ⌜ r ≡ length (headerBytes p) ⌝ }
+    ensures { λ _. ⌜ now (buf .exit) ≡ sets (now (buf .entry)) 0 (headerBytes p) ⌝ }
+{
+    let f = Field {
+        width: 1,
+        absent: 1,
+    };
+    let g = Field {
+        width: 2,
+        absent: 0,
+    };
+    let h = Field {
+        width: 1,
+        absent: 0,
+    };
+    put_part(
+        buf,
+        0,
+        f,
+        p.switches as u32,
+        g,
+        p.count as u32,
+        h,
+        p.start as u32,
+    )
+}
+
+// The bytes of a link after the record `before`.
+fn link_size(before: Link, l: Link) -> usize
+    ensures { λ r. ⌜ (r ≡ length (linkBytes before l)) × (r ≤ 13) ⌝ }
+{
+    let f = Field {
+        width: 1,
+        absent: before.first as u32,
+    };
+    let g = Field {
+        width: 1,
+        absent: before.second as u32,
+    };
+    let h = Field {
+        width: 2,
+        absent: 0,
+    };
+    part_size(f, l.first as u32, g, l.second as u32, h, l.tag as u32)
+}
+
+// A link after the record `before`, from `at` on; the place after it.
+fn put_link(buf: &mut [u8], at: usize, before: Link, l: Link) -> usize
+    requires { ⌜ at + length (linkBytes before l) ≤ length (now buf) ⌝ }
+    ensures { λ r. ⌜ r ≡ at + length (linkBytes before l) ⌝ }
+    ensures { λ _. ⌜ now (buf .exit) ≡ sets (now (buf .entry)) at (linkBytes before l) ⌝ }
+{
+    let f = Field {
+        width: 1,
+        absent: before.first as u32,
+    };
+    let g = Field {
+        width: 1,
+        absent: before.second as u32,
+    };
+    let h = Field {
+        width: 2,
+        absent: 0,
+    };
+    put_part(
+        buf,
+        at,
+        f,
+        l.first as u32,
+        g,
+        l.second as u32,
+        h,
+        l.tag as u32,
+    )
+}
+
+// The length of a plant's listing.
+fn listing_size(p: Plant) -> usize
+    requires { ⌜ p .count ≤ maxLinks ⌝ }
+    ensures { λ r. ⌜ r ≡ length (encode p) ⌝ }
+{
+    let n = p.count as usize;
+    let mut size = header_size(p);
+    let mut before = Link::zero();
+    let mut i: usize = 0;
+    while i < n {
+        let l = p.links[i];
+        size += link_size(before, l);
+        before = l;
+        i += 1;
+    }
+    size
+}
+
+// The links of a plant, from `from` on.
+fn put_links(p: Plant, buf: &mut [u8], from: usize)
+    requires { ⌜ (p .count ≤ maxLinks) × (from + length (linksBytes zeroLink (linksOf p)) ≤ length (now buf)) ⌝ }
+    ensures { λ _. ⌜ now (buf .exit) ≡ sets (now (buf .entry)) from (linksBytes zeroLink (linksOf p)) ⌝ }
+{
+    let n = p.count as usize;
+    let mut before = Link::zero();
+    let mut at = from;
+    let mut i: usize = 0;
+    while i < n {
+        let l = p.links[i];
+        at = put_link(buf, at, before, l);
+        before = l;
+        i += 1;
+    }
+}
+
+// A plant's listing at the front of the buffer.
+fn put_listing(p: Plant, buf: &mut [u8])
+    requires { ⌜ (p .count ≤ maxLinks) × (length (encode p) ≤ length (now buf)) ⌝ }
+    ensures { λ _. ⌜ now (buf .exit) ≡ sets (now (buf .entry)) 0 (encode p) ⌝ }
+{
+    let from = put_header(buf, p);
+    put_links(p, buf, from);
+}
+
+// The listing of a plant into the front of the lent buffer: its length, or refusals 5, 6, 7 and 16.
+pub fn write(p: Plant, buffer: &mut [u8]) -> Written
+    ensures { λ r. ⌜ writeAnswer r ≡ written p (now (buffer .entry)) ⌝ }
+    ensures { λ _. ⌜ now (buffer .exit) ≡ bufferAfter p (now (buffer .entry)) ⌝ }
+{
+    match judge_plant(p) {
+        Verdict::Sound => {
+            let n = listing_size(p);
+            if buffer.len() < n {
+                return Written::Refused(Refusal::ListingBufferShort);
+            }
+            put_listing(p, buffer);
+            Written::Length(n)
+        }
+        Verdict::Refused(k) => Written::Refused(k),
     }
 }
