@@ -1,0 +1,5 @@
+pub mod Tables
+pub mod Diagonal
+pub mod Levels
+pub mod Arcs
+pub mod Entries

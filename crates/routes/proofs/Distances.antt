@@ -1,0 +1,152 @@
+-- Laws of distance, hop and route: 0 from a switch to itself alone, one hop lessens it by one at most, some hop lessens it by one, and no walk is shorter.
+-- Assumes nothing of the arcs.
+use mathlib.Core.Path.{_≡_, refl, sym, ap, _∙_, subst}
+use mathlib.Core.Logic.{_⊎_, inl, inr}
+use mathlib.Core.Bool.{Bool, _&&_}
+use mathlib.Core.List.{List, [], _∷_}
+use Prim.Native.Nat.{ℕ, zero, suc, _≤_, _<_}
+use native.Mathlib.Omega.{arith}
+use lib.Dec.{T, not-T, eqb, eqb→eq, ltb, ltb→lt, lt→ltb, nltb→le}
+use lib.ListN.{length}
+use Rattle.lists.specs.Tests.{eq→eqb, T-or, and-left, and-right, and-both}
+use Rattle.lists.specs.Members.{In, memb, memb→in, in→memb}
+use Rattle.lists.specs.Least.{least, least-top, least-passes, least-le}
+use Rattle.walks.specs.Walk.{Walk}
+use Rattle.routes.specs.Distance.{within, dist, lessens, hop, hops, route}
+use Rattle.routes.specs.Meaning.{InUse, Way, Hop}
+use Rattle.routes.proofs.Levels.{LeadsInto, within-hop, within-new}
+
+module _ (S n : ℕ) (tl hd : ℕ → ℕ) (ok : ℕ → Bool) where
+  abbrev level : ℕ → ℕ → List ℕ
+  level k v = within S n tl hd ok k v
+
+  -- the distance
+  abbrev D : ℕ → ℕ → ℕ
+  D u v = dist S n tl hd ok u v
+
+  pub dist-top : (u v : ℕ) → D u v ≤ S
+  unfolding dist
+  dist-top u v = least-top S (λ k. memb u (level k v))
+
+  pub dist-in : (u v : ℕ) → D u v < S → In u (level (D u v) v)
+  unfolding dist
+  dist-in u v h = memb→in u (level (D u v) v) (least-passes S (λ k. memb u (level k v)) h)
+
+  pub dist-le : (k u v : ℕ) → In u (level k v) → D u v ≤ k
+  unfolding dist
+  dist-le k u v i = least-le S (λ j. memb u (level j v)) k (in→memb u (level k v) i)
+
+  pub dist-self : (u : ℕ) → D u u ≡ 0
+  unfolding within
+  dist-self u = omega (arith, dist-le 0 u u (inl refl))
+
+  -- one hop lessens the distance by one at most
+  pub dist-hop : (a v : ℕ) → a < n → T (ok a) → D (tl a) v ≤ suc (D (hd a) v)
+  dist-hop a v h t = go (T-or (ltb (D (hd a) v) S))
+    where
+      go : T (ltb (D (hd a) v) S) ⊎ (T (ltb (D (hd a) v) S) → ⊥) → D (tl a) v ≤ suc (D (hd a) v)
+      go (inl u) = dist-le (suc (D (hd a) v)) (tl a) v (within-hop S n tl hd ok (D (hd a) v) a v h t (dist-in (hd a) v (ltb→lt (D (hd a) v) S u)))
+      go (inr u) = omega (arith, dist-top (tl a) v, nltb→le (D (hd a) v) S (not-T (ltb (D (hd a) v) S) u))
+
+  dist-nil : (u v k : ℕ) → D u v ≡ k → k ≡ 0 → k < S → u ≡ v
+  unfolding within
+  dist-nil u v k e z h = go (subst (λ (j : ℕ). In u (level j v)) (e ∙ z) (dist-in u v (omega arith)))
+    where
+      go : (u ≡ v) ⊎ ⊥ → u ≡ v
+      go (inl q) = q
+      go (inr q) = absurd q
+
+  pub dist-zero : (u v : ℕ) → 0 < S → D u v ≡ 0 → u ≡ v
+  dist-zero u v h e = dist-nil u v 0 e refl h
+
+  -- a distance that is not 0 has an arc that lessens it by one
+  pub dist-down : (u v k : ℕ) → D u v ≡ suc k → suc k < S → (a : ℕ) × InUse n ok a × (tl a ≡ u) × (D (hd a) v ≡ k)
+  dist-down u v k e h = go (within-new S n tl hd ok k u v (subst (λ (j : ℕ). In u (level j v)) e (dist-in u v (omega arith))))
+    where
+      go : In u (level k v) ⊎ LeadsInto S n tl hd ok u (level k v) → (a : ℕ) × InUse n ok a × (tl a ≡ u) × (D (hd a) v ≡ k)
+      go (inl i) = absurd (omega (arith, dist-le k u v i))
+      go (inr r) =
+          let t : D u v ≤ suc (D (hd (r .0)) v) = subst (λ (x : ℕ). D x v ≤ suc (D (hd (r .0)) v)) (sym (r .4)) (dist-hop (r .0) v (r .1) (r .2)) in
+          (r .0, (r .1, r .2), sym (r .4), omega (arith, dist-le k (hd (r .0)) v (r .3), t))
+
+  -- no walk over arcs in use is shorter
+  pub dist-least : (w : List ℕ) (u v : ℕ) → Walk tl hd w u v → ((a : ℕ) → In a w → InUse n ok a) → D u v ≤ length w
+  dist-least [] u v e f = omega (arith, ap (λ (x : ℕ). D x v) e, dist-self v)
+  dist-least (a ∷ w) u v p f =
+      omega (
+        arith,
+        ap (λ (x : ℕ). D x v) (p .0),
+        dist-hop a v (f a (inl refl) .0) (f a (inl refl) .1),
+        dist-least w (hd a) v (p .1) (λ b i. f b (inr i)),
+      )
+
+  -- ---- a hop
+
+  -- it leaves u for a switch that is nearer
+  abbrev nears : ℕ → ℕ → ℕ → Bool
+  nears u v a = eqb (tl a) u && ltb (D (hd a) v) (D u v)
+
+  pub lessens-hop : (u v a : ℕ) → a < n → T (lessens S n tl hd ok u v a) → Hop S n tl hd ok u v a
+  lessens-hop u v a h t =
+      let live = and-left (ok a) (nears u v a) t in
+      let rest = and-right (ok a) (nears u v a) t in
+      let at : tl a ≡ u = eqb→eq (tl a) u (and-left (eqb (tl a) u) (ltb (D (hd a) v) (D u v)) rest) in
+      let lt : D (hd a) v < D u v = ltb→lt (D (hd a) v) (D u v) (and-right (eqb (tl a) u) (ltb (D (hd a) v) (D u v)) rest) in
+      record {
+        is-arc = h;
+        in-use = live;
+        leaves = at;
+        nearer = omega (arith, lt, ap (λ (x : ℕ). D x v) at, dist-hop a v h live);
+      }
+
+  pub hop-lessens : (u v a : ℕ) → T (ok a) → tl a ≡ u → D (hd a) v < D u v → T (lessens S n tl hd ok u v a)
+  hop-lessens u v a t e h =
+      and-both (ok a) (nears u v a) t (and-both (eqb (tl a) u) (ltb (D (hd a) v) (D u v)) (eq→eqb e) (lt→ltb (D (hd a) v) (D u v) h))
+
+  -- where the distance is not 0, there is a hop, and it lessens the distance by one
+  pub hop-law : (u v k : ℕ) → D u v ≡ suc k → suc k < S → Hop S n tl hd ok u v (hop S n tl hd ok u v)
+  unfolding hop
+  hop-law u v k e h =
+      let p = lessens S n tl hd ok u v in
+      let d = dist-down u v k e h in
+      let le : least n p ≤ d .0 = least-le n p (d .0) (hop-lessens u v (d .0) (d .1 .1) (d .2) (omega (arith, d .3))) in
+      let lt : least n p < n = omega (arith, d .1 .0) in
+      lessens-hop u v (least n p) lt (least-passes n p lt)
+
+  -- ---- a route
+
+  -- k hops are a walk to v where v is k hops away
+  pub hops-way : (k u v : ℕ) → D u v ≡ k → k < S → Way S n tl hd ok u v (hops S n tl hd ok k u v)
+  unfolding hops
+  hops-way zero u v e h = record { is-walk = dist-zero u v h e; in-use = λ a i. absurd i }
+  hops-way (suc k) u v e h =
+      let l = hop-law u v k e h in
+      let r = hops-way k (hd (hop S n tl hd ok u v)) v (omega (arith, l .nearer)) (omega arith) in
+      record { is-walk = (l .leaves, r .is-walk); in-use = λ a i. used l r a i }
+    where
+      used : Hop S n tl hd ok u v (hop S n tl hd ok u v) → Way S n tl hd ok (hd (hop S n tl hd ok u v)) v (hops S n tl hd ok k (hd (hop S n tl hd ok u v)) v)
+          → (a : ℕ) → (a ≡ hop S n tl hd ok u v) ⊎ In a (hops S n tl hd ok k (hd (hop S n tl hd ok u v)) v) → InUse n ok a
+      used l r a (inl q) = (omega (arith, l .is-arc), subst (λ (b : ℕ). T (ok b)) (sym q) (l .in-use))
+      used l r a (inr i) = r .in-use a i
+
+  pub hops-length : (k u v : ℕ) → length (hops S n tl hd ok k u v) ≡ k
+  unfolding hops
+  hops-length zero u v = refl
+  hops-length (suc k) u v = ap suc (hops-length k (hd (hop S n tl hd ok u v)) v)
+
+  -- the distance is attained: the route is a walk over arcs in use of that many hops
+  pub route-way : (u v : ℕ) → D u v < S → Way S n tl hd ok u v (route S n tl hd ok u v)
+  unfolding route
+  route-way u v h = hops-way (D u v) u v refl h
+
+  pub route-length : (u v : ℕ) → length (route S n tl hd ok u v) ≡ D u v
+  unfolding route
+  route-length u v = hops-length (D u v) u v
+
+  -- where there is no walk, it is S
+  pub dist-none : (u v : ℕ) → ((w : List ℕ) → Way S n tl hd ok u v w → ⊥) → D u v ≡ S
+  dist-none u v f = go (T-or (ltb (D u v) S))
+    where
+      go : T (ltb (D u v) S) ⊎ (T (ltb (D u v) S) → ⊥) → D u v ≡ S
+      go (inl t) = absurd (f (route S n tl hd ok u v) (route-way u v (ltb→lt (D u v) S t)))
+      go (inr t) = omega (arith, dist-top u v, nltb→le (D u v) S (not-T (ltb (D u v) S) t))

@@ -1,0 +1,11 @@
+pub mod Lists
+pub mod Levels
+pub mod Distances
+pub mod Fewest
+pub mod Marks
+pub mod Nearest
+pub mod Steps
+pub mod Trails
+pub mod Legs
+pub mod Agree
+pub mod Plants

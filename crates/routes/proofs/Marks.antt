@@ -1,0 +1,46 @@
+-- What crossing an arc does to the uncrossed arcs in use, and to their number. Assumes nothing.
+use mathlib.Core.Path.{_≡_}
+use mathlib.Core.Logic.{_⊎_, inl, inr}
+use mathlib.Core.Bool.{Bool, not}
+use mathlib.Core.List.{List, [], _∷_}
+use Prim.Native.Nat.{ℕ, suc, _≤_, _<_}
+use lib.Dec.{T, T-not, not-T, eqb, eqb→eq, eqb-refl}
+use Rattle.lists.specs.Tests.{and-left, and-right, and-both, or-left, or-right, or-cases}
+use Rattle.lists.specs.Count.{count, count-le, count-lt}
+use Rattle.routes.specs.Trail.{mark, marks, uncrossed}
+
+module _ (ok : ℕ → Bool) where
+  -- an arc that is uncrossed was uncrossed before
+  pub mark-before : (m : ℕ → Bool) (a b : ℕ) → T (uncrossed ok (mark a m) b) → T (uncrossed ok m b)
+  mark-before m a b t =
+      and-both (ok b) (not (m b)) (and-left (ok b) (not (mark a m b)) t)
+      (not-T (m b) (λ u. T-not (mark a m b) (and-right (ok b) (not (mark a m b)) t) (or-right (eqb b a) (m b) u)))
+
+  pub marks-before : (w : List ℕ) (m : ℕ → Bool) (b : ℕ) → T (uncrossed ok (marks w m) b) → T (uncrossed ok m b)
+  marks-before [] m b t = t
+  marks-before (a ∷ w) m b t = mark-before m a b (marks-before w (mark a m) b t)
+
+  pub mark-same : (m : ℕ → Bool) (a : ℕ) → T (uncrossed ok (mark a m) a) → ⊥
+  mark-same m a t = T-not (mark a m a) (and-right (ok a) (not (mark a m a)) t) (or-left (eqb a a) (m a) (eqb-refl a))
+
+  pub mark-other : (m : ℕ → Bool) (a b : ℕ) → (b ≡ a → ⊥) → T (uncrossed ok m b) → T (uncrossed ok (mark a m) b)
+  mark-other m a b f t =
+      and-both (ok b) (not (mark a m b)) (and-left (ok b) (not (m b)) t) (not-T (mark a m b) (λ u. go (or-cases (eqb b a) (m b) u)))
+    where
+      go : T (eqb b a) ⊎ T (m b) → ⊥
+      go (inl e) = f (eqb→eq b a e)
+      go (inr v) = T-not (m b) (and-right (ok b) (not (m b)) t) v
+
+  module _ (n : ℕ) where
+    -- how many arcs in use are uncrossed
+    abbrev pub remaining : (ℕ → Bool) → ℕ
+    remaining m = count n (uncrossed ok m)
+
+    pub mark-fewer : (m : ℕ → Bool) (a : ℕ) → remaining (mark a m) ≤ remaining m
+    mark-fewer m a = count-le n (uncrossed ok (mark a m)) (uncrossed ok m) (λ b h t. mark-before m a b t)
+
+    -- crossing an uncrossed arc, after those of a list, leaves fewer
+    pub marks-less : (w : List ℕ) (m : ℕ → Bool) (a : ℕ) → a < n → T (uncrossed ok m a) → suc (remaining (mark a (marks w m))) ≤ remaining m
+    marks-less w m a h t =
+        count-lt n (uncrossed ok m) (uncrossed ok (mark a (marks w m))) a h t (mark-same (marks w m) a)
+        (λ b i v. marks-before w m b (mark-before (marks w m) a b v))

@@ -1,0 +1,4 @@
+pub mod Distance
+pub mod Trail
+pub mod Meaning
+pub mod Plants

@@ -1,0 +1,39 @@
+-- Laws of the definitions in the form in which the code's proofs cite them. Assumes nothing.
+use mathlib.Core.Path.{_≡_, sym}
+use mathlib.Core.List.{List}
+use Prim.Native.Nat.{ℕ, _+_, _≤_, _<_}
+use native.Mathlib.Numerals.{add-one}
+use lib.ListN.{length, getD, drop, drop-of-length-le}
+use lib.Seq.{drop-cons}
+use borrow.Author.Tests.{eq-eqb, ne-eqb}
+use Rattle.plant.specs.Refusals.{given, refused}
+use Rattle.search.specs.declared.Search.{Search}
+use Rattle.search.specs.declared.Outcome.{Outcome}
+use Rattle.search.specs.declared.Progress.{Progress}
+use Rattle.search.specs.Search.{give}
+use Rattle.search.specs.Calls.{outcomeIn, callIn, callsIn, step, perform}
+
+-- ---- one call
+
+pub step-asks : (p : Progress) (b : ℕ) → b ≡ 0 → p ≡ step p (callIn b)
+unfolding callIn
+step-asks p b e = rw (eq-eqb b 0 e)
+
+pub step-given : (p : Progress) (b : ℕ) (o : Outcome) (t : Search) → (b ≡ 0 → ⊥) → o ≡ outcomeIn b → give (p .state) o ≡ given t
+    → record { state = t; probes = p .probes + 1 } ≡ step p (callIn b)
+unfolding callIn
+step-given p b o t n e g = rw (ne-eqb b 0 n, sym e, g)
+
+pub step-refused : (p : Progress) (b : ℕ) (o : Outcome) (k : ℕ) → (b ≡ 0 → ⊥) → o ≡ outcomeIn b → give (p .state) o ≡ refused k
+    → p ≡ step p (callIn b)
+unfolding callIn
+step-refused p b o k n e g = rw (ne-eqb b 0 n, sym e, g)
+
+-- ---- a list of calls: one is done and the rest are left; none is left
+
+pub perform-on : (p q : Progress) (bs : List ℕ) (i : ℕ) → i < length bs → q ≡ step p (callIn (getD bs i 0))
+    → perform p (callsIn (drop i bs)) ≡ perform q (callsIn (drop (i + 1) bs))
+perform-on p q bs i h e = rw (add-one, drop-cons bs i 0 h, e)
+
+pub perform-all : (p : Progress) (bs : List ℕ) (i : ℕ) → length bs ≤ i → p ≡ perform p (callsIn (drop i bs))
+perform-all p bs i h = rw (drop-of-length-le bs h)

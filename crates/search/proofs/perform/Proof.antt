@@ -1,0 +1,64 @@
+-- `perform` meets its contract. The loop's invariant: the calls that are left lead from here to where all calls lead from the new search. Assumes nothing.
+use mathlib.Core.Path.{_≡_, sym, ap, _∙_}
+use Prim.Native.Nat.{_-_, _≤_}
+use native.Mathlib.Omega.{arith}
+use lib.ListN.{length, drop}
+use borrow.Author.Needs.{needs}
+use Rattle.search.specs.declared.Search.{Search}
+use Rattle.search.specs.Calls.{callsIn, perform, begun}
+use Rattle.search.proofs.Laws.{perform-on, perform-all}
+use Rattle.search.proofs.perform.Statement.{statement}
+use Rattle.search.proofs.perform.Tie as tie
+
+abbrev Inv-loop : tie.InvT-loop
+Inv-loop links calls p₀ i₀ p i =
+    (i ≤ length calls) × ((p .probes ≤ i) × (perform p (callsIn (drop i calls)) ≡ perform (begun links) (callsIn calls)))
+
+abbrev μ-loop : tie.MeasureT-loop
+μ-loop links calls p₀ i₀ p i = length calls - i
+
+new-requires : tie.Need-new-requires Inv-loop μ-loop
+new-requires c κs = search needs
+
+loop-holds : tie.Need-loop-holds Inv-loop μ-loop
+unfolding begun
+loop-holds c =
+    let after = ap (λ (s : Search). perform (record { state = s; probes = 0 }) (callsIn (c .before .before .args .calls .now))) (c .new .ensures) in
+    (omega arith, (omega arith, after))
+
+shared-slice-read-step : tie.Need-shared-slice-read-step Inv-loop μ-loop
+shared-slice-read-step c = search needs
+
+step-requires : tie.Need-step-requires Inv-loop μ-loop
+step-requires c κs = search needs
+
+add-i : tie.Need-add-i Inv-loop μ-loop
+add-i c = search needs
+
+loop-less : tie.Need-loop-less Inv-loop μ-loop
+loop-less c = search needs
+
+loop-again : tie.Need-loop-again Inv-loop μ-loop
+loop-again c =
+    let k = c .before .before .before .loop in (
+      omega arith,
+      (omega (arith, c .step .ensures .1), sym (perform-on (k .p) (c .step .result) _ (k .i) (omega arith) (c .step .ensures .0)) ∙ k .inv .1 .1),
+    )
+
+returns : tie.Need-returns Inv-loop μ-loop
+returns c = let k = c .before .loop in perform-all (k .p) _ (k .i) (omega arith) ∙ k .inv .1 .1
+
+pub perform-spec : {M : Type 1} → statement M
+perform-spec =
+    tie.close
+    (tie.spec
+    Inv-loop
+    μ-loop
+    new-requires
+    loop-holds
+    shared-slice-read-step
+    step-requires
+    add-i
+    loop-less
+    loop-again
+    returns)

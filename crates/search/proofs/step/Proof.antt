@@ -1,0 +1,58 @@
+-- `step` meets its contract: the byte 0 changes nothing, an accepted outcome is counted, a refused one is not. Assumes nothing.
+use mathlib.Core.Path.{sym, ap, _∙_}
+use native.Mathlib.Omega.{arith}
+use Rattle.search.specs.Search.{toldOf}
+use Rattle.search.proofs.Laws.{step-asks, step-given, step-refused}
+use borrow.Author.Needs.{needs}
+use Rattle.search.proofs.step.Statement.{statement}
+use Rattle.search.proofs.step.Tie as tie
+
+ask-requires : tie.Need-ask-requires
+ask-requires c κs = search needs
+
+returns : tie.Need-returns
+returns c = (step-asks _ _ (c .before .if1 .taken), omega arith)
+
+add-after : tie.Need-add-after
+add-after c = search needs
+
+outcome-in-requires : tie.Need-outcome-in-requires
+outcome-in-requires c κs = search needs
+
+give-requires : tie.Need-give-requires
+give-requires c κs = search needs
+
+enum-known-t : tie.Need-enum-known-t
+enum-known-t c = search needs
+
+enum-told : tie.Need-enum-told
+enum-told c = search needs
+
+returns-2 : tie.Need-returns-2
+returns-2 c =
+    let k = c .before .before .before in (
+      step-given (k .before .before .before .args .p) _ _ _ (k .before .before .if1 .left) (k .before .outcome-in .ensures)
+          (sym (k .give .ensures) ∙ ap toldOf (c .before .t .given .1)),
+      omega arith,
+    )
+
+returns-3 : tie.Need-returns-3
+returns-3 c =
+    let k = c .before .before in (
+      step-refused _ _ _ _ (k .before .before .if1 .left) (k .before .outcome-in .ensures) (sym (k .give .ensures) ∙ ap toldOf (c .enum-told .given .1)),
+      omega arith,
+    )
+
+pub step-spec : {M : Type 1} → statement M
+step-spec =
+    tie.close
+    (tie.spec
+    ask-requires
+    returns
+    add-after
+    outcome-in-requires
+    give-requires
+    enum-known-t
+    enum-told
+    returns-2
+    returns-3)

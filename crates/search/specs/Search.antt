@@ -1,0 +1,89 @@
+-- The search of document 01: its states, the probe that each wants, the state after an outcome, refusals 14 and 15, and the calls. Assumes nothing.
+use mathlib.Core.Bool.{Bool, true, false, not, _&&_}
+use Prim.Native.Nat.{ℕ, _+_, _/_}
+use lib.Dec.{eqb, leb, ltb}
+use Rattle.lists.specs.Tests.{choose}
+use Rattle.plant.specs.Refusals.{numberOf, Answer, given, refused, refuse}
+use Rattle.model.specs.Limits.{maxLinks}
+use Rattle.search.specs.declared.Search.{Search}
+use Rattle.search.specs.declared.Search.the-variants.{Checking, Halving, AllUp, Down}
+use Rattle.search.specs.declared.Outcome.{Outcome}
+use Rattle.search.specs.declared.Outcome.the-variants.{Returned, Lost}
+use Rattle.search.specs.declared.Asked.{Asked}
+use Rattle.search.specs.declared.Asked.the-variants as asked
+use Rattle.search.specs.declared.Told.{Told}
+use Rattle.search.specs.declared.Told.the-variants as told
+
+-- ---- the state
+
+-- a new search over e links
+unfoldable pub newSearch : ℕ → Search
+newSearch e = choose (eqb e 0) AllUp (Checking e)
+
+-- can it be a number of links, or a place in their order?
+abbrev pub counts : ℕ → Bool
+counts n = ltb 0 n && leb n maxLinks
+
+-- not refusal 14
+abbrev pub sound : Search → Bool
+sound (Checking count) = counts count
+sound (Halving low high) = ltb 0 low && (ltb low high && leb high maxLinks)
+sound AllUp = true
+sound (Down place) = counts place
+
+-- not the part of refusal 14 that is tried in a call with a listing of e links
+abbrev pub soundFor : ℕ → Search → Bool
+soundFor e (Checking count) = eqb count e
+soundFor e (Halving low high) = leb high e
+soundFor e AllUp = true
+soundFor e (Down place) = leb place e
+
+-- refusal 15
+abbrev pub ended : Search → Bool
+ended (Checking count) = false
+ended (Halving low high) = false
+ended AllUp = true
+ended (Down place) = true
+
+-- m, the probe to send; a search that has ended wants none, and 0 stands for that
+abbrev pub wanted : Search → ℕ
+wanted (Checking count) = count
+wanted (Halving low high) = (low + high) / 2
+wanted AllUp = 0
+wanted (Down place) = 0
+
+-- the first broken link is at one of the places low .. high
+abbrev pub settled : ℕ → ℕ → Search
+settled low high = choose (eqb low high) (Down low) (Halving low high)
+
+-- the state after the probe that is wanted had an outcome (document 01: a fate, home or lost)
+abbrev pub next : Search → Outcome → Search
+next (Checking count) Returned = AllUp
+next (Checking count) Lost = settled 1 count
+next (Halving low high) Returned = settled (wanted (Halving low high) + 1) high
+next (Halving low high) Lost = settled low (wanted (Halving low high))
+next AllUp o = AllUp
+next (Down place) o = Down place
+
+-- ---- the calls
+
+-- what a call to a search answers, unless it is refused
+abbrev pub unlessRefused : {A : Type 0} → Search → A → Answer A
+unlessRefused s a = refuse 14 (not (sound s)) (refuse 15 (ended s) (given a))
+
+-- the call for a probe: its m
+unfoldable pub ask : Search → Answer ℕ
+ask s = unlessRefused s (wanted s)
+
+-- the call that gives an outcome: the next state
+unfoldable pub give : Search → Outcome → Answer Search
+give s o = unlessRefused s (next s o)
+
+-- what the code's answers say
+abbrev pub askedOf : Asked → Answer ℕ
+askedOf (asked.Probe m) = given m
+askedOf (asked.Refused r) = refused (numberOf r)
+
+abbrev pub toldOf : Told → Answer Search
+toldOf (told.State s) = given s
+toldOf (told.Refused r) = refused (numberOf r)

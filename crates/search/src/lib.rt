@@ -1,0 +1,220 @@
+// The search for the first broken link: its state, the call for a probe, the call that gives an outcome, and a list of calls.
+ghost use mathlib.Core.Path.{_≡_};
+ghost use mathlib.Core.Bool.{true};
+ghost use Prim.Native.Nat.{_≤_, _<_, _+_};
+ghost use Rattle.search.specs.Search.{newSearch, counts, sound, soundFor, ended, wanted, settled, next, ask, give, askedOf, toldOf};
+ghost use Rattle.search.specs.Calls.{outcomeIn, callIn, callsIn, step, perform, begun};
+use plant::Plant;
+use plant::Refusal;
+
+// Checking a number of links, halving the places from low to high, all links are up, or the link at a place is down. Places count from 1 in the order of links.
+pub enum Search {
+    Checking(u16),
+    Halving(u16, u16),
+    AllUp,
+    Down(u16),
+}
+
+// What became of a probe: it came home, or it did not.
+pub enum Outcome {
+    Returned,
+    Lost,
+}
+
+// The probe to send, or a refusal.
+pub enum Asked {
+    Probe(u16),
+    Refused(Refusal),
+}
+
+// The next state, or a refusal.
+pub enum Told {
+    State(Search),
+    Refused(Refusal),
+}
+
+// The state that the last accepted outcome returned, and how many outcomes were accepted.
+pub struct Progress {
+    pub state: Search,
+    pub probes: usize,
+}
+
+impl Search {
+    // A new search over so many links.
+    pub fn new(links: u16) -> Search
+        ensures { λ r. ⌜ r ≡ newSearch links ⌝ }
+    {
+        if links == 0 {
+            Search::AllUp
+        } else {
+            Search::Checking(links)
+        }
+    }
+
+    // Not refusal 14.
+    pub fn sound(self) -> bool
+        ensures { λ r. ⌜ r ≡ sound self ⌝ }
+    {
+        match self {
+            Search::Checking(count) => counts(count),
+            Search::Halving(low, high) => 0 < low
+                && (low < high && high as usize <= Plant::MAX_LINKS),
+            Search::AllUp => true,
+            Search::Down(place) => counts(place),
+        }
+    }
+
+    // Not the part of refusal 14 that is tried in a call with a listing of so many links.
+    pub fn sound_for(self, links: u16) -> bool
+        ensures { λ r. ⌜ r ≡ soundFor links self ⌝ }
+    {
+        match self {
+            Search::Checking(count) => count == links,
+            Search::Halving(_, high) => high <= links,
+            Search::AllUp => true,
+            Search::Down(place) => place <= links,
+        }
+    }
+
+    // Refusal 15.
+    pub fn ended(self) -> bool
+        ensures { λ r. ⌜ r ≡ ended self ⌝ }
+    {
+        match self {
+            Search::Checking(_) => false,
+            Search::Halving(_, _) => false,
+            Search::AllUp => true,
+            Search::Down(_) => true,
+        }
+    }
+
+    // The probe to send.
+    fn wanted(self) -> u16
+        requires { ⌜ sound self ≡ true ⌝ }
+        ensures { λ r. ⌜ r ≡ wanted self ⌝ }
+    {
+        match self {
+            Search::Checking(count) => count,
+            Search::Halving(low, high) => (low + high) / 2,
+            Search::AllUp => 0,
+            Search::Down(_) => 0,
+        }
+    }
+
+    // The state after the probe that is wanted had an outcome.
+    fn next(self, o: Outcome) -> Search
+        requires { ⌜ sound self ≡ true ⌝ }
+        ensures { λ r. ⌜ r ≡ next self o ⌝ }
+    {
+        let m = self.wanted();
+        match self {
+            Search::Checking(count) => match o {
+                Outcome::Returned => Search::AllUp,
+                Outcome::Lost => settled(1, count),
+            },
+            Search::Halving(low, high) => match o {
+                Outcome::Returned => settled(m + 1, high),
+                Outcome::Lost => settled(low, m),
+            },
+            Search::AllUp => self,
+            Search::Down(_) => self,
+        }
+    }
+
+    // The call for a probe.
+    pub fn ask(self) -> Asked
+        ensures { λ r. ⌜ askedOf r ≡ ask self ⌝ }
+    {
+        if !self.sound() {
+            return Asked::Refused(Refusal::SearchUnsound);
+        }
+        if self.ended() {
+            return Asked::Refused(Refusal::SearchEnded);
+        }
+        Asked::Probe(self.wanted())
+    }
+
+    // The call that gives an outcome.
+    pub fn give(self, o: Outcome) -> Told
+        ensures { λ r. ⌜ toldOf r ≡ give self o ⌝ }
+    {
+        if !self.sound() {
+            return Told::Refused(Refusal::SearchUnsound);
+        }
+        if self.ended() {
+            return Told::Refused(Refusal::SearchEnded);
+        }
+        Told::State(self.next(o))
+    }
+}
+
+// Can it be a number of links, or a place in their order?
+fn counts(n: u16) -> bool
+    ensures { λ r. ⌜ r ≡ counts n ⌝ }
+{
+    0 < n && n as usize <= Plant::MAX_LINKS
+}
+
+// The first broken link is at one of the places low .. high.
+fn settled(low: u16, high: u16) -> Search
+    ensures { λ r. ⌜ r ≡ settled low high ⌝ }
+{
+    if low == high {
+        Search::Down(low)
+    } else {
+        Search::Halving(low, high)
+    }
+}
+
+// An outcome as a byte: 1 is returned, any other is lost.
+fn outcome_in(b: u8) -> Outcome
+    ensures { λ r. ⌜ r ≡ outcomeIn b ⌝ }
+{
+    if b == 1 {
+        Outcome::Returned
+    } else {
+        Outcome::Lost
+    }
+}
+
+// One call, as a byte: 0 asks for a probe, 1 gives returned, any other gives lost.
+fn step(p: Progress, b: u8) -> Progress
+    requires { do ⌜ p .probes < (← ⟦usize::MAX⟧) ⌝ }
+    ensures { λ r. ⌜ r ≡ step p (callIn b) ⌝ }
+    ensures { λ r. ⌜ r .probes ≤ p .probes + 1 ⌝ }
+{
+    let s = p.state;
+    let before = p.probes;
+    if b == 0 {
+        // The answer is for the caller alone: the state stays as it is.
+        s.ask();
+        return p;
+    }
+    let after = before + 1;
+    match s.give(outcome_in(b)) {
+        Told::State(t) => Progress {
+            state: t,
+            probes: after,
+        },
+        Told::Refused(_) => Progress {
+            state: s,
+            probes: before,
+        },
+    }
+}
+
+// Performs a list of calls, each a byte, after a new search over so many links.
+pub fn perform(links: u16, calls: &[u8]) -> Progress
+    ensures { λ r. ⌜ r ≡ perform (begun links) (callsIn (now (calls .entry))) ⌝ }
+{
+    let mut p = Progress {
+        state: Search::new(links),
+        probes: 0,
+    };
+    let mut i: usize = 0;
+    while i < calls.len() {
+        p = step(p, calls[i]);
+        i += 1;
+    }
+    p
+}
