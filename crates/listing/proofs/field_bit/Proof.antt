@@ -1,15 +1,12 @@
+-- `listing::field_bit` meets its contract. Assumes nothing.
 use native.Mathlib.Omega.{arith}
 use borrow.Author.Tests.{eq-eqb, ne-eqb}
 use Rattle.listing.proofs.field_bit.Statement.{statement}
 use Rattle.listing.proofs.field_bit.Tie as tie
-use Rattle.listing.proofs.field_bit.Reads as reads
-use Rattle.listing.proofs.field_bit.Lts as lts
 
--- src/lib.rt:441:9
 returns : tie.Need-returns
 returns c = (simp (eq-eqb _ _ (c .if1 .taken)), omega arith)
 
--- src/lib.rt:437:1
 returns-2 : tie.Need-returns-2
 returns-2 c = (simp (ne-eqb _ _ (c .if1 .left)), omega arith)
 

@@ -1,16 +1,13 @@
+-- `listing::field_size` meets its contract. Assumes nothing.
 use native.Mathlib.Omega.{arith}
 use borrow.Author.Tests.{eq-eqb, ne-eqb}
 use Rattle.listing.proofs.FieldLaws.{length-bytesOf}
 use Rattle.listing.proofs.field_size.Statement.{statement}
 use Rattle.listing.proofs.field_size.Tie as tie
-use Rattle.listing.proofs.field_size.Reads as reads
-use Rattle.listing.proofs.field_size.Lts as lts
 
--- src/lib.rt:431:9
 returns : tie.Need-returns
 returns c = (simp (eq-eqb _ _ (c .if1 .taken)), omega arith)
 
--- src/lib.rt:426:1
 returns-2 : tie.Need-returns-2
 returns-2 c = (simp (ne-eqb _ _ (c .if1 .left), length-bytesOf), c .before .before .pre .narrow)
 

@@ -1,28 +1,21 @@
+-- `listing::header_size` meets its contract. Assumes nothing.
 use Rattle.listing.specs.Listing.{headerBytes}
 use borrow.Author.Needs.{needs}
 use Rattle.listing.proofs.header_size.Statement.{statement}
 use Rattle.listing.proofs.header_size.Tie as tie
-use Rattle.listing.proofs.header_size.Reads as reads
-use Rattle.listing.proofs.header_size.Lts as lts
-use Rattle.listing.proofs.part_size.Reads as part-size-reads
 
--- src/lib.rt:487:18
 cast-part-size : tie.Need-cast-part-size
 cast-part-size c = search needs
 
--- src/lib.rt:487:40
 cast-part-size-2 : tie.Need-cast-part-size-2
 cast-part-size-2 c = search needs
 
--- src/lib.rt:487:59
 cast-part-size-3 : tie.Need-cast-part-size-3
 cast-part-size-3 c = search needs
 
--- src/lib.rt:487:5
 part-size-requires : tie.Need-part-size-requires
 part-size-requires c κs = search needs
 
--- src/lib.rt:481:1
 returns : tie.Need-returns
 unfolding headerBytes
 returns c = c .part-size .ensures

@@ -1,16 +1,13 @@
+-- `listing::is_redundant` meets its contract. Assumes nothing.
 use borrow.Author.Tests.{eq-eqb, ne-eqb}
 use Rattle.listing.specs.Part.{repeats}
 use Rattle.listing.proofs.is_redundant.Statement.{statement}
 use Rattle.listing.proofs.is_redundant.Tie as tie
-use Rattle.listing.proofs.is_redundant.Reads as reads
-use Rattle.listing.proofs.is_redundant.Lts as lts
 
--- src/lib.rt:103:9
 returns : tie.Need-returns
 unfolding repeats
 returns c = simp (eq-eqb _ _ (c .if1 .taken))
 
--- src/lib.rt:99:1
 returns-2 : tie.Need-returns-2
 unfolding repeats
 returns-2 c = simp (ne-eqb _ _ (c .if1 .left))

@@ -1,26 +1,21 @@
+-- `listing::is_zero` meets its contract. Assumes nothing.
 use borrow.Author.Tests.{eq-eqb, ne-eqb}
 use Rattle.listing.specs.Writing.{isZero}
 use Rattle.listing.proofs.is_zero.Statement.{statement}
 use Rattle.listing.proofs.is_zero.Tie as tie
-use Rattle.listing.proofs.is_zero.Reads as reads
-use Rattle.listing.proofs.is_zero.Lts as lts
 
--- src/lib.rt:351:9
 returns : tie.Need-returns
 unfolding isZero
 returns c = simp (ne-eqb _ _ (c .if1 .taken))
 
--- src/lib.rt:354:9
 returns-2 : tie.Need-returns-2
 unfolding isZero
 returns-2 c = simp (eq-eqb _ _ (c .before .before .if1 .left), ne-eqb _ _ (c .if2 .taken))
 
--- src/lib.rt:357:9
 returns-3 : tie.Need-returns-3
 unfolding isZero
 returns-3 c = simp (eq-eqb _ _ (c .before .before .before .before .if1 .left), eq-eqb _ _ (c .before .before .if2 .left), ne-eqb _ _ (c .if3 .taken))
 
--- src/lib.rt:347:1
 returns-4 : tie.Need-returns-4
 unfolding isZero
 returns-4 c = simp (eq-eqb _ _ (c .before .before .before .before .if1 .left), eq-eqb _ _ (c .before .before .if2 .left), eq-eqb _ _ (c .if3 .left))

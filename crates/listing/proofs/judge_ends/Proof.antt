@@ -1,27 +1,22 @@
+-- `listing::judge_ends` meets its contract. Assumes nothing.
 use mathlib.Core.Path.{refl}
 use borrow.Author.Tests.{lt-ltb, le-ltb, eq-eqb, ne-eqb}
 use Rattle.listing.specs.Listing.{soundLink, endOutOfRange, selfLink}
 use Rattle.listing.proofs.judge_ends.Statement.{statement}
 use Rattle.listing.proofs.judge_ends.Tie as tie
-use Rattle.listing.proofs.judge_ends.Reads as reads
-use Rattle.listing.proofs.judge_ends.Lts as lts
 
--- src/lib.rt:235:9
 returns : tie.Need-returns
 unfolding soundLink endOutOfRange
 returns c tag = rw (le-ltb _ _ (c .if1 .taken)) refl
 
--- src/lib.rt:238:9
 returns-2 : tie.Need-returns-2
 unfolding soundLink endOutOfRange
 returns-2 c tag = rw (lt-ltb _ _ (c .before .if1 .left), le-ltb _ _ (c .if2 .taken)) refl
 
--- src/lib.rt:241:9
 returns-3 : tie.Need-returns-3
 unfolding soundLink endOutOfRange selfLink
 returns-3 c tag = rw (lt-ltb _ _ (c .before .before .if1 .left), lt-ltb _ _ (c .before .if2 .left), eq-eqb _ _ (c .if3 .taken)) refl
 
--- src/lib.rt:230:1
 returns-4 : tie.Need-returns-4
 unfolding soundLink endOutOfRange selfLink
 returns-4 c tag = rw (lt-ltb _ _ (c .before .before .if1 .left), lt-ltb _ _ (c .before .if2 .left), ne-eqb _ _ (c .if3 .left)) refl

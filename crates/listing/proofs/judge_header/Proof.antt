@@ -1,34 +1,26 @@
+-- `listing::judge_header` meets its contract. Assumes nothing.
 use mathlib.Core.Path.{refl, sym, _∙_}
 use native.Mathlib.Omega.{arith}
 use Rattle.listing.proofs.ReadLaws.{in-range}
 use borrow.Author.Needs.{needs}
 use Rattle.listing.proofs.judge_header.Statement.{statement}
 use Rattle.listing.proofs.judge_header.Tie as tie
-use Rattle.listing.proofs.judge_header.Reads as reads
-use Rattle.listing.proofs.judge_header.Lts as lts
-use Rattle.listing.proofs.out_of_range.Reads as out-of-range-reads
 
--- src/lib.rt:198:8
 out-of-range-requires : tie.Need-out-of-range-requires
 out-of-range-requires c κs = search needs
 
--- src/lib.rt:199:9
 returns : tie.Need-returns
 returns c s = rw (sym (c .before .out-of-range .ensures) ∙ c .if1 .taken) refl
 
--- src/lib.rt:201:20
 cast-t7 : tie.Need-cast-t7
 cast-t7 c = let r = in-range _ _ _ (sym (c .before .out-of-range .ensures) ∙ c .if1 .left) in omega arith
 
--- src/lib.rt:201:36
 cast-t8 : tie.Need-cast-t8
 cast-t8 c = let r = in-range _ _ _ (sym (c .before .out-of-range .ensures) ∙ c .if1 .left) in omega arith
 
--- src/lib.rt:201:50
 cast-t9 : tie.Need-cast-t9
 cast-t9 c = let r = in-range _ _ _ (sym (c .before .out-of-range .ensures) ∙ c .if1 .left) in omega arith
 
--- src/lib.rt:195:1
 returns-2 : tie.Need-returns-2
 returns-2 c s = rw (sym (c .before .out-of-range .ensures) ∙ c .if1 .left) refl
 

@@ -1,7 +1,6 @@
 -- `listing::judge_links` meets its contract: the links from i on are judged as all of them are. Assumes nothing.
-use mathlib.Core.Path.{_≡_, refl, sym, _∙_}
+use mathlib.Core.Path.{_≡_, refl, _∙_}
 use Prim.Native.Nat.{_-_, _≤_}
-use native.Mathlib.Omega.{arith}
 use borrow.Author.Needs.{needs}
 use lib.ListN.{drop}
 use Rattle.model.specs.Limits.{maxLinks}
@@ -10,9 +9,6 @@ use Rattle.listing.specs.Writing.{soundLinks}
 use Rattle.listing.proofs.WriteLaws.{sized, judge-on, judge-refused, judge-all}
 use Rattle.listing.proofs.judge_links.Statement.{statement}
 use Rattle.listing.proofs.judge_links.Tie as tie
-use Rattle.listing.proofs.judge_links.Reads as reads
-use Rattle.listing.proofs.judge_links.Lts as lts
-use Rattle.listing.proofs.judge_ends.Reads as judge-ends-reads
 
 abbrev Inv-loop : tie.InvT-loop
 Inv-loop p n switches i₀ i =
@@ -21,42 +17,33 @@ Inv-loop p n switches i₀ i =
 abbrev μ-loop : tie.MeasureT-loop
 μ-loop p n switches i₀ i = n - i
 
--- src/lib.rt:378:13
 cast-n : tie.Need-cast-n Inv-loop μ-loop
 cast-n c = search needs
 
--- src/lib.rt:381:5
 loop-holds : tie.Need-loop-holds Inv-loop μ-loop
 loop-holds c = (search needs, refl)
 
--- src/lib.rt:382:17
 mul-l : tie.Need-mul-l Inv-loop μ-loop
 mul-l c = search needs
 
--- src/lib.rt:382:17
 element-copy-out-l : tie.Need-element-copy-out-l Inv-loop μ-loop
 element-copy-out-l c = search needs
 
--- src/lib.rt:383:26
 cast-judge-ends : tie.Need-cast-judge-ends Inv-loop μ-loop
 cast-judge-ends c = search needs
 
--- src/lib.rt:383:42
 cast-judge-ends-2 : tie.Need-cast-judge-ends-2 Inv-loop μ-loop
 cast-judge-ends-2 c = search needs
 
--- src/lib.rt:383:15
 judge-ends-requires : tie.Need-judge-ends-requires Inv-loop μ-loop
 judge-ends-requires c κs = tt
 
 enum-told : tie.Need-enum-told Inv-loop μ-loop
 enum-told c = search needs
 
--- src/lib.rt:385:30
 enum-known-k : tie.Need-enum-known-k Inv-loop μ-loop
 enum-known-k c = search needs
 
--- src/lib.rt:386:17
 returns : tie.Need-returns Inv-loop μ-loop
 returns c =
     let k = c .before .before .before .before .before .before .before .before in
@@ -64,15 +51,12 @@ returns c =
     judge-refused (k .before .args .t1) long (k .before .pre) (k .loop .i) _ (c .before .before .before .judge-ends .ensures _) (c .before .before .before .before .before .before .before .loop-test .taken) _ (c .before .k .given .1)
     ∙ k .loop .inv .1
 
--- src/lib.rt:389:9
 add-i : tie.Need-add-i Inv-loop μ-loop
 add-i c = search needs
 
--- src/lib.rt:381:5
 loop-less : tie.Need-loop-less Inv-loop μ-loop
 loop-less c = search needs
 
--- src/lib.rt:381:5
 loop-again : tie.Need-loop-again Inv-loop μ-loop
 loop-again c =
     let k = c .before .before .before .before .before .before .before in
@@ -82,7 +66,6 @@ loop-again c =
           ∙ k .loop .inv .1,
     )
 
--- src/lib.rt:374:1
 returns-2 : tie.Need-returns-2 Inv-loop μ-loop
 returns-2 c =
     let k = c .before in

@@ -1,3 +1,4 @@
+-- `listing::judge_plant` meets its contract. Assumes nothing.
 use mathlib.Core.Path.{sym, _∙_}
 use borrow.Author.Tests.{not-true, not-false}
 use Rattle.listing.proofs.ReadLaws.{in-range}
@@ -5,46 +6,32 @@ use Rattle.listing.proofs.WriteLaws.{plant-range, plant-places, plant-l
 use borrow.Author.Needs.{needs}
 use Rattle.listing.proofs.judge_plant.Statement.{statement}
 use Rattle.listing.proofs.judge_plant.Tie as tie
-use Rattle.listing.proofs.judge_plant.Reads as reads
-use Rattle.listing.proofs.judge_plant.Lts as lts
-use Rattle.listing.proofs.judge_links.Reads as judge-links-reads
-use Rattle.listing.proofs.out_of_range.Reads as out-of-range-reads
-use Rattle.listing.proofs.places_zero.Reads as places-zero-reads
 
--- src/lib.rt:398:21
 cast-out-of-range : tie.Need-cast-out-of-range
 cast-out-of-range c = search needs
 
--- src/lib.rt:398:40
 cast-out-of-range-2 : tie.Need-cast-out-of-range-2
 cast-out-of-range-2 c = search needs
 
--- src/lib.rt:398:56
 cast-out-of-range-3 : tie.Need-cast-out-of-range-3
 cast-out-of-range-3 c = search needs
 
--- src/lib.rt:398:8
 out-of-range-requires : tie.Need-out-of-range-requires
 out-of-range-requires c κs = search needs
 
--- src/lib.rt:399:9
 returns : tie.Need-returns
 returns c = plant-range _ (sym (c .before .out-of-range .ensures) ∙ c .if1 .taken)
 
--- src/lib.rt:401:9
 places-zero-requires : tie.Need-places-zero-requires
 places-zero-requires c κs = search needs
 
--- src/lib.rt:402:9
 returns-2 : tie.Need-returns-2
 returns-2 c =
     plant-places _ (sym (c .before .before .before .out-of-range .ensures) ∙ c .before .before .if1 .left) (sym (c .before .places-zero .ensures) ∙ not-true _ (c .if2 .taken))
 
--- src/lib.rt:404:5
 judge-links-requires : tie.Need-judge-links-requires
 judge-links-requires c κs = in-range _ _ _ (sym (c .before .before .before .out-of-range .ensures) ∙ c .before .before .if1 .left) .few-links
 
--- src/lib.rt:395:1
 returns-3 : tie.Need-returns-3
 returns-3 c =
     c .judge-links .ensures

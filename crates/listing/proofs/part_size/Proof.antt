@@ -1,38 +1,29 @@
+-- `listing::part_size` meets its contract. Assumes nothing.
 use native.Mathlib.Omega.{arith}
 use lib.ListN.{length-append}
 use Rattle.listing.specs.Part.{partBytes}
 use borrow.Author.Needs.{needs}
 use Rattle.listing.proofs.part_size.Statement.{statement}
 use Rattle.listing.proofs.part_size.Tie as tie
-use Rattle.listing.proofs.part_size.Reads as reads
-use Rattle.listing.proofs.part_size.Lts as lts
-use Rattle.listing.proofs.field_size.Reads as field-size-reads
 
--- src/lib.rt:465:9
 field-size-requires : tie.Need-field-size-requires
 field-size-requires c κs = search needs
 
--- src/lib.rt:465:5
 add-result : tie.Need-add-result
 add-result c = search needs
 
--- src/lib.rt:465:28
 field-size-requires-2 : tie.Need-field-size-requires-2
 field-size-requires-2 c κs = search needs
 
--- src/lib.rt:465:5
 add-result-2 : tie.Need-add-result-2
 add-result-2 c = search needs
 
--- src/lib.rt:465:47
 field-size-requires-3 : tie.Need-field-size-requires-3
 field-size-requires-3 c κs = search needs
 
--- src/lib.rt:465:5
 add-result-3 : tie.Need-add-result-3
 add-result-3 c = search needs
 
--- src/lib.rt:461:1
 returns : tie.Need-returns
 unfolding partBytes
 returns c =

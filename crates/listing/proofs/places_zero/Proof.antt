@@ -1,7 +1,6 @@
 -- `listing::places_zero` meets its contract: the places from i on are zero exactly if all past the links are. Assumes nothing.
 use mathlib.Core.Path.{_≡_, refl, sym, _∙_}
 use Prim.Native.Nat.{_-_}
-use native.Mathlib.Omega.{arith}
 use borrow.Author.Needs.{needs}
 use borrow.Author.Tests.{not-true, not-false}
 use lib.ListN.{drop}
@@ -11,9 +10,6 @@ use Rattle.listing.specs.Writing.{isZero}
 use Rattle.listing.proofs.WriteLaws.{sized, zeros-on, zeros-not, zeros-end}
 use Rattle.listing.proofs.places_zero.Statement.{statement}
 use Rattle.listing.proofs.places_zero.Tie as tie
-use Rattle.listing.proofs.places_zero.Reads as reads
-use Rattle.listing.proofs.places_zero.Lts as lts
-use Rattle.listing.proofs.is_zero.Reads as is-zero-reads
 
 abbrev Inv-loop : tie.InvT-loop
 Inv-loop p i₀ i = all isZero (drop i (p .links)) ≡ all isZero (drop (p .count) (p .links))
@@ -21,49 +17,39 @@ Inv-loop p i₀ i = all isZero (drop i (p .links)) ≡ all isZero (drop (p .coun
 abbrev μ-loop : tie.MeasureT-loop
 μ-loop p i₀ i = maxLinks - i
 
--- src/lib.rt:363:17
 cast-i : tie.Need-cast-i Inv-loop μ-loop
 cast-i c = search needs
 
--- src/lib.rt:364:5
 loop-holds : tie.Need-loop-holds Inv-loop μ-loop
 loop-holds c = refl
 
--- src/lib.rt:365:21
 mul-is-zero : tie.Need-mul-is-zero Inv-loop μ-loop
 mul-is-zero c = search needs
 
--- src/lib.rt:365:21
 element-copy-out-is-zero : tie.Need-element-copy-out-is-zero Inv-loop μ-loop
 element-copy-out-is-zero c = search needs
 
--- src/lib.rt:365:13
 is-zero-requires : tie.Need-is-zero-requires Inv-loop μ-loop
 is-zero-requires c κs = tt
 
--- src/lib.rt:366:13
 returns : tie.Need-returns Inv-loop μ-loop
 returns c =
     let k = c .before .before .before .before in
     let long = sized _ (k .before .args .t1 .links) maxLinks (k .before .good .0 .1 .1 .1 .1 .1 .0 .1 .0 .1) in
     zeros-not (k .before .args .t1) long _ (c .before .before .before .loop-test .taken) (sym (c .before .is-zero .ensures) ∙ not-true _ (c .if1 .taken)) ∙ k .loop .inv
 
--- src/lib.rt:368:9
 add-i : tie.Need-add-i Inv-loop μ-loop
 add-i c = search needs
 
--- src/lib.rt:364:5
 loop-less : tie.Need-loop-less Inv-loop μ-loop
 loop-less c = search needs
 
--- src/lib.rt:364:5
 loop-again : tie.Need-loop-again Inv-loop μ-loop
 loop-again c =
     let k = c .before .before .before .before in
     let long = sized _ (k .before .args .t1 .links) maxLinks (k .before .good .0 .1 .1 .1 .1 .1 .0 .1 .0 .1) in
     zeros-on (k .before .args .t1) long _ (c .before .before .before .loop-test .taken) (sym (c .before .is-zero .ensures) ∙ not-false _ (c .if1 .left)) ∙ k .loop .inv
 
--- src/lib.rt:360:1
 returns-2 : tie.Need-returns-2 Inv-loop μ-loop
 returns-2 c =
     let k = c .before in

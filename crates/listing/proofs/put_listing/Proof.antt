@@ -1,3 +1,4 @@
+-- `listing::put_listing` meets its contract. Assumes nothing.
 use native.Mathlib.Omega.{arith}
 use Rattle.listing.specs.Listing.{headerBytes}
 use Rattle.listing.proofs.PutLaws.{laid}
@@ -5,18 +6,12 @@ use Rattle.listing.proofs.EncodeLaws.{encode-size, laid-listing}
 use borrow.Author.Needs.{needs}
 use Rattle.listing.proofs.put_listing.Statement.{statement}
 use Rattle.listing.proofs.put_listing.Tie as tie
-use Rattle.listing.proofs.put_listing.Reads as reads
-use Rattle.listing.proofs.put_listing.Lts as lts
-use Rattle.listing.proofs.put_header.Reads as put-header-reads
-use Rattle.listing.proofs.put_links.Reads as put-links-reads
 
--- src/lib.rt:576:9
 put-header-requires : tie.Need-put-header-requires
 put-header-requires c κs =
     let k = c .before .before in
     omega (arith, k .pre .1, encode-size (k .args .p))
 
--- src/lib.rt:577:5
 put-links-requires : tie.Need-put-links-requires
 put-links-requires c κs =
     let h = c .before .before .before in
@@ -25,11 +20,9 @@ put-links-requires c κs =
       omega (arith, k .pre .1, encode-size (k .args .p), h .put-header .ensures .0, laid (k .args .buf .now) (h .put-header .last .0) 0 (headerBytes (k .args .p)) (h .put-header .ensures .1)),
     )
 
--- src/lib.rt:572:1
 same-length : tie.Need-same-length
 same-length c = search needs
 
--- src/lib.rt:572:1
 returns : tie.Need-returns
 returns c =
     let l = c .before .before in

@@ -1,5 +1,5 @@
 -- `listing::put_number` meets its contract: the bytes from i on, laid into the buffer, give what all of them give. Assumes nothing.
-use mathlib.Core.Path.{_≡_, refl, sym, _∙_}
+use mathlib.Core.Path.{_≡_, refl, _∙_}
 use Prim.Native.Nat.{_+_, _-_, _≤_}
 use native.Mathlib.Omega.{arith}
 use borrow.Author.Needs.{needs}
@@ -9,8 +9,6 @@ use Rattle.listing.specs.Field.{bytesOf}
 use Rattle.listing.proofs.PutLaws.{bytes-next, bytes-end}
 use Rattle.listing.proofs.put_number.Statement.{statement}
 use Rattle.listing.proofs.put_number.Tie as tie
-use Rattle.listing.proofs.put_number.Reads as reads
-use Rattle.listing.proofs.put_number.Lts as lts
 
 abbrev Inv-loop : tie.InvT-loop
 Inv-loop buf₀ at width value v₀ i₀ buf v i =
@@ -19,34 +17,27 @@ Inv-loop buf₀ at width value v₀ i₀ buf v i =
 abbrev μ-loop : tie.MeasureT-loop
 μ-loop buf₀ at width value v₀ i₀ buf v i = width - i
 
--- src/lib.rt:418:5
 loop-holds : tie.Need-loop-holds Inv-loop μ-loop
 loop-holds c =
     let e : c .args .at + 0 ≡ c .args .at = omega arith in
     let k : c .args .width - 0 ≡ c .args .width = omega arith in
     (search needs, refl, rw (e, k) refl)
 
--- src/lib.rt:419:23
 cast-buf : tie.Need-cast-buf Inv-loop μ-loop
 cast-buf c = search needs
 
--- src/lib.rt:419:13
 add-buf : tie.Need-add-buf Inv-loop μ-loop
 add-buf c = search needs
 
--- src/lib.rt:419:9
 slice-write-buf : tie.Need-slice-write-buf Inv-loop μ-loop
 slice-write-buf c = search needs
 
--- src/lib.rt:421:9
 add-i : tie.Need-add-i Inv-loop μ-loop
 add-i c = search needs
 
--- src/lib.rt:418:5
 loop-less : tie.Need-loop-less Inv-loop μ-loop
 loop-less c = search needs
 
--- src/lib.rt:418:5
 loop-again : tie.Need-loop-again Inv-loop μ-loop
 loop-again c =
     let k = c .before in (
@@ -55,11 +46,9 @@ loop-again c =
       bytes-next (k .loop .buf) (k .before .args .at) (k .before .args .width) (k .loop .i) (k .loop .v) (c .loop-test .taken) ∙ k .loop .inv .2,
     )
 
--- src/lib.rt:412:1
 same-length : tie.Need-same-length Inv-loop μ-loop
 same-length c = search needs
 
--- src/lib.rt:412:1
 returns : tie.Need-returns Inv-loop μ-loop
 returns c =
     let k = c .before in

@@ -1,3 +1,4 @@
+-- `listing::put_part` meets its contract. Assumes nothing.
 use mathlib.Core.Path.{_≡_, ap, _∙_}
 use mathlib.Core.List.{_∷_, []}
 use Prim.Native.Nat.{ℕ, _+_, _*_}
@@ -9,56 +10,41 @@ use Rattle.listing.proofs.PutLaws.{laid, laid-behind, put-three, size-t
 use borrow.Author.Needs.{needs}
 use Rattle.listing.proofs.put_part.Statement.{statement}
 use Rattle.listing.proofs.put_part.Tie as tie
-use Rattle.listing.proofs.put_part.Reads as reads
-use Rattle.listing.proofs.put_part.Lts as lts
-use Rattle.listing.proofs.field_bit.Reads as field-bit-reads
-use Rattle.listing.proofs.put_field.Reads as put-field-reads
 
--- src/lib.rt:474:15
 field-bit-requires : tie.Need-field-bit-requires
 field-bit-requires c κs = search needs
 
--- src/lib.rt:474:38
 field-bit-requires-2 : tie.Need-field-bit-requires-2
 field-bit-requires-2 c κs = search needs
 
--- src/lib.rt:474:60
 field-bit-requires-3 : tie.Need-field-bit-requires-3
 field-bit-requires-3 c κs = search needs
 
--- src/lib.rt:474:56
 mul-buf : tie.Need-mul-buf
 mul-buf c = search needs
 
--- src/lib.rt:474:38
 add-buf : tie.Need-add-buf
 add-buf c = search needs
 
--- src/lib.rt:474:33
 mul-buf-2 : tie.Need-mul-buf-2
 mul-buf-2 c = search needs
 
--- src/lib.rt:474:15
 add-buf-2 : tie.Need-add-buf-2
 add-buf-2 c = search needs
 
--- src/lib.rt:474:5
 slice-write-buf : tie.Need-slice-write-buf
 slice-write-buf c =
     let k = c .before .before .before .before in
     omega (arith, k .pre, part-length (k .args .f) (k .args .g) (k .args .h) (k .args .x) (k .args .y) (k .args .z))
 
--- src/lib.rt:475:33
 add-put-field : tie.Need-add-put-field
 add-put-field c = search needs
 
--- src/lib.rt:475:9
 put-field-requires : tie.Need-put-field-requires
 put-field-requires c κs =
     let k = c .before .before .before .before .before in
     simp length-set (omega (arith, k .pre, part-length (k .args .f) (k .args .g) (k .args .h) (k .args .x) (k .args .y) (k .args .z)))
 
--- src/lib.rt:476:9
 put-field-requires-2 : tie.Need-put-field-requires-2
 put-field-requires-2 c κs =
     let w = c .before .before .before .before .before in
@@ -72,7 +58,6 @@ put-field-requires-2 c κs =
       laid-behind (k .args .buf .now) (p .last .0) (k .args .at) (w .before .before .field-bit .result + 2 * (w .before .field-bit2 .result + 2 * w .field-bit3 .result)) (k .args .at + 1) (fieldBytes (k .args .f) (k .args .x)) (p .ensures .1),
     )
 
--- src/lib.rt:477:5
 put-field-requires-3 : tie.Need-put-field-requires-3
 put-field-requires-3 c κs =
     let w = c .before .before .before .before .before .before .before .before .before in
@@ -89,7 +74,6 @@ put-field-requires-3 c κs =
       laid (p .last .0) (q .last .0) (p .result) (fieldBytes (k .args .g) (k .args .y)) (q .ensures .1),
     )
 
--- src/lib.rt:469:1
 same-length : tie.Need-same-length
 same-length c =
     let w = c .before .before .before .before .before .before .before .before .before .before .before .before in

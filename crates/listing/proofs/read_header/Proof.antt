@@ -1,34 +1,25 @@
+-- `listing::read_header` meets its contract. Assumes nothing.
 use mathlib.Core.Path.{_∙_}
 use Rattle.listing.proofs.ReadLaws.{header-values, header-refused}
 use borrow.Author.Needs.{needs}
 use Rattle.listing.proofs.read_header.Statement.{statement}
 use Rattle.listing.proofs.read_header.Tie as tie
-use Rattle.listing.proofs.read_header.Reads as reads
-use Rattle.listing.proofs.read_header.Lts as lts
-use Rattle.listing.proofs.judge_header.Reads as judge-header-reads
-use Rattle.listing.proofs.read_part.Reads as read-part-reads
 
--- src/lib.rt:211:11
 read-part-requires : tie.Need-read-part-requires
 read-part-requires c κs = search needs
 
--- src/lib.rt:212:22
 enum-known-switches : tie.Need-enum-known-switches
 enum-known-switches c = search needs
 
--- src/lib.rt:212:55
 judge-header-requires : tie.Need-judge-header-requires
 judge-header-requires c κs = search needs
 
--- src/lib.rt:213:23
 enum-known-k : tie.Need-enum-known-k
 enum-known-k c = search needs
 
--- src/lib.rt:205:1
 returns : tie.Need-returns
 returns c = c .judge-header .ensures _ ∙ header-values _ (c .before .before .before .before .before .before .args .at) _ _ _ _ _ (c .before .before .before .before .read-part .ensures .0) (c .before .before .switches .given .1)
 
--- src/lib.rt:205:1
 returns-2 : tie.Need-returns-2
 returns-2 c = header-refused _ (c .before .before .before .before .before .args .at) _ _ (c .before .before .before .read-part .ensures .0) (c .before .k .given .1)
 

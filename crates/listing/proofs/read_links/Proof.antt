@@ -1,5 +1,5 @@
 -- `listing::read_links` meets its contract: after each link, what is left of the listing gives what the whole gives. Assumes nothing.
-use mathlib.Core.Path.{_≡_, refl, sym, _∙_}
+use mathlib.Core.Path.{refl, _∙_}
 use Prim.Native.Nat.{_-_}
 use native.Mathlib.Omega.{arith}
 use borrow.Author.Needs.{needs}
@@ -8,12 +8,6 @@ use Rattle.model.specs.Limits.{maxLinks}
 use Rattle.listing.proofs.LinksLaws.{Read, none, read-none, read-refused, read-one, read-remains, read-all, reads-as, reads-given}
 use Rattle.listing.proofs.read_links.Statement.{statement}
 use Rattle.listing.proofs.read_links.Tie as tie
-use Rattle.listing.proofs.read_links.Reads as reads
-use Rattle.listing.proofs.read_links.Lts as lts
-use Rattle.listing.proofs.read_link.Reads as read-link-reads
-use Rattle.listing.proofs.refused_reading.Reads as refused-reading-reads
-use Rattle.plant.proofs.Link.zero.Reads as zero-reads
-use Rattle.plant.proofs.Plant.with.Reads as with-reads
 
 abbrev Inv-loop : tie.InvT-loop
 Inv-loop s from switches count start p₀ n before₀ at₀ i₀ p before at i =
@@ -22,45 +16,35 @@ Inv-loop s from switches count start p₀ n before₀ at₀ i₀ p before at i =
 abbrev μ-loop : tie.MeasureT-loop
 μ-loop s from switches count start p₀ n before₀ at₀ i₀ p before at i = n - i
 
--- src/lib.rt:278:17
 with-requires : tie.Need-with-requires Inv-loop μ-loop
 with-requires c κs = tt
 
--- src/lib.rt:280:9
 zero-requires : tie.Need-zero-requires Inv-loop μ-loop
 zero-requires c κs = tt
 
--- src/lib.rt:283:5
 loop-holds : tie.Need-loop-holds Inv-loop μ-loop
 loop-holds c = read-none _ _ _ _ _ (c .before .with .ensures ∙ none _ _ _) (c .zero .ensures)
 
--- src/lib.rt:284:15
 read-link-requires : tie.Need-read-link-requires Inv-loop μ-loop
 read-link-requires c κs = tt
 
--- src/lib.rt:285:26
 enum-known-l : tie.Need-enum-known-l Inv-loop μ-loop
 enum-known-l c = search needs
 
--- src/lib.rt:286:17
 mul-l : tie.Need-mul-l Inv-loop μ-loop
 unfolding plantWith
 mul-l c = omega (arith, c .before .before .before .before .before .before .before .before .before .pre)
 
--- src/lib.rt:286:17
 element-set-from-l : tie.Need-element-set-from-l Inv-loop μ-loop
 unfolding plantWith
 element-set-from-l c = omega (arith, c .before .before .before .before .before .before .before .before .before .pre)
 
--- src/lib.rt:290:29
 enum-known-k : tie.Need-enum-known-k Inv-loop μ-loop
 enum-known-k c = search needs
 
--- src/lib.rt:291:17
 refused-reading-requires : tie.Need-refused-reading-requires Inv-loop μ-loop
 refused-reading-requires c κs = tt
 
--- src/lib.rt:291:17
 returns : tie.Need-returns Inv-loop μ-loop
 unfolding plantWith
 returns c =
@@ -69,33 +53,27 @@ returns c =
     (read-refused _ (k .before .before .before .before .args .from) _ _ _ _ _ (k .loop .inv) _ (c .before .before .before .before .read-link .ensures) (c .before .before .before .before .before .loop-test .taken) _ (c .before .before .k .given .1))
     (c .refused-reading .ensures)
 
--- src/lib.rt:294:9
 add-i : tie.Need-add-i Inv-loop μ-loop
 add-i c = search needs
 
--- src/lib.rt:283:5
 loop-less : tie.Need-loop-less Inv-loop μ-loop
 loop-less c = search needs
 
--- src/lib.rt:283:5
 loop-again : tie.Need-loop-again Inv-loop μ-loop
 unfolding plantWith
 loop-again c =
     let k = c .before .before .before .before .before in
     read-one _ (k .before .before .before .before .args .from) _ _ _ _ _ (k .loop .inv) _ (c .before .before .before .read-link .ensures) (c .before .before .before .before .loop-test .taken) _ _ (k .before .before .before .before .pre) (c .before .l .given .1)
 
--- src/lib.rt:297:9
 refused-reading-requires-2 : tie.Need-refused-reading-requires-2 Inv-loop μ-loop
 refused-reading-requires-2 c κs = tt
 
--- src/lib.rt:297:9
 returns-2 : tie.Need-returns-2 Inv-loop μ-loop
 unfolding plantWith
 returns-2 c =
     let k = c .before .before .before in
     reads-as _ _ _ (read-remains _ (k .before .before .before .before .args .from) _ _ _ _ _ (k .loop .inv) (c .before .before .loop-test .left) (c .before .if1 .taken)) (c .refused-reading2 .ensures)
 
--- src/lib.rt:274:1
 returns-3 : tie.Need-returns-3 Inv-loop μ-loop
 unfolding plantWith
 returns-3 c =

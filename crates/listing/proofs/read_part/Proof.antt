@@ -1,64 +1,47 @@
+-- `listing::read_part` meets its contract. Assumes nothing.
 use mathlib.Core.Path.{_∙_}
 use native.Mathlib.Omega.{arith}
 use Rattle.listing.proofs.PartLaws.{part-none, part-undefined, part-short, part-fields}
 use borrow.Author.Needs.{needs}
 use Rattle.listing.proofs.read_part.Statement.{statement}
 use Rattle.listing.proofs.read_part.Tie as tie
-use Rattle.listing.proofs.read_part.Reads as reads
-use Rattle.listing.proofs.read_part.Lts as lts
-use Rattle.listing.proofs.read_fields.Reads as read-fields-reads
-use Rattle.listing.proofs.taken_by.Reads as taken-by-reads
-use Rattle.listing.proofs.wide.Reads as wide-reads
 
--- src/lib.rt:142:9
 returns : tie.Need-returns
 returns c = (part-none _ _ _ _ _ (c .if1 .taken), tt)
 
--- src/lib.rt:144:20
 shared-slice-read-wide : tie.Need-shared-slice-read-wide
 shared-slice-read-wide c = search needs
 
--- src/lib.rt:144:15
 wide-requires : tie.Need-wide-requires
 wide-requires c κs = search needs
 
--- src/lib.rt:144:15
 cast-map : tie.Need-cast-map
 cast-map c = search needs
 
--- src/lib.rt:146:9
 returns-2 : tie.Need-returns-2
 returns-2 c = (part-undefined _ _ _ _ _ (c .before .before .before .if1 .left) _ (c .before .wide .ensures .0) (c .if2 .taken), tt)
 
--- src/lib.rt:148:16
 add-from : tie.Need-add-from
 add-from c = search needs
 
--- src/lib.rt:149:16
 taken-by-requires : tie.Need-taken-by-requires
 taken-by-requires c κs = search needs
 
--- src/lib.rt:149:39
 taken-by-requires-2 : tie.Need-taken-by-requires-2
 taken-by-requires-2 c κs = search needs
 
--- src/lib.rt:149:16
 add-size : tie.Need-add-size
 add-size c = search needs
 
--- src/lib.rt:149:66
 taken-by-requires-3 : tie.Need-taken-by-requires-3
 taken-by-requires-3 c κs = search needs
 
--- src/lib.rt:149:16
 add-size-2 : tie.Need-add-size-2
 add-size-2 c = search needs
 
--- src/lib.rt:150:8
 sub-if3 : tie.Need-sub-if3
 sub-if3 c = search needs
 
--- src/lib.rt:151:9
 returns-3 : tie.Need-returns-3
 returns-3 c =
     let w = c .before .before .before .before in (
@@ -67,11 +50,9 @@ returns-3 c =
       tt,
     )
 
--- src/lib.rt:153:5
 read-fields-requires : tie.Need-read-fields-requires
 read-fields-requires c κs = search needs
 
--- src/lib.rt:136:1
 returns-4 : tie.Need-returns-4
 returns-4 c =
     let d = c .before in

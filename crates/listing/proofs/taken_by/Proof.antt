@@ -1,17 +1,14 @@
+-- `listing::taken_by` meets its contract. Assumes nothing.
 use native.Mathlib.Omega.{arith}
 use borrow.Author.Tests.{eq-eqb, ne-eqb}
 use Rattle.listing.specs.Part.{taken}
 use Rattle.listing.proofs.taken_by.Statement.{statement}
 use Rattle.listing.proofs.taken_by.Tie as tie
-use Rattle.listing.proofs.taken_by.Reads as reads
-use Rattle.listing.proofs.taken_by.Lts as lts
 
--- src/lib.rt:93:9
 returns : tie.Need-returns
 unfolding taken
 returns c = (simp (eq-eqb _ _ (c .if1 .taken)), omega arith)
 
--- src/lib.rt:88:1
 returns-2 : tie.Need-returns-2
 unfolding taken
 returns-2 c = (simp (ne-eqb _ _ (c .if1 .left)), c .before .pre .narrow)

@@ -1,3 +1,4 @@
+-- `listing::write` meets its contract. Assumes nothing.
 use mathlib.Core.Path.{sym, ap, _∙_}
 use Prim.Native.Nat.{_≤_, _<_}
 use native.Mathlib.Omega.{arith}
@@ -9,25 +10,16 @@ use Rattle.listing.proofs.EncodeLaws.{write-refused, kept-refused, writ
 use borrow.Author.Needs.{needs}
 use Rattle.listing.proofs.write.Statement.{statement}
 use Rattle.listing.proofs.write.Tie as tie
-use Rattle.listing.proofs.write.Reads as reads
-use Rattle.listing.proofs.write.Lts as lts
-use Rattle.listing.proofs.judge_plant.Reads as judge-plant-reads
-use Rattle.listing.proofs.listing_size.Reads as listing-size-reads
-use Rattle.listing.proofs.put_listing.Reads as put-listing-reads
 
--- src/lib.rt:585:11
 judge-plant-requires : tie.Need-judge-plant-requires
 judge-plant-requires c κs = search needs
 
--- src/lib.rt:587:17
 enum-told : tie.Need-enum-told
 enum-told c = search needs
 
--- src/lib.rt:587:17
 listing-size-requires : tie.Need-listing-size-requires
 listing-size-requires c κs = sound-few _ (sym (c .before .before .judge-plant .ensures) ∙ ap verdictAnswer (c .enum-told .given .1))
 
--- src/lib.rt:589:17
 returns : tie.Need-returns
 returns c =
     let j = c .before .before .before .before in
@@ -35,7 +27,6 @@ returns c =
     let h : length (k .args .buffer .now) < length (encode (k .args .p)) = omega (arith, c .if1 .taken, c .before .listing-size .ensures) in
     (write-short (k .args .p) (k .args .buffer .now) _ (j .judge-plant .ensures) (c .before .before .enum-told .given .1) h, kept-short (k .args .p) (k .args .buffer .now) _ (j .judge-plant .ensures) (c .before .before .enum-told .given .1) h)
 
--- src/lib.rt:591:13
 put-listing-requires : tie.Need-put-listing-requires
 put-listing-requires c κs =
     let j = c .before .before .before .before .before in (
@@ -43,15 +34,12 @@ put-listing-requires c κs =
       omega (arith, c .before .if1 .left, c .before .before .listing-size .ensures),
     )
 
--- src/lib.rt:594:26
 enum-known-k : tie.Need-enum-known-k
 enum-known-k c = search needs
 
--- src/lib.rt:581:1
 same-length : tie.Need-same-length
 same-length c = search needs
 
--- src/lib.rt:581:1
 returns-2 : tie.Need-returns-2
 returns-2 c =
     let w = c .before .before in
@@ -63,7 +51,6 @@ returns-2 c =
       w .put-listing .ensures ∙ left-written (k .args .p) (k .args .buffer .now) _ (j .judge-plant .ensures) (i .before .before .enum-told .given .1) h,
     )
 
--- src/lib.rt:581:1
 returns-3 : tie.Need-returns-3
 returns-3 c =
     let j = c .before .before .before in

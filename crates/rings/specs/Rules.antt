@@ -1,0 +1,29 @@
+-- The rules that packets run under, and the states of links (document 01, "Rules, packets, ring").
+use mathlib.Core.Bool.{Bool, not}
+use mathlib.Core.List.{List}
+use Prim.Native.Nat.{ℕ, _*_, _/_}
+use lib.Dec.{eqb}
+use lib.ListN.{getD}
+use Rattle.lists.specs.Count.{count}
+use Rattle.plant.specs.declared.Plant.{Plant}
+use Rattle.plant.specs.Links.{live}
+use Rattle.walks.specs.Arcs.{tail}
+use Rattle.walks.specs.Graph.{used}
+use Rattle.rings.specs.Packet.{rulesFor}
+
+-- is link l up, by one byte for each link? 0 is down, any other value up
+unfoldable pub upBy : List ℕ → ℕ → Bool
+upBy states l = not (eqb (getD states l 0) 0)
+
+module _ (p : Plant) where
+  -- the forwarding table (rule page) has a rule for each arc in use
+  unfoldable pub inTable : ℕ → ℕ → Bool
+  inTable = rulesFor (used p) (tail p)
+
+  -- with the rules that opposite arcs have of their own there is one for each arc: probes go out and back under these
+  unfoldable pub inAll : ℕ → ℕ → Bool
+  inAll = rulesFor (λ a. live p (a / 2)) (tail p)
+
+  -- how many these are in all, counted apart from the table
+  unfoldable pub allRules : ℕ
+  allRules = count (2 * p .count) (λ a. live p (a / 2))
