@@ -1,0 +1,70 @@
+-- An array of flags that is filled place by place, and how many of its flags are set. Assumes nothing.
+use mathlib.Core.Path.{_≡_, refl, sym, ap, _∙_, subst}
+use mathlib.Core.Logic.{_⊎_, inl, inr}
+use mathlib.Core.Bool.{Bool, false}
+use mathlib.Core.List.{List}
+use Prim.Native.Nat.{ℕ, _+_, _-_, _*_, _≤_, _<_}
+use native.Mathlib.Omega.{arith}
+use lib.Dec.{T, ltb, ltb→lt, nltb→le, not-T}
+use lib.ListN.{length, getD, set, replicate, length-set, length-replicate}
+use lib.Seq.{getD-set-same, getD-set-other}
+use Rattle.lists.specs.Tests.{T-or}
+use Rattle.lists.specs.Count.{count}
+use Rattle.graph.specs.Flags.{Flags, countSet}
+use Rattle.graph.proofs.Plain.{upto, getD-replicate, count-past, count-same}
+
+-- the flags below i tell where the test passes, and those from i on are not set
+pub record Filled (n : ℕ) (test : ℕ → Bool) (i : ℕ) (flags : List Bool) : Type 0 where
+  pub places : length flags ≡ n
+  pub tells : (j : ℕ) → j < i → getD flags j false ≡ test j
+  pub clear : (j : ℕ) → i ≤ j → getD flags j false ≡ false
+
+module _ (n : ℕ) (test : ℕ → Bool) where
+  pub filled-none : Filled n test 0 (replicate n false)
+  filled-none = record { places = length-replicate n false; tells = λ j h. absurd (omega arith); clear = λ j h. getD-replicate n j false }
+
+  module _ (i : ℕ) (flags : List Bool) (f : Filled n test i flags) where
+    -- the next place is right, and the others are as they were
+    filled-next : (more : List Bool) → length more ≡ n → ((j : ℕ) → (j ≡ i → ⊥) → getD more j false ≡ getD flags j false) → getD more i false ≡ test i
+        → Filled n test (i + 1) more
+    filled-next more long same right = record {
+      places = long;
+      tells = upto {P = λ j. getD more j false ≡ test j} (λ j h. same j (λ e. omega arith) ∙ f .tells j h) right;
+      clear = λ j h. same j (λ e. omega arith) ∙ f .clear j (omega arith);
+    }
+
+    pub filled-put : (b : Bool) → i < n → b ≡ test i → Filled n test (i + 1) (set flags i b)
+    filled-put b h e =
+        filled-next (set flags i b) (length-set flags i b ∙ f .places) (λ j q. getD-set-other flags i j b false q) (getD-set-same flags i b false (omega (arith, f .places)) ∙ e)
+
+    -- a place where the test fails is right as it is
+    pub filled-pass : test i ≡ false → Filled n test (i + 1) flags
+    filled-pass e = filled-next flags (f .places) (λ j q. refl) (f .clear i (omega arith) ∙ sym e)
+
+    -- the test fails from i on
+    pub filled-all : ((j : ℕ) → i ≤ j → test j ≡ false) → Flags n test flags
+    filled-all g = record { places = f .places; tells = λ j. at j (T-or (ltb j i)) }
+      where
+        at : (j : ℕ) → T (ltb j i) ⊎ (T (ltb j i) → ⊥) → getD flags j false ≡ test j
+        at j (inl t) = f .tells j (ltb→lt j i t)
+        at j (inr t) = let h : i ≤ j = nltb→le j i (not-T (ltb j i) t) in f .clear j h ∙ sym (g j h)
+
+  -- ---- two places a turn
+  module _ (l : ℕ) (flags : List Bool) (f : Filled n test (2 * l) flags) where
+    next : 2 * l + 1 + 1 ≡ 2 * (l + 1)
+    next = omega arith
+
+    pub filled-put-two : (a b : Bool) → 2 * l + 1 < n → a ≡ test (2 * l) → b ≡ test (2 * l + 1) → Filled n test (2 * (l + 1)) (set (set flags (2 * l) a) (2 * l + 1) b)
+    filled-put-two a b h d e =
+        subst (λ (i : ℕ). Filled n test i (set (set flags (2 * l) a) (2 * l + 1) b)) next
+        (filled-put (2 * l + 1) (set flags (2 * l) a) (filled-put (2 * l) flags f a (omega arith) d) b h e)
+
+    pub filled-pass-two : test (2 * l) ≡ false → test (2 * l + 1) ≡ false → Filled n test (2 * (l + 1)) flags
+    filled-pass-two d e = subst (λ (i : ℕ). Filled n test i flags) next (filled-pass (2 * l + 1) flags (filled-pass (2 * l) flags f d) e)
+
+  -- where the test fails from k on, as many flags are set as numbers below k pass
+  pub flags-count : (k : ℕ) (flags : List Bool) → Flags n test flags → k ≤ n → ((j : ℕ) → k ≤ j → test j ≡ false) → countSet flags ≡ count k test
+  unfolding countSet
+  flags-count k flags f h g =
+      let e : n ≡ k + (n - k) = omega arith in
+      ap (λ (m : ℕ). count m (λ i. getD flags i false)) (f .places ∙ e) ∙ count-same (k + (n - k)) (λ i. getD flags i false) test (f .tells) ∙ count-past test k (n - k) g

@@ -1,0 +1,43 @@
+-- The visit from the start, with no link left out, and what it tells: is the plant connected? Assumes a sound plant.
+use mathlib.Core.Path.{_≡_, sym, ap, _∙_, subst}
+use mathlib.Core.Bool.{true, false}
+use mathlib.Core.List.{List}
+use Prim.Native.Nat.{ℕ, _≤_, _<_}
+use native.Mathlib.Omega.{arith}
+use lib.Dec.{eqb}
+use lib.ListN.{getD}
+use borrow.Author.Tests.{ne-eqb}
+use Rattle.lists.specs.Members.{In, memb}
+use Rattle.lists.specs.Numbers.{range, range-in}
+use Rattle.plant.specs.declared.Plant.{Plant}
+use Rattle.plant.specs.Links.{live}
+use Rattle.model.specs.Limits.{maxLinks}
+use Rattle.model.specs.Sound.{Sound}
+use Rattle.walks.specs.Arcs.{labels}
+use Rattle.walks.specs.Graph.{arcs, others, visitFrom, visited, connected}
+use Rattle.graph.specs.declared.Visited.{Visited}
+use Rattle.graph.specs.Shows.{Shows}
+use Rattle.graph.specs.Steps.{takesPart}
+use Rattle.graph.proofs.Plain.{and-not, every-true, every-false, keep-same}
+
+-- no link is left out
+pub others-none : (p : Plant) (sk : ℕ) → p .count ≤ sk → others p sk ≡ arcs p
+unfolding others arcs
+others-none p sk h = ap labels (keep-same (takesPart p sk) (live p) (range 0 (p .count)) same)
+  where
+    same : (l : ℕ) → In l (range 0 (p .count)) → takesPart p sk l ≡ live p l
+    same l i = and-not (live p l) (eqb l sk) (ne-eqb l sk (λ e. omega (arith, range-in l 0 (p .count) i .1)))
+
+pub start-shows : (p : Plant) (sound : Sound p) (r : Visited) → Shows r (visitFrom p (p .start) (others p maxLinks)) → Shows r (visited p)
+unfolding visited
+start-shows p sound r h = subst (λ (bs : List ℕ). Shows r (visitFrom p (p .start) bs)) (others-none p maxLinks (sound .few-links)) h
+
+-- some switch is not reached, or none
+module _ (p : Plant) (v : Visited) (shows : Shows v (visited p)) where
+  pub connected-not : (x : ℕ) → x < p .switches → getD (v .seen) x false ≡ false → false ≡ connected p
+  unfolding connected
+  connected-not x h e = sym (every-false (p .switches) (λ y. memb y (visited p .ord)) x h (sym (shows .sees x) ∙ e))
+
+  pub connected-all : ((x : ℕ) → x < p .switches → getD (v .seen) x false ≡ true) → true ≡ connected p
+  unfolding connected
+  connected-all f = sym (every-true (p .switches) (λ y. memb y (visited p .ord)) (λ x h. sym (shows .sees x) ∙ f x h))

@@ -1,0 +1,10 @@
+pub mod Plain
+pub mod Unvisited
+pub mod Valid
+pub mod Links
+pub mod Entering
+pub mod Goes
+pub mod Whole
+pub mod FromStart
+pub mod Filled
+pub mod Uses

@@ -1,0 +1,110 @@
+-- Bridges, arcs in use and their numbers, by what the code reads of a visit. Assumes nothing, and a sound plant where a law says so.
+use mathlib.Core.Path.{_≡_, refl, sym, ap, _∙_}
+use mathlib.Core.Logic.{_⊎_, inl, inr}
+use mathlib.Core.Bool.{Bool, true, false, not}
+use mathlib.Core.List.{List}
+use Prim.Native.Nat.{ℕ, _+_, _*_, _/_, _≤_, _<_}
+use native.Mathlib.Omega.{arith}
+use lib.Dec.{T, not-T, ltb, ltb→lt, nltb→le}
+use lib.ListN.{getD}
+use borrow.Author.Tests.{le-ltb}
+use Rattle.lists.specs.Tests.{T-or, true-T, false-T, not-true-false}
+use Rattle.lists.specs.Members.{In, memb→in}
+use Rattle.plant.specs.declared.Link.{Link}
+use Rattle.plant.specs.declared.Plant.{Plant}
+use Rattle.plant.specs.Links.{first, second, live}
+use Rattle.model.specs.Limits.{maxSwitches, maxLinks}
+use Rattle.model.specs.Sound.{Sound}
+use Rattle.walks.specs.Arcs.{tail, head, Valid}
+use Rattle.walks.specs.Visit.{rank}
+use Rattle.walks.specs.Graph.{others, visitFrom, visited, bridge, entered, earlier, used, bridges, arcsUsed}
+use Rattle.walks.specs.Live.{live-below}
+use Rattle.walks.specs.Labels.{tail-even, tail-odd, head-even, head-odd, even-half, odd-half, even-arc}
+use Rattle.walks.specs.Visited.{visited-keeps}
+use Rattle.walks.specs.Tests.{bridge-live}
+use Rattle.walks.specs.Counting.{bridge-entered}
+use Rattle.graph.specs.declared.Visited.{Visited}
+use Rattle.graph.specs.Flags.{Flags, countSet}
+use Rattle.graph.specs.Shows.{Shows}
+use Rattle.graph.specs.Steps.{inUse}
+use Rattle.graph.proofs.Valid.{sound-valid}
+use Rattle.graph.proofs.Filled.{flags-count}
+
+module _ (p : Plant) where
+  -- ---- what does not take part is no bridge, and has no arc in use
+
+  dead-from : (l : ℕ) → p .count ≤ l → live p l ≡ false
+  unfolding live
+  dead-from l h = le-ltb l (p .count) h
+
+  pub bridge-dead : (l : ℕ) → live p l ≡ false → bridge p l ≡ false
+  unfolding bridge
+  bridge-dead l e = rw e
+
+  pub used-dead : (a l : ℕ) → a / 2 ≡ l → live p l ≡ false → used p a ≡ false
+  unfolding used
+  used-dead a l half e = rw (half, e)
+
+  pub bridge-past : (l : ℕ) → p .count ≤ l → bridge p l ≡ false
+  bridge-past l h = bridge-dead l (dead-from l h)
+
+  pub used-past : (a : ℕ) → 2 * p .count ≤ a → used p a ≡ false
+  used-past a h = used-dead a (a / 2) refl (dead-from (a / 2) (omega arith))
+
+  -- ---- what takes part
+
+  -- the ends of a link are switches
+  pub ends-in : (l : ℕ) → Sound p → live p l ≡ true → (first p l < p .switches) × (second p l < p .switches)
+  ends-in l sound e = let h = live-below p l (true-T (live p l) e) in (sound .first-in l h, sound .second-in l h)
+
+  pub bridge-seen : (l : ℕ) (v : Visited) → live p l ≡ true → Shows v (visitFrom p (first p l) (others p l)) → not (getD (v .seen) (second p l) false) ≡ bridge p l
+  unfolding bridge
+  bridge-seen l v e h = rw e (ap not (h .sees (second p l)))
+
+  -- every place has a switch for its link's first end
+  pub first-place : (l : ℕ) → Sound p → first p l < maxSwitches
+  first-place l sound = go (T-or (ltb l (p .count)))
+    where
+      go : T (ltb l (p .count)) ⊎ (T (ltb l (p .count)) → ⊥) → first p l < maxSwitches
+      go (inl t) = omega (arith, sound .first-in l (ltb→lt l (p .count) t), sound .few-switches)
+      go (inr t) = omega (arith, ap (λ (k : Link). k .first) (sound .zeros l (nltb→le l (p .count) (not-T (ltb l (p .count)) t))))
+
+  -- a link at a visited switch that the visit did not enter is no bridge
+  pub bridge-not-met : (l : ℕ) (v : Visited) → Sound p → Shows v (visited p) → getD (v .entered) l false ≡ false → getD (v .seen) (first p l) false ≡ true → bridge p l ≡ false
+  unfolding entered
+  bridge-not-met l v sound h e f = not-true-false (bridge p l) (λ q. false-T _ (sym (h .enters l) ∙ e) (met (true-T (bridge p l) q)))
+    where
+      ok : Valid p
+      ok = sound-valid p sound
+
+      x-in : In (first p l) (visited p .ord)
+      x-in = memb→in (first p l) (visited p .ord) (true-T _ (sym (h .sees (first p l)) ∙ f))
+
+      y-in : T (bridge p l) → In (second p l) (visited p .ord)
+      y-in t = rw (head-even p l) at (visited-keeps p ok (2 * l) (even-arc p l (bridge-live p l t)) (rw (tail-even p l) x-in))
+
+      met : T (bridge p l) → T (entered p l)
+      met t = bridge-entered p ok l t x-in (y-in t)
+
+  -- r is what the code finds of arc a of link l, from x to y, where it was told b of the link
+  used-at : (a l x y : ℕ) (v : Visited) → live p l ≡ true → Shows v (visited p) → a / 2 ≡ l → tail p a ≡ x → head p a ≡ y
+      → (r b : Bool) → b ≡ bridge p l → r ≡ inUse b (getD (v .entered) l false) (getD (v .rank) x 0) (getD (v .rank) y 0) → r ≡ used p a
+  unfolding used inUse entered earlier
+  used-at a l x y v e h half t u r b f q = q ∙ rw (half, t, u, e, f, h .enters l, h .ranks x, h .ranks y)
+
+  module _ (l : ℕ) (v : Visited) (e : live p l ≡ true) (h : Shows v (visited p)) (r b : Bool) (f : b ≡ bridge p l) where
+    pub used-even : r ≡ inUse b (getD (v .entered) l false) (getD (v .rank) (first p l) 0) (getD (v .rank) (second p l) 0) → r ≡ used p (2 * l)
+    used-even = used-at (2 * l) l (first p l) (second p l) v e h (even-half l) (tail-even p l) (head-even p l) r b f
+
+    pub used-odd : r ≡ inUse b (getD (v .entered) l false) (getD (v .rank) (second p l) 0) (getD (v .rank) (first p l) 0) → r ≡ used p (2 * l + 1)
+    used-odd = used-at (2 * l + 1) l (second p l) (first p l) v e h (odd-half l) (tail-odd p l) (head-odd p l) r b f
+
+  -- ---- how many
+
+  pub bridges-counted : (flags : List Bool) → Sound p → Flags maxLinks (bridge p) flags → countSet flags ≡ bridges p
+  unfolding bridges
+  bridges-counted flags sound f = flags-count maxLinks (bridge p) (p .count) flags f (sound .few-links) bridge-past
+
+  pub arcs-counted : (flags : List Bool) → Sound p → Flags (2 * maxLinks) (used p) flags → countSet flags ≡ arcsUsed p
+  unfolding arcsUsed
+  arcs-counted flags sound f = flags-count (2 * maxLinks) (used p) (2 * p .count) flags f (omega (arith, sound .few-links)) used-past

@@ -1,0 +1,54 @@
+-- `graph::count_set` meets its contract. The loop's invariant: n flags are set below i. Assumes nothing.
+use mathlib.Core.Path.{_≡_, refl, sym, ap, _∙_}
+use mathlib.Core.Logic.{⊎-elim}
+use mathlib.Core.Bool.{false}
+use Prim.Native.Nat.{ℕ, _+_, _-_, _≤_}
+use native.Mathlib.Omega.{arith}
+use lib.ListN.{length, getD}
+use Rattle.lists.specs.Count.{count, count-all}
+use Rattle.graph.specs.Flags.{countSet}
+use Rattle.graph.proofs.Plain.{count-yes, count-no}
+use Rattle.graph.proofs.count_set.Statement.{statement}
+use Rattle.graph.proofs.count_set.Tie as tie
+
+abbrev Inv-loop : tie.InvT-loop
+Inv-loop flags n₀ i₀ n i = (i ≤ length flags) × (n ≡ count i (λ j. getD flags j false))
+
+abbrev μ-loop : tie.MeasureT-loop
+μ-loop flags n₀ i₀ n i = length flags - i
+
+loop-holds : tie.Need-loop-holds Inv-loop μ-loop
+unfolding count
+loop-holds c = (omega arith, refl)
+
+shared-slice-read-if1 : tie.Need-shared-slice-read-if1 Inv-loop μ-loop
+shared-slice-read-if1 c = omega arith
+
+add-n : tie.Need-add-n Inv-loop μ-loop
+add-n c =
+    let k = c .before .before .before .loop in
+    omega (arith, k .inv .1, count-all (k .i) (λ j. getD (c .before .before .before .before .args .flags .now) j false))
+
+add-i : tie.Need-add-i Inv-loop μ-loop
+add-i c = omega arith
+
+loop-less : tie.Need-loop-less Inv-loop μ-loop
+loop-less c = omega arith
+
+loop-again : tie.Need-loop-again Inv-loop μ-loop
+loop-again c =
+    let k = c .before .before .before .loop in
+    let flag : ℕ → _ = λ j. getD (c .before .before .before .before .args .flags .now) j false in (
+      omega arith,
+      ⊎-elim (λ w. w .1 ∙ ap (λ (m : ℕ). m + 1) (k .inv .1) ∙ sym (count-yes flag (k .i) (w .0 .taken))) (λ w. w .1 ∙ k .inv .1 ∙ sym (count-no flag (k .i) (w .0 .left))) (c .if1 .came),
+    )
+
+returns : tie.Need-returns Inv-loop μ-loop
+unfolding countSet
+returns c =
+    let l : c .before .loop .i ≡ length (c .before .before .args .flags .now) = omega arith in
+    c .before .loop .inv .1 ∙ ap (λ (m : ℕ). count m (λ j. getD (c .before .before .args .flags .now) j false)) l
+
+pub count-set-spec : {M : Type 1} → statement M
+count-set-spec =
+    tie.close (tie.spec Inv-loop μ-loop loop-holds shared-slice-read-if1 add-n add-i loop-less loop-again returns)

@@ -1,0 +1,16 @@
+-- `graph::is_live` meets its contract. Assumes nothing.
+use mathlib.Core.Path.{refl}
+use borrow.Author.Needs.{needs}
+use Rattle.plant.specs.Links.{live}
+use Rattle.graph.proofs.is_live.Statement.{statement}
+use Rattle.graph.proofs.is_live.Tie as tie
+
+cast-e : tie.Need-cast-e
+cast-e c = search needs
+
+returns : tie.Need-returns
+unfolding live
+returns c = refl
+
+pub is-live-spec : {M : Type 1} → statement M
+is-live-spec = tie.close (tie.spec cast-e returns)

@@ -1,0 +1,272 @@
+// The depth-first visit of a plant, by value, and what follows from it: which switches are reached, bridges, and arcs in use.
+ghost use mathlib.Core.Path.{_≡_};
+ghost use mathlib.Core.Bool.{false};
+ghost use Prim.Native.Nat.{_*_, _<_};
+ghost use Rattle.lists.specs.Members.{memb};
+ghost use Rattle.model.specs.Limits.{maxSwitches, maxLinks};
+ghost use Rattle.model.specs.Sound.{Sound};
+ghost use Rattle.plant.specs.Links.{live};
+ghost use Rattle.walks.specs.Graph.{others, visitFrom, visited, connected, bridge, used, bridges, arcsUsed};
+ghost use Rattle.graph.specs.Flags.{Flags, countSet};
+ghost use Rattle.graph.specs.Shows.{Shows};
+ghost use Rattle.graph.specs.Steps.{farEnd, takesPart, enterOf, beginOf, At, Went, inUse};
+use plant::Link;
+use plant::Plant;
+
+// How far a visit has come: `next` switches are visited, `seen` tells which, `rank` numbers them from 0 in the order of the visit, and `entered` tells
+// by which links they were entered.
+pub struct Visited {
+    pub next: u8,
+    pub seen: [bool; Plant::MAX_SWITCHES as usize],
+    pub rank: [u8; Plant::MAX_SWITCHES as usize],
+    pub entered: [bool; Plant::MAX_LINKS],
+}
+
+// The end of link k away from the switch `at`, and `at` itself of a link that is not at it.
+fn far(k: Link, at: u8) -> u8
+    ensures { λ r. ⌜ r ≡ farEnd k at ⌝ }
+{
+    if k.first == at {
+        return k.second;
+    }
+    if k.second == at {
+        return k.first;
+    }
+    at
+}
+
+// Does link l take part in the plant?
+pub fn is_live(p: Plant, l: usize) -> bool
+    ensures { λ r. ⌜ r ≡ live p l ⌝ }
+{
+    let e = p.count as usize;
+    l < e
+}
+
+// Does link l take part in a visit that leaves link `skip` out?
+fn takes_part(p: Plant, skip: usize, l: usize) -> bool
+    ensures { λ r. ⌜ r ≡ takesPart p skip l ⌝ }
+{
+    is_live(p, l) && l != skip
+}
+
+// Link l is entered, and the switch `to` is visited.
+fn enter(v: Visited, to: u8, l: usize) -> Visited
+    requires { ⌜ to < maxSwitches ⌝ }
+    requires { ⌜ l < maxLinks ⌝ }
+    requires { ⌜ v .next < maxSwitches ⌝ }
+    ensures { λ r. ⌜ r ≡ enterOf v to l ⌝ }
+{
+    let mut r = v;
+    let i = to as usize;
+    let n = r.next;
+    r.next = n + 1;
+    r.seen[i] = true;
+    r.rank[i] = n;
+    r.entered[l] = true;
+    r
+}
+
+// The visit goes on from the switch `at`, which is visited. It tries the links by rising number, and calls itself for each switch that it enters. The
+// number of unvisited switches falls with each call, so it calls itself no deeper than there are switches.
+fn visit_from(p: Plant, skip: usize, v0: Visited, at: u8) -> Visited
+    requires { ⌜ Sound p ⌝ }
+    requires { ⌜ At p v0 at ⌝ }
+    ensures { λ r. ⌜ Went p skip v0 at r ⌝ }
+{
+    let mut v = v0;
+    let e = p.count as usize;
+    let mut l: usize = 0;
+    while l < e {
+        if takes_part(p, skip, l) {
+            let to = far(p.links[l], at);
+            let j = to as usize;
+            if !v.seen[j] {
+                v = visit_from(p, skip, enter(v, to, l), to);
+            }
+        }
+        l += 1;
+    }
+    v
+}
+
+// The switch `at` is visited, and nothing else yet.
+fn begin(at: u8) -> Visited
+    requires { ⌜ at < maxSwitches ⌝ }
+    ensures { λ r. ⌜ r ≡ beginOf at ⌝ }
+{
+    let mut v = Visited {
+        next: 1,
+        seen: [false; Plant::MAX_SWITCHES as usize],
+        rank: [0; Plant::MAX_SWITCHES as usize],
+        entered: [false; Plant::MAX_LINKS],
+    };
+    let i = at as usize;
+    v.seen[i] = true;
+    v
+}
+
+// The depth-first visit from a switch, with link `skip` left out. A number from the link count on leaves none out.
+pub fn visit(p: Plant, skip: usize, from: u8) -> Visited
+    requires { ⌜ Sound p ⌝ }
+    requires { ⌜ from < p .switches ⌝ }
+    ensures { λ r. ⌜ Shows r (visitFrom p from (others p skip)) ⌝ }
+{
+    visit_from(p, skip, begin(from), from)
+}
+
+// The visit from the start, with all links: the numbering of the switches.
+pub fn visit_start(p: Plant) -> Visited
+    requires { ⌜ Sound p ⌝ }
+    ensures { λ r. ⌜ Shows r (visited p) ⌝ }
+{
+    visit(p, Plant::MAX_LINKS, p.start)
+}
+
+// Which switches are reached from a switch, with link `skip` left out.
+pub fn reach(p: Plant, skip: usize, from: u8) -> [bool; Plant::MAX_SWITCHES as usize]
+    requires { ⌜ Sound p ⌝ }
+    requires { ⌜ from < p .switches ⌝ }
+    ensures { λ r. ⌜ Flags maxSwitches (λ x. memb x (visitFrom p from (others p skip) .ord)) r ⌝ }
+{
+    let v = visit(p, skip, from);
+    v.seen
+}
+
+// Is every switch reached from the start? Refusal 9 is tried by this.
+pub fn is_connected(p: Plant) -> bool
+    requires { ⌜ Sound p ⌝ }
+    ensures { λ r. ⌜ r ≡ connected p ⌝ }
+{
+    let v = visit_start(p);
+    let e = p.switches as usize;
+    let mut i: usize = 0;
+    while i < e {
+        if !v.seen[i] {
+            return false;
+        }
+        i += 1;
+    }
+    true
+}
+
+// Is link l a bridge: are its two ends not joined without it?
+pub fn is_bridge(p: Plant, l: usize) -> bool
+    requires { ⌜ Sound p ⌝ }
+    requires { ⌜ l < maxLinks ⌝ }
+    ensures { λ r. ⌜ r ≡ bridge p l ⌝ }
+{
+    if !is_live(p, l) {
+        return false;
+    }
+    let k = p.links[l];
+    let v = visit(p, l, k.first);
+    let j = k.second as usize;
+    !v.seen[j]
+}
+
+// Can link l be a bridge, after the visit v from the start? A link at a visited switch that the visit did not enter is none.
+fn may_be_bridge(p: Plant, v: Visited, l: usize) -> bool
+    requires { ⌜ Sound p ⌝ }
+    requires { ⌜ Shows v (visited p) ⌝ }
+    requires { ⌜ l < maxLinks ⌝ }
+    ensures { λ r. ⌜ (r ≡ false → bridge p l ≡ false) ⌝ }
+{
+    let k = p.links[l];
+    let x = k.first as usize;
+    v.entered[l] || !v.seen[x]
+}
+
+// A flag for each link: is it a bridge? Only links that can be one are tested.
+pub fn bridges(p: Plant) -> [bool; Plant::MAX_LINKS]
+    requires { ⌜ Sound p ⌝ }
+    ensures { λ r. ⌜ Flags maxLinks (bridge p) r ⌝ }
+{
+    let v = visit_start(p);
+    let mut b = [false; Plant::MAX_LINKS];
+    let mut l: usize = 0;
+    while l < Plant::MAX_LINKS {
+        if may_be_bridge(p, v, l) {
+            b[l] = is_bridge(p, l);
+        }
+        l += 1;
+    }
+    b
+}
+
+// Is an arc in use whose tail and head the visit numbered so? Both arcs of a bridge are; of an entered link that is no bridge, the arc from earlier to
+// later visited; of every other link, the arc from later to earlier.
+fn in_use(bridge: bool, entered: bool, tail: u8, head: u8) -> bool
+    ensures { λ r. ⌜ r ≡ inUse bridge entered tail head ⌝ }
+{
+    if bridge {
+        return true;
+    }
+    if entered {
+        return tail < head;
+    }
+    head < tail
+}
+
+// A flag for each label: is its arc in use? The flags of the bridges are given.
+pub fn arcs_with(p: Plant, b: [bool; Plant::MAX_LINKS]) -> [bool; 2 * Plant::MAX_LINKS]
+    requires { ⌜ Sound p ⌝ }
+    requires { ⌜ Flags maxLinks (bridge p) b ⌝ }
+    ensures { λ r. ⌜ Flags (2 * maxLinks) (used p) r ⌝ }
+{
+    let v = visit_start(p);
+    let mut u = [false; 2 * Plant::MAX_LINKS];
+    let mut l: usize = 0;
+    while l < Plant::MAX_LINKS {
+        if is_live(p, l) {
+            let k = p.links[l];
+            let x = v.rank[k.first as usize];
+            let y = v.rank[k.second as usize];
+            u[2 * l] = in_use(b[l], v.entered[l], x, y);
+            u[2 * l + 1] = in_use(b[l], v.entered[l], y, x);
+        }
+        l += 1;
+    }
+    u
+}
+
+// A flag for each label: is its arc in use?
+pub fn arcs_in_use(p: Plant) -> [bool; 2 * Plant::MAX_LINKS]
+    requires { ⌜ Sound p ⌝ }
+    ensures { λ r. ⌜ Flags (2 * maxLinks) (used p) r ⌝ }
+{
+    arcs_with(p, bridges(p))
+}
+
+// How many flags are set?
+pub fn count_set(flags: &[bool]) -> usize
+    ensures { λ r. ⌜ r ≡ countSet (now (flags .entry)) ⌝ }
+{
+    let mut n: usize = 0;
+    let mut i: usize = 0;
+    while i < flags.len() {
+        if flags[i] {
+            n += 1;
+        }
+        i += 1;
+    }
+    n
+}
+
+// How many links are bridges?
+pub fn count_bridges(p: Plant) -> usize
+    requires { ⌜ Sound p ⌝ }
+    ensures { λ r. ⌜ r ≡ bridges p ⌝ }
+{
+    let b = bridges(p);
+    count_set(&b)
+}
+
+// How many arcs are in use?
+pub fn count_arcs(p: Plant) -> usize
+    requires { ⌜ Sound p ⌝ }
+    ensures { λ r. ⌜ r ≡ arcsUsed p ⌝ }
+{
+    let u = arcs_in_use(p);
+    count_set(&u)
+}
