@@ -5,3 +5,10 @@ pub mod LinksLaws
 pub mod WriteLaws
 pub mod PutLaws
 pub mod EncodeLaws
+pub mod PartRoundTrip
+pub mod Refusing
+pub mod SoundLaws
+pub mod ConditionLaws
+pub mod RoundTrip
+pub mod WriteRoundTrip
+pub mod Longest

@@ -3,3 +3,4 @@ pub mod Part
 pub mod Listing
 pub mod Writing
 pub mod Answers
+pub mod Conditions

@@ -1,4 +1,4 @@
--- Membership in a list of numbers: as a relation, as a test, at a place; a test at all members; distinct members. Assumes nothing.
+-- Membership in a list of numbers: as a relation, as a test, at a place; a test at all members, and what holds of each; distinct members. Assumes nothing.
 use mathlib.Core.Path.{_≡_, refl, sym, ap, _∙_, subst}
 use mathlib.Core.Logic.{_⊎_, inl, inr}
 use mathlib.Core.Bool.{Bool, true, false, not, _&&_, _||_}
@@ -6,7 +6,7 @@ use mathlib.Core.List.{List, [], _∷_, _++_}
 use Prim.Native.Nat.{ℕ, zero, suc, _+_, _≤_, _<_}
 use native.Mathlib.Omega.{arith}
 use lib.Dec.{T, eqb, eqb→eq}
-use lib.ListN.{length, getD}
+use lib.ListN.{length, getD, replicate}
 use Rattle.lists.specs.Tests.{T-or, eq→eqb, or-left, or-right, or-cases, and-true, and-assoc}
 
 abbrev pub In : ℕ → List ℕ → Type 0
@@ -87,6 +87,27 @@ at-all p (y ∷ xs) f = rw (f y (inl refl)) (at-all p xs (λ x h. f x (inr h)))
 pub all-append : {A : Type 0} (p : A → Bool) (xs ys : List A) → all p (xs ++ ys) ≡ all p xs && all p ys
 all-append p [] ys = refl
 all-append p (x ∷ xs) ys = ap (λ (b : Bool). p x && b) (all-append p xs ys) ∙ sym (and-assoc (p x) (all p xs) (all p ys))
+
+-- ---- what holds of each member, at its place
+
+abbrev pub Each : {A : Type 0} → (A → Type 0) → List A → Type 0
+Each P [] = Unit
+Each P (x ∷ xs) = P x × Each P xs
+
+pub each-at : {A : Type 0} (P : A → Type 0) (xs : List A) (d : A) → Each P xs → (i : ℕ) → i < length xs → P (getD xs i d)
+each-at P [] d h i k = absurd (omega arith)
+each-at P (x ∷ xs) d h zero k = h .0
+each-at P (x ∷ xs) d h (suc i) k = each-at P xs d (h .1) i (omega arith)
+
+pub at-each : {A : Type 0} (P : A → Type 0) (xs : List A) (d : A) → ((i : ℕ) → i < length xs → P (getD xs i d)) → Each P xs
+at-each P [] d f = tt
+at-each P (x ∷ xs) d f = (f 0 (omega arith), at-each P xs d (λ i h. f (suc i) (omega arith)))
+
+-- a list of one value has it at every place, and past its end as the default
+pub getD-same : {A : Type 0} (n i : ℕ) (a : A) → getD (replicate n a) i a ≡ a
+getD-same zero i a = refl
+getD-same (suc n) zero a = refl
+getD-same (suc n) (suc i) a = getD-same n i a
 
 -- ---- distinct members
 

@@ -1,6 +1,6 @@
 -- A choice by a test, and laws of tests. Assumes nothing.
 use mathlib.Core.Path.{_≡_, refl, sym, ap, _∙_, subst}
-use mathlib.Core.Logic.{_⊎_, inl, inr}
+use mathlib.Core.Logic.{_⊎_, inl, inr, _↔_}
 use mathlib.Core.Bool.{Bool, true, false, not, _&&_, _||_}
 use Prim.Native.Nat.{ℕ}
 use native.Mathlib.Omega.{arith}
@@ -37,6 +37,14 @@ not-both b e f = false-T b f (true-T b e)
 pub not-true-false : (b : Bool) → (b ≡ true → ⊥) → b ≡ false
 not-true-false true f = absurd (f refl)
 not-true-false false f = refl
+
+-- a test that fails exactly if P holds passes exactly if P does not
+pub true-exactly : {P : Type 0} (b : Bool) → ((b ≡ false) ↔ P) → ((b ≡ true) ↔ (P → ⊥))
+true-exactly {P} b e = (λ t p. not-both b t (e .1 p), go b (e .0))
+  where
+    go : (c : Bool) → (c ≡ false → P) → (P → ⊥) → c ≡ true
+    go true f h = refl
+    go false f h = absurd (h (f refl))
 
 -- two tests that pass together are equal
 pub same-test : (a b : Bool) → (a ≡ true → b ≡ true) → (b ≡ true → a ≡ true) → a ≡ b
@@ -115,6 +123,15 @@ or-cases false b t = inr t
 pub or-false : (a b : Bool) → a || b ≡ false → (a ≡ false) × (b ≡ false)
 or-false true b e = absurd (not-both true refl e)
 or-false false b e = (refl, e)
+
+pub or-true : (a b : Bool) → a || b ≡ true → (a ≡ true) ⊎ (b ≡ true)
+or-true true b e = inl refl
+or-true false b e = inr e
+
+pub true-or : (a b : Bool) → (a ≡ true) ⊎ (b ≡ true) → a || b ≡ true
+true-or true b h = refl
+true-or false b (inl e) = absurd (not-both false e refl)
+true-or false b (inr e) = e
 
 -- ---- numbers
 
