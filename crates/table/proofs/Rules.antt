@@ -13,7 +13,8 @@ use Rattle.lists.specs.Kept.{kept-yes, kept-no, kept-length, kept-room}
 use Rattle.plant.specs.declared.Plant.{Plant}
 use Rattle.model.specs.Limits.{maxSwitches, maxLinks}
 use Rattle.model.specs.Sound.{Sound}
-use Rattle.walks.specs.Arcs.{tail, head}
+use Rattle.plant.specs.Links.{first, second}
+use Rattle.walks.specs.Arcs.{side, tail, head}
 use Rattle.walks.specs.Graph.{Connected, used, liveLinks, bridges, arcsUsed}
 use Rattle.walks.specs.Live.{all-live}
 use Rattle.walks.specs.Counting.{arcs-in-use, arcs-in-use-all, few-bridges}
@@ -53,6 +54,12 @@ module _ (p : Plant) where
   pub rules-no : (a : ℕ) → used p a ≡ false → rulesBelow p (a + 1) ≡ rulesBelow p a
   unfolding rulesBelow
   rules-no a e = ap (map (ruleOf p)) (kept-no (used p) a (false-T (used p a) e))
+
+  -- the rule as the code makes it, from the ends of the arc's link
+  pub rule-is : (a x y : ℕ) → x ≡ side (a % 2) (first p (a / 2)) (second p (a / 2)) → y ≡ side (a % 2) (second p (a / 2)) (first p (a / 2))
+      → record { from = x; label = a; to = y } ≡ ruleOf p a
+  unfolding tail head
+  rule-is a x y e f = ap₂ (λ (u v : ℕ). record { from = u; label = a; to = v }) e f
 
   pub table-none : tableWith [] ≡ tableWith (rulesBelow p 0)
   unfolding rulesBelow

@@ -1,11 +1,12 @@
+-- `table::Table::empty` meets its contract. Assumes nothing.
+use mathlib.Core.Path.{refl}
+use Rattle.table.specs.Rules.{tableWith}
 use Rattle.table.proofs.Table.empty.Statement.{statement}
 use Rattle.table.proofs.Table.empty.Tie as tie
-use Rattle.table.proofs.Table.empty.Reads as reads
-use Rattle.table.proofs.Table.empty.Lts as lts
 
--- src/lib.rt:29:5
 returns : tie.Need-returns
-returns c = ?
+unfolding tableWith
+returns c = refl
 
 pub empty-spec : {M : Type 1} → statement M
 empty-spec = tie.close (tie.spec returns)
