@@ -97,7 +97,7 @@ each-sound : (switches : ℕ) (ls : List Link) → Each (Linked switches) ls →
 each-sound switches [] h = refl
 each-sound switches (l ∷ ls) h = rw (ends-sound switches l (h .0 .ends)) (each-sound switches ls (h .1))
 
-sound-given : (p : Plant) → Sound p → soundPlant p ≡ given tt
+pub sound-given : (p : Plant) → Sound p → soundPlant p ≡ given tt
 unfolding soundPlant plantOutOfRange
 sound-given p s =
     let r = sound-parts p s in
@@ -142,7 +142,7 @@ sound-exactly p t = (given-sound p t, sound-given p)
 -- ---- the lent buffer
 
 -- what a listing that was written needs: a sound plant, and a buffer that is long enough
-written-given : (p : Plant) (b : List ℕ) (n : ℕ) → written p b ≡ given n → (soundPlant p ≡ given tt) × (length (encode p) ≤ length b) × (length (encode p) ≡ n)
+pub written-given : (p : Plant) (b : List ℕ) (n : ℕ) → written p b ≡ given n → (soundPlant p ≡ given tt) × (length (encode p) ≤ length b) × (length (encode p) ≡ n)
 unfolding written bufferShort
 written-given p b n e =
     let q = then-given (soundPlant p) (λ _. refuse 16 (bufferShort p b) (given (length (encode p)))) n e in

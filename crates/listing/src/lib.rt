@@ -286,7 +286,7 @@ pub fn read_link(s: &[u8], at: usize, before: Link, switches: u8) -> Record
 }
 
 // A refused reading.
-fn refused_reading(k: Refusal) -> Decoded
+pub fn refused_reading(k: Refusal) -> Decoded
     ensures { λ r. ⌜ Reads (refused (numberOf k)) r ⌝ }
 {
     let plant = Plant::empty();

@@ -1,0 +1,4 @@
+pub mod Owned
+pub mod Plans
+pub mod Again
+pub mod Tabling

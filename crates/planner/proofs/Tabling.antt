@@ -1,0 +1,27 @@
+-- The forwarding table of a listing: what the call answers, by the answer of planning. Assumes nothing.
+use mathlib.Core.Path.{_≡_, refl, sym, ap, _∙_, subst}
+use mathlib.Core.List.{List, []}
+use Prim.Native.Nat.{ℕ}
+use Rattle.plant.specs.declared.Plant.{Plant}
+use Rattle.plant.specs.declared.Refusal.{Refusal}
+use Rattle.plant.specs.Refusals.{given, refused, _>>=_, numberOf}
+use Rattle.listing.specs.declared.Verdict.{Verdict}
+use Rattle.listing.specs.declared.Verdict.the-variants as verdict
+use Rattle.table.specs.declared.Table.{Table}
+use Rattle.table.specs.Rules.{tableWith, tableOf}
+use Rattle.planner.specs.Planning.{planning}
+use Rattle.planner.specs.Calls.{tabling}
+use Rattle.planner.specs.Answers.{Tables, tablePart}
+
+module _ (s : List ℕ) where
+  pub table-given : (p : Plant) (t : Table) → planning s ≡ given p → t ≡ tableOf p → Tables (tabling s) (record { verdict = verdict.Sound; table = t })
+  unfolding tabling
+  table-given p t e f =
+      let g : tabling s ≡ given t = rw (e, f) refl in
+      record { answer = sym g; table = sym (ap tablePart g) }
+
+  pub table-refused : (k : Refusal) (t : Table) → planning s ≡ refused (numberOf k) → t ≡ tableWith [] → Tables (tabling s) (record { verdict = verdict.Refused k; table = t })
+  unfolding tabling
+  table-refused k t e f =
+      let g : tabling s ≡ refused (numberOf k) = rw e refl in
+      record { answer = sym g; table = f ∙ sym (ap tablePart g) }

@@ -1,0 +1,49 @@
+-- `planner::forwarding_table` meets its contract. Assumes nothing.
+use Rattle.planner.proofs.Plans.{read-sound, read-refused}
+use Rattle.planner.proofs.Tabling.{table-given, table-refused}
+use borrow.Author.Needs.{needs}
+use Rattle.planner.proofs.forwarding_table.Statement.{statement}
+use Rattle.planner.proofs.forwarding_table.Tie as tie
+
+plan-requires : tie.Need-plan-requires
+plan-requires c κs = search needs
+
+enum-told : tie.Need-enum-told
+enum-told c = search needs
+
+arcs-in-use-requires : tie.Need-arcs-in-use-requires
+arcs-in-use-requires c κs = c .before .before .before .plan .ensures .1 (c .before .enum-told .given .1) .0
+
+table-of-requires : tie.Need-table-of-requires
+table-of-requires c κs =
+    let r = c .before .before .before .before .plan .ensures .1 (c .before .before .enum-told .given .1) in
+    (r .0, r .1, c .arcs-in-use .ensures)
+
+enum-known-v : tie.Need-enum-known-v
+enum-known-v c = search needs
+
+empty-requires : tie.Need-empty-requires
+empty-requires c κs = search needs
+
+returns : tie.Need-returns
+returns c =
+    let m = c .before .before .before in
+    table-given _ _ _ (read-sound _ _ (m .before .before .plan .ensures .0) (m .enum-told .given .1)) (c .table-of .ensures)
+
+returns-2 : tie.Need-returns-2
+returns-2 c =
+    let m = c .before .before in
+    table-refused _ _ _ (read-refused _ _ (m .before .before .plan .ensures .0) _ (m .v .given .1)) (c .empty .ensures)
+
+pub forwarding-table-spec : {M : Type 1} → statement M
+forwarding-table-spec =
+    tie.close
+    (tie.spec
+    plan-requires
+    enum-told
+    arcs-in-use-requires
+    table-of-requires
+    enum-known-v
+    empty-requires
+    returns
+    returns-2)

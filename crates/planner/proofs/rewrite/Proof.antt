@@ -1,0 +1,45 @@
+-- `planner::rewrite` meets its contract. Assumes nothing.
+use mathlib.Core.Path.{_∙_}
+use Rattle.planner.proofs.Plans.{bytes-known, read-sound, read-refused}
+use Rattle.planner.proofs.Again.{again-answer, again-buffer, again-refused, again-kept}
+use borrow.Author.Needs.{needs}
+use Rattle.planner.proofs.rewrite.Statement.{statement}
+use Rattle.planner.proofs.rewrite.Tie as tie
+
+read-requires : tie.Need-read-requires
+read-requires c κs = search needs
+
+enum-told : tie.Need-enum-told
+enum-told c = search needs
+
+write-requires : tie.Need-write-requires
+write-requires c κs = search needs
+
+enum-known-v : tie.Need-enum-known-v
+enum-known-v c = search needs
+
+same-length : tie.Need-same-length
+same-length c = search needs
+
+returns : tie.Need-returns
+returns c =
+    let w = c .before .before in
+    let m = w .before .before .before in
+    let k = m .before .before .before .before .before in
+    let bytes = bytes-known (k .args .listing .now) (λ i. m .before .before .before .before .shared-slice-known .given i .fits) in
+    let e = read-sound _ _ (m .before .before .read .ensures) (m .enum-told .given .1) in (
+      w .write .ensures .0 ∙ again-answer (k .args .listing .now) (k .args .buffer .now) _ bytes e,
+      w .write .ensures .1 ∙ again-buffer (k .args .listing .now) (k .args .buffer .now) _ bytes e,
+    )
+
+returns-2 : tie.Need-returns-2
+returns-2 c =
+    let r = c .before .before .before in
+    let k = r .before .before .before in
+    let e = read-refused _ _ (r .read .ensures) _ (c .before .v .given .1) in
+    (again-refused (k .args .listing .now) (k .args .buffer .now) _ e, again-kept (k .args .listing .now) (k .args .buffer .now) _ e)
+
+pub rewrite-spec : {M : Type 1} → statement M
+rewrite-spec =
+    tie.close
+    (tie.spec read-requires enum-told write-requires enum-known-v same-length returns returns-2)

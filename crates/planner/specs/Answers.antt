@@ -1,0 +1,33 @@
+-- What each answer of the planner's calls stands for: values, or the number of a refusal.
+use mathlib.Core.Path.{_≡_}
+use mathlib.Core.List.{[]}
+use Prim.Native.Nat.{ℕ}
+use Rattle.plant.specs.Refusals.{Answer, given, refused, _>>=_}
+use Rattle.model.specs.Sound.{Sound}
+use Rattle.walks.specs.Graph.{Connected}
+use Rattle.listing.specs.declared.Decoded.{Decoded}
+use Rattle.listing.specs.declared.Verdict.the-variants as verdict
+use Rattle.listing.specs.Answers.{verdictAnswer}
+use Rattle.table.specs.declared.Table.{Table}
+use Rattle.table.specs.Rules.{tableWith}
+use Rattle.planner.specs.declared.Tabled.{Tabled}
+
+-- ---- a plant that can be planned
+
+-- where it is not refused, the plant is sound and connected
+abbrev pub Ready : Decoded → Type 0
+Ready r = r .verdict ≡ verdict.Sound → Sound (r .plant) × Connected (r .plant)
+
+-- ---- the forwarding table
+
+abbrev pub tableAnswer : Tabled → Answer Table
+tableAnswer r = verdictAnswer (r .verdict) >>= λ _. given (r .table)
+
+-- the table part of the answer: at a refusal the table without rules
+abbrev pub tablePart : Answer Table → Table
+tablePart (given t) = t
+tablePart (refused n) = tableWith []
+
+pub record Tables (a : Answer Table) (r : Tabled) : Type 0 where
+  pub answer : tableAnswer r ≡ a
+  pub table : r .table ≡ tablePart a

@@ -1,0 +1,4 @@
+pub mod Planning
+pub mod Calls
+pub mod Answers
+pub mod Cases

@@ -1,0 +1,20 @@
+-- The refusals of planning (document 01, "Refusals in checking order", 1 to 9): every call that is given a listing and does more than read it begins with them.
+use mathlib.Core.Bool.{Bool, not}
+use mathlib.Core.List.{List}
+use Prim.Native.Nat.{ℕ}
+use Rattle.plant.specs.declared.Plant.{Plant}
+use Rattle.plant.specs.Refusals.{Answer, given, refuse, _>>=_}
+use Rattle.walks.specs.Graph.{connected}
+use Rattle.listing.specs.Listing.{decode}
+
+-- 9: some switch can't be reached from the start
+unfoldable pub notConnected : Plant → Bool
+notConnected p = not (connected p)
+
+-- 9, or the plant
+unfoldable pub joined : Plant → Answer Plant
+joined p = refuse 9 (notConnected p) (given p)
+
+-- 1 to 9, or the plant
+unfoldable pub planning : List ℕ → Answer Plant
+planning s = decode s >>= joined

@@ -1,0 +1,40 @@
+-- Laws of bytes laid into a buffer, one after the other. Assumes nothing.
+use mathlib.Core.Path.{_≡_, refl, sym, ap, ap₂, _∙_}
+use mathlib.Core.List.{List, [], _∷_, _++_}
+use Prim.Native.Nat.{ℕ, _+_, _≤_, _<_}
+use native.Mathlib.Omega.{arith}
+use lib.ListN.{length, set, take, drop, length-append, length-set}
+use lib.Seq.{sets, sets-eq, length-sets, length-take-le, take-append-seam}
+use Rattle.text.specs.Laid.{Laid}
+use Rattle.text.proofs.ListLaws.{sets-append}
+
+-- no bytes
+pub laid-none : (b : List ℕ) (at : ℕ) → at ≤ length b → Laid b at [] b at
+laid-none b at h = record { buffer = refl; place = omega arith; within = h; front = sym (length-take-le at b h) }
+
+-- one byte
+pub laid-byte : (b : List ℕ) (at x : ℕ) → at < length b → Laid b at (x ∷ []) (set b at x) (at + 1)
+laid-byte b at x h =
+    let w : at + 1 ≤ length (set b at x) = rw (length-set b at x) (omega arith) in
+    record { buffer = refl; place = omega arith; within = w; front = sym (length-take-le (at + 1) (set b at x) w) }
+
+module _ {b : List ℕ} {at : ℕ} {xs b′ : List ℕ} {next : ℕ} (l : Laid b at xs b′ next) where
+  -- the buffer keeps its length
+  pub laid-same : length b′ ≡ length b
+  laid-same = ap length (l .buffer) ∙ length-sets b at xs
+
+  -- one list after another
+  pub laid-then : {ys b″ : List ℕ} {end : ℕ} → Laid b′ next ys b″ end → Laid b at (xs ++ ys) b″ end
+  laid-then {ys} {b″} {end} m = record {
+    buffer = m .buffer ∙ ap₂ (λ (c : List ℕ) (i : ℕ). sets c i ys) (l .buffer) (l .place) ∙ sets-append b at xs ys;
+    place = omega (arith, l .place, m .place, length-append xs ys);
+    within = m .within;
+    front = m .front;
+  }
+
+-- laid at the front, the bytes are what stands there
+pub laid-front : (b xs b′ : List ℕ) (next : ℕ) → Laid b 0 xs b′ next → take next b′ ≡ xs
+laid-front b xs b′ next l =
+    let e : next ≡ length xs = omega (arith, l .place) in
+    let h : 0 + length xs ≤ length b = omega (arith, laid-same l, l .within, l .place) in
+    rw (e, l .buffer, sets-eq xs b 0 h) (take-append-seam xs (drop (0 + length xs) b))

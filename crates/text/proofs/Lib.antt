@@ -1,0 +1,5 @@
+pub mod ListLaws
+pub mod DecimalLaws
+pub mod SizeLaws
+pub mod LaidLaws
+pub mod PutLaws

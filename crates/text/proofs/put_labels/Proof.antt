@@ -1,0 +1,69 @@
+-- `text::put_labels` meets its contract: before each turn the labels before i are laid. Assumes nothing.
+use Prim.Native.Nat.{_-_}
+use native.Mathlib.Omega.{arith}
+use borrow.Author.Needs.{needs}
+use Rattle.text.specs.Sizes.{digits16}
+use Rattle.text.proofs.LaidLaws.{laid-same}
+use Rattle.text.proofs.PutLaws.{Turns, turns-none, turns-room, turns-next, turns-all}
+use Rattle.text.proofs.put_labels.Statement.{statement}
+use Rattle.text.proofs.put_labels.Tie as tie
+
+abbrev Inv-loop : tie.InvT-loop
+Inv-loop buf₀ at labels count next₀ i₀ buf next i = Turns buf₀ at labels digits16 count buf next i
+
+abbrev μ-loop : tie.MeasureT-loop
+μ-loop buf₀ at labels count next₀ i₀ buf next i = count - i
+
+loop-holds : tie.Need-loop-holds Inv-loop μ-loop
+loop-holds c = turns-none (c .before .before .pre .1)
+
+mul-put-number : tie.Need-mul-put-number Inv-loop μ-loop
+mul-put-number c = search needs
+
+shared-slice-read-put-number : tie.Need-shared-slice-read-put-number Inv-loop μ-loop
+shared-slice-read-put-number c = search needs
+
+cast-put-number : tie.Need-cast-put-number Inv-loop μ-loop
+cast-put-number c = omega (arith, c .shared-slice-known2 .given (c .before .before .before .loop .i))
+
+put-number-requires : tie.Need-put-number-requires Inv-loop μ-loop
+put-number-requires c κs =
+    let l = c .before .before .before in
+    let s = l .before .before .before in
+    turns-room (l .loop .inv) (s .pre .0) (s .pre .1) (omega arith) (c .before .before .loop-test .taken) (omega (arith, c .shared-slice-known2 .given (l .loop .i)))
+
+add-i : tie.Need-add-i Inv-loop μ-loop
+add-i c = search needs
+
+loop-less : tie.Need-loop-less Inv-loop μ-loop
+loop-less c = search needs
+
+loop-again : tie.Need-loop-again Inv-loop μ-loop
+loop-again c =
+    let p = c .before .before in
+    let l = p .before .before .before .before in
+    let s = l .before .before .before in
+    turns-next (l .loop .inv) (s .pre .0) (s .pre .1) (omega arith) (p .before .before .before .loop-test .taken) (omega (arith, p .before .shared-slice-known2 .given (l .loop .i))) (p .put-number .ensures)
+
+same-length : tie.Need-same-length Inv-loop μ-loop
+same-length c = laid-same (c .before .loop .inv .laid)
+
+returns : tie.Need-returns Inv-loop μ-loop
+returns c = turns-all (c .before .loop .inv) (c .loop-test .left)
+
+pub put-labels-spec : {M : Type 1} → statement M
+put-labels-spec =
+    tie.close
+    (tie.spec
+    Inv-loop
+    μ-loop
+    loop-holds
+    mul-put-number
+    shared-slice-read-put-number
+    cast-put-number
+    put-number-requires
+    add-i
+    loop-less
+    loop-again
+    same-length
+    returns)

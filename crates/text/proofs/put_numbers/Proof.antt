@@ -1,0 +1,71 @@
+-- `text::put_numbers` meets its contract: before each turn the numbers before i are laid. Assumes nothing.
+use Prim.Native.Nat.{_-_}
+use native.Mathlib.Omega.{arith}
+use borrow.Author.Needs.{needs}
+use lib.ListN.{length}
+use lib.Seq.{take-length}
+use Rattle.text.specs.Sizes.{digits32}
+use Rattle.text.proofs.LaidLaws.{laid-same}
+use Rattle.text.proofs.PutLaws.{Turns, turns-none, turns-room, turns-next, turns-all}
+use Rattle.text.proofs.put_numbers.Statement.{statement}
+use Rattle.text.proofs.put_numbers.Tie as tie
+
+abbrev Inv-loop : tie.InvT-loop
+Inv-loop buf₀ at ns next₀ i₀ buf next i = Turns buf₀ at ns digits32 (length ns) buf next i
+
+abbrev μ-loop : tie.MeasureT-loop
+μ-loop buf₀ at ns next₀ i₀ buf next i = length ns - i
+
+loop-holds : tie.Need-loop-holds Inv-loop μ-loop
+loop-holds c = turns-none (c .before .before .pre)
+
+mul-put-number : tie.Need-mul-put-number Inv-loop μ-loop
+mul-put-number c = search needs
+
+shared-slice-read-put-number : tie.Need-shared-slice-read-put-number Inv-loop μ-loop
+shared-slice-read-put-number c = search needs
+
+put-number-requires : tie.Need-put-number-requires Inv-loop μ-loop
+put-number-requires c κs =
+    let l = c .before .before .before in
+    let s = l .before .before .before in
+    turns-room (l .loop .inv) (omega arith) (s .pre) (omega arith) (c .before .before .loop-test .taken) (omega (arith, c .shared-slice-known2 .given (l .loop .i)))
+
+add-i : tie.Need-add-i Inv-loop μ-loop
+add-i c = search needs
+
+loop-less : tie.Need-loop-less Inv-loop μ-loop
+loop-less c = search needs
+
+loop-again : tie.Need-loop-again Inv-loop μ-loop
+loop-again c =
+    let p = c .before .before in
+    let l = p .before .before .before .before in
+    let s = l .before .before .before in
+    turns-next (l .loop .inv) (omega arith) (s .pre) (omega arith) (p .before .before .before .loop-test .taken) (omega (arith, p .before .shared-slice-known2 .given (l .loop .i))) (p .put-number .ensures)
+
+same-length : tie.Need-same-length Inv-loop μ-loop
+same-length c = laid-same (c .before .loop .inv .laid)
+
+returns : tie.Need-returns Inv-loop μ-loop
+returns c =
+    let l = c .before in
+    let s = l .before .before .before in
+    let t = turns-all (l .loop .inv) (c .loop-test .left) in
+    (rw (take-length (s .args .ns .now)) at (t .0), t .1)
+
+pub put-numbers-spec : {M : Type 1} → statement M
+put-numbers-spec =
+    tie.close
+    (tie.spec
+    Inv-loop
+    μ-loop
+    loop-holds
+    mul-put-number
+    shared-slice-read-put-number
+    put-number-requires
+    add-i
+    loop-less
+    loop-again
+    same-length
+    returns)

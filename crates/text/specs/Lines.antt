@@ -1,0 +1,67 @@
+-- The bytes that the program `rules` prints (document 01, "Edges and marked cases"): lines of a word and numbers. Assumes nothing.
+use mathlib.Core.List.{List, [], _∷_, _++_}
+use Prim.Native.Nat.{ℕ}
+use Rattle.text.specs.Ascii.{ascii}
+use Rattle.text.specs.Decimal.{decimal}
+
+abbrev pub space : ℕ
+space = 32
+
+abbrev pub newline : ℕ
+newline = 10
+
+-- ---- the words
+
+abbrev pub plantWord : List ℕ
+plantWord = ascii "plant"
+
+abbrev pub ruleWord : List ℕ
+ruleWord = ascii "rule"
+
+abbrev pub trailWord : List ℕ
+trailWord = ascii "trail"
+
+abbrev pub refusedWord : List ℕ
+refusedWord = ascii "refused"
+
+-- ---- lines
+
+-- a number after a space
+abbrev pub spaced : ℕ → List ℕ
+spaced n = space ∷ decimal n
+
+-- numbers, each after a space
+abbrev pub spacedAll : List ℕ → List ℕ
+spacedAll [] = []
+spacedAll (n ∷ ns) = spaced n ++ spacedAll ns
+
+-- a word, numbers and the line's end; the bare word where there is no number
+unfoldable pub line : List ℕ → List ℕ → List ℕ
+line word ns = word ++ (spacedAll ns ++ (newline ∷ []))
+
+-- the first line: switches, links, bridges, rules, hops
+abbrev pub summaryLine : ℕ → ℕ → ℕ → ℕ → ℕ → List ℕ
+summaryLine switches links bridges rules hops = line plantWord (switches ∷ links ∷ bridges ∷ rules ∷ hops ∷ [])
+
+-- a rule: sending switch, label, receiving switch
+abbrev pub ruleLine : ℕ → ℕ → ℕ → List ℕ
+ruleLine from label to = line ruleWord (from ∷ label ∷ to ∷ [])
+
+-- one line for each rule
+abbrev pub ruleLines : List (ℕ × ℕ × ℕ) → List ℕ
+ruleLines [] = []
+ruleLines (r ∷ rs) = ruleLine (r .0) (r .1) (r .2) ++ ruleLines rs
+
+-- the labels of the trail
+abbrev pub trailLine : List ℕ → List ℕ
+trailLine labels = line trailWord labels
+
+-- ---- the whole output
+
+-- of a plant: the first line, the rules, the trail
+unfoldable pub pageOf : ℕ → ℕ → ℕ → ℕ → ℕ → List (ℕ × ℕ × ℕ) → List ℕ → List ℕ
+pageOf switches links bridges rules hops page trail = summaryLine switches links bridges rules hops ++ (ruleLines page ++ trailLine trail)
+
+-- of a refusal: its number
+abbrev pub refusalOf : ℕ → List ℕ
+refusalOf n = line refusedWord (n ∷ [])

@@ -1,0 +1,28 @@
+-- The most bytes that a line takes, by its letters, its numbers and their digits. Assumes nothing.
+use Prim.Native.Nat.{ℕ, _+_, _*_}
+
+-- the most digits of a number of 16 bits, and of 32 bits
+abbrev pub digits16 : ℕ
+digits16 = 5
+
+abbrev pub digits32 : ℕ
+digits32 = 10
+
+-- so many numbers of so many digits, each after a space
+abbrev pub spacedMost : ℕ → ℕ → ℕ
+spacedMost numbers digits = numbers * (1 + digits)
+
+-- a line: a word of so many letters, the numbers and the line's end
+abbrev pub lineMost : ℕ → ℕ → ℕ → ℕ
+lineMost letters numbers digits = letters + spacedMost numbers digits + 1
+
+-- ---- the lines of the output, with numbers of 32 bits
+
+abbrev pub summaryMost : ℕ
+summaryMost = lineMost 5 5 digits32
+
+abbrev pub ruleMost : ℕ
+ruleMost = lineMost 4 3 digits32
+
+abbrev pub refusalMost : ℕ
+refusalMost = lineMost 7 1 digits32

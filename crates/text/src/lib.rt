@@ -1,0 +1,135 @@
+// The lines that the program `rules` prints (document 01, "Edges and marked cases"), laid into a lent buffer of bytes.
+// Each function lays its bytes from place `at` on and answers the place after them.
+ghost use Prim.Native.Nat.{_+_, _≤_};
+ghost use mathlib.Core.List.{_∷_, []};
+ghost use lib.ListN.{length, take};
+ghost use Rattle.text.specs.Decimal.{decimal};
+ghost use Rattle.text.specs.Lines.{newline, spaced, spacedAll, line, summaryLine, ruleLine, refusalOf};
+ghost use Rattle.text.specs.Sizes.{digits16, digits32, spacedMost, lineMost, summaryMost, ruleMost, refusalMost};
+ghost use Rattle.text.specs.Laid.{Room, Laid};
+
+// The bytes of a word.
+pub fn put_word(buf: &mut [u8], at: usize, word: &[u8]) -> usize
+    requires { ⌜ Room (now buf) at (now word) ⌝ }
+    ensures { λ r. ⌜ Laid (now (buf .entry)) at (now (word .entry)) (now (buf .exit)) r ⌝ }
+{
+    let mut next = at;
+    let mut i: usize = 0;
+    while i < word.len() {
+        buf[next] = word[i];
+        next += 1;
+        i += 1;
+    }
+    next
+}
+
+// A number in decimal.
+pub fn put_decimal(buf: &mut [u8], at: usize, n: u32) -> usize
+    requires { ⌜ Room (now buf) at (decimal n) ⌝ }
+    ensures { λ r. ⌜ Laid (now (buf .entry)) at (decimal n) (now (buf .exit)) r ⌝ }
+{
+    if n < 10 {
+        buf[at] = 48 + n as u8;
+        return at + 1;
+    }
+    let last = put_decimal(buf, at, n / 10);
+    buf[last] = 48 + (n % 10) as u8;
+    last + 1
+}
+
+// A space and a number.
+pub fn put_number(buf: &mut [u8], at: usize, n: u32) -> usize
+    requires { ⌜ Room (now buf) at (spaced n) ⌝ }
+    ensures { λ r. ⌜ Laid (now (buf .entry)) at (spaced n) (now (buf .exit)) r ⌝ }
+{
+    buf[at] = b' ';
+    put_decimal(buf, at + 1, n)
+}
+
+// The end of a line.
+pub fn end_line(buf: &mut [u8], at: usize) -> usize
+    requires { ⌜ Room (now buf) at (newline ∷ []) ⌝ }
+    ensures { λ r. ⌜ Laid (now (buf .entry)) at (newline ∷ []) (now (buf .exit)) r ⌝ }
+{
+    buf[at] = b'\n';
+    at + 1
+}
+
+// Numbers, each after a space.
+fn put_numbers(buf: &mut [u8], at: usize, ns: &[u32]) -> usize
+    requires { ⌜ at + spacedMost (length (now ns)) digits32 ≤ length (now buf) ⌝ }
+    ensures { λ r. ⌜ Laid (now (buf .entry)) at (spacedAll (now (ns .entry))) (now (buf .exit)) r ⌝ }
+    ensures { λ r. ⌜ r ≤ at + spacedMost (length (now (ns .entry))) digits32 ⌝ }
+{
+    let mut next = at;
+    let mut i: usize = 0;
+    while i < ns.len() {
+        next = put_number(buf, next, ns[i]);
+        i += 1;
+    }
+    next
+}
+
+// The first `count` of these labels, each after a space: what follows the word of the trail line, in one piece or in several.
+pub fn put_labels(buf: &mut [u8], at: usize, labels: &[u16], count: usize) -> usize
+    requires { ⌜ (count ≤ length (now labels)) × (at + spacedMost count digits16 ≤ length (now buf)) ⌝ }
+    ensures { λ r. ⌜ Laid (now (buf .entry)) at (spacedAll (take count (now (labels .entry)))) (now (buf .exit)) r ⌝ }
+    ensures { λ r. ⌜ r ≤ at + spacedMost count digits16 ⌝ }
+{
+    let mut next = at;
+    let mut i: usize = 0;
+    while i < count {
+        next = put_number(buf, next, labels[i] as u32);
+        i += 1;
+    }
+    next
+}
+
+// A line of a word and numbers.
+fn put_line(buf: &mut [u8], at: usize, word: &[u8], ns: &[u32]) -> usize
+    requires { ⌜ at + lineMost (length (now word)) (length (now ns)) digits32 ≤ length (now buf) ⌝ }
+    ensures { λ r. ⌜ Laid (now (buf .entry)) at (line (now (word .entry)) (now (ns .entry))) (now (buf .exit)) r ⌝ }
+    ensures { λ r. ⌜ r ≤ at + lineMost (length (now (word .entry))) (length (now (ns .entry))) digits32 ⌝ }
+{
+    let numbers = put_word(buf, at, word);
+    let end = put_numbers(buf, numbers, ns);
+    end_line(buf, end)
+}
+
+// The first line of a plant's output.
+pub fn put_summary(
+    buf: &mut [u8],
+    at: usize,
+    switches: u32,
+    links: u32,
+    bridges: u32,
+    rules: u32,
+    hops: u32,
+) -> usize
+    requires { ⌜ at + summaryMost ≤ length (now buf) ⌝ }
+    ensures { λ r. ⌜ Laid (now (buf .entry)) at (summaryLine switches links bridges rules hops) (now (buf .exit)) r ⌝ }
+    ensures { λ r. ⌜ r ≤ at + summaryMost ⌝ }
+{
+    let ns = [switches, links, bridges, rules, hops];
+    put_line(buf, at, b"plant", &ns)
+}
+
+// The line of a rule.
+pub fn put_rule(buf: &mut [u8], at: usize, from: u32, label: u32, to: u32) -> usize
+    requires { ⌜ at + ruleMost ≤ length (now buf) ⌝ }
+    ensures { λ r. ⌜ Laid (now (buf .entry)) at (ruleLine from label to) (now (buf .exit)) r ⌝ }
+    ensures { λ r. ⌜ r ≤ at + ruleMost ⌝ }
+{
+    let ns = [from, label, to];
+    put_line(buf, at, b"rule", &ns)
+}
+
+// The output of a refusal, at the front of the buffer.
+pub fn put_refusal(buf: &mut [u8], n: u32) -> usize
+    requires { ⌜ refusalMost ≤ length (now buf) ⌝ }
+    ensures { λ r. ⌜ Laid (now (buf .entry)) 0 (refusalOf n) (now (buf .exit)) r ⌝ }
+    ensures { λ r. ⌜ r ≤ refusalMost ⌝ }
+{
+    let ns = [n];
+    put_line(buf, 0, b"refused", &ns)
+}
