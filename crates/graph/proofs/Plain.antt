@@ -72,9 +72,6 @@ count-same (suc n) f g h = omega (arith, ap bit (h n), count-same n f g h)
 
 -- ---- lists
 
-pub sized : {A B : Type 0} (f : A → B) (l : List A) (n : ℕ) → length (map f l) ≡ n → length l ≡ n
-sized f l n e = sym (length-map l f) ∙ e
-
 pub getD-replicate : {A : Type 0} (n i : ℕ) (d : A) → getD (replicate n d) i d ≡ d
 getD-replicate zero i d = refl
 getD-replicate (suc n) zero d = refl

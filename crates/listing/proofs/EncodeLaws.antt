@@ -7,6 +7,7 @@ use native.Mathlib.Omega.{arith}
 use borrow.Author.Tests.{lt-ltb, le-ltb}
 use lib.ListN.{length, getD, drop, length-append}
 use lib.Seq.{sets, length-sets}
+use Rattle.lists.specs.Arrays.{sets-append, sets-front, laid}
 use Rattle.plant.specs.declared.Link.{Link}
 use Rattle.plant.specs.declared.Plant.{Plant}
 use Rattle.plant.specs.declared.Refusal.{Refusal}
@@ -19,7 +20,6 @@ use Rattle.listing.specs.Listing.{linksOf, headerBytes, linkBytes, links
 use Rattle.listing.specs.Writing.{soundPlant, bufferShort, written, leaves, bufferAfter}
 use Rattle.listing.specs.Answers.{verdictAnswer}
 use Rattle.listing.proofs.WriteLaws.{links-next, links-done}
-use Rattle.listing.proofs.PutLaws.{sets-append, sets-front, laid}
 
 module _ (p : Plant) where
   -- the bytes of the links from link i on

@@ -6,28 +6,13 @@ use native.Mathlib.Omega.{arith}
 use borrow.Author.Tests.{eq-eqb, ne-eqb}
 use lib.ListN.{length, set, drop, length-append, length-set}
 use lib.Seq.{sets, sets-eq, length-sets}
+use Rattle.lists.specs.Arrays.{sets-append, laid}
 use Rattle.listing.specs.Field.{bytesOf}
 use Rattle.listing.specs.declared.Field.{Field}
 use Rattle.listing.specs.Part.{fieldBytes, partBytes}
 use Rattle.listing.proofs.FieldLaws.{length-bytesOf}
 
--- one list after another
-pub sets-append : (l : List ℕ) (i : ℕ) (xs ys : List ℕ) → sets (sets l i xs) (i + length xs) ys ≡ sets l i (xs ++ ys)
-sets-append l i [] ys = let e : i + 0 ≡ i = omega arith in ap (λ (k : ℕ). sets l k ys) e
-sets-append l i (x ∷ xs) ys =
-    let e : i + suc (length xs) ≡ suc i + length xs = omega arith in
-    ap (λ (k : ℕ). sets (sets (set l i x) (suc i) xs) k ys) e ∙ sets-append (set l i x) (suc i) xs ys
-
--- laid at the front: the list, then what stood past its end
-pub sets-front : (l xs : List ℕ) → length xs ≤ length l → sets l 0 xs ≡ xs ++ drop (length xs) l
-sets-front l xs h =
-    let e : 0 + length xs ≡ length xs = omega arith in
-    sets-eq xs l 0 (omega arith) ∙ ap (λ (k : ℕ). xs ++ drop k l) e
-
--- what is laid changes no length
-pub laid : (b b′ : List ℕ) (i : ℕ) (xs : List ℕ) → b′ ≡ sets b i xs → length b′ ≡ length b
-laid b b′ i xs e = ap length e ∙ length-sets b i xs
-
+-- what is laid behind a byte changes no length
 pub laid-behind : (b b′ : List ℕ) (at m i : ℕ) (xs : List ℕ) → b′ ≡ sets (set b at m) i xs → length b′ ≡ length b
 laid-behind b b′ at m i xs e = laid (set b at m) b′ i xs e ∙ length-set b at m
 

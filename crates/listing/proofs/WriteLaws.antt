@@ -5,8 +5,8 @@ use mathlib.Core.List.{List, [], _∷_, _++_, map}
 use Prim.Native.Nat.{ℕ, zero, suc, _+_, _-_, _≤_, _<_}
 use native.Mathlib.Numerals.{add-one}
 use native.Mathlib.Omega.{arith}
-use lib.ListN.{length, getD, take, drop, length-map, drop-of-length-le}
-use lib.Seq.{drop-cons, getD-take, length-take-le}
+use lib.ListN.{length, getD, take, drop, drop-of-length-le}
+use lib.Seq.{drop-cons, getD-take}
 use Rattle.lists.specs.Tests.{or-false}
 use Rattle.lists.specs.Members.{all}
 use Rattle.plant.specs.declared.Link.{Link}
@@ -22,10 +22,7 @@ use Rattle.listing.specs.Listing.{valueOutOfRange, soundLink, linksOf, l
 use Rattle.listing.specs.Writing.{isZero, plantOutOfRange, soundLinks, soundPlant}
 use Rattle.listing.specs.Answers.{verdictAnswer}
 use Rattle.listing.proofs.ReadLaws.{in-range}
-
--- the length of an array of structs, as ownership tells it
-pub sized : {A B : Type 0} (f : A → B) (l : List A) (n : ℕ) → length (map f l) ≡ n → length l ≡ n
-sized f l n e = sym (length-map l f) ∙ e
+use Rattle.listing.proofs.SoundLaws.{length-links}
 
 -- ---- the places from i on are zero
 
@@ -45,8 +42,8 @@ module _ (p : Plant) (long : length (p .links) ≡ maxLinks) (i : ℕ) where
 -- ---- the links of a plant, from link i on
 
 module _ (p : Plant) (long : length (p .links) ≡ maxLinks) (few : p .count ≤ maxLinks) where
-  pub links-long : length (linksOf p) ≡ p .count
-  links-long = length-take-le (p .count) (p .links) (omega arith)
+  links-long : length (linksOf p) ≡ p .count
+  links-long = length-links p few long
 
   module _ (i : ℕ) where
     pub links-next : i < p .count → drop i (linksOf p) ≡ getD (p .links) i zeroLink ∷ drop (i + 1) (linksOf p)

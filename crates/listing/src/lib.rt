@@ -60,7 +60,7 @@ pub enum Written {
 }
 
 fn wide(b: u8) -> u32
-    ensures { λ r. ⌜ (r ≡ b) × (r < 256) ⌝ }
+    ensures { λ r. ⌜ (r ≡ b) × (r < 2 ^ 8) ⌝ }
 {
     b as u32
 }

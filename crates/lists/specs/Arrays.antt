@@ -1,0 +1,35 @@
+-- Laws of arrays as lists: their length as ownership tells it, members laid one after the other, one member more. Assumes nothing.
+use mathlib.Core.Path.{_≡_, sym, ap, _∙_}
+use mathlib.Core.List.{List, [], _∷_, _++_, map}
+use Prim.Native.Nat.{ℕ, suc, _+_, _≤_, _<_}
+use native.Mathlib.Numerals.{add-one}
+use native.Mathlib.Omega.{arith}
+use lib.ListN.{length, getD, set, take, drop, length-map}
+use lib.Seq.{sets, sets-eq, length-sets, take-suc}
+
+-- the length of an array of structs, as ownership tells it
+pub sized : {A B : Type 0} (f : A → B) (l : List A) (n : ℕ) → length (map f l) ≡ n → length l ≡ n
+sized f l n e = sym (length-map l f) ∙ e
+
+-- the members before place i + 1
+pub take-next : (l : List ℕ) (i : ℕ) → i < length l → take (i + 1) l ≡ take i l ++ (getD l i 0 ∷ [])
+take-next l i h = ap (λ (k : ℕ). take k l) (add-one i) ∙ take-suc l i 0 h
+
+-- ---- laid into an array from a place on
+
+-- one list after another
+pub sets-append : (l : List ℕ) (i : ℕ) (xs ys : List ℕ) → sets (sets l i xs) (i + length xs) ys ≡ sets l i (xs ++ ys)
+sets-append l i [] ys = let e : i + 0 ≡ i = omega arith in ap (λ (k : ℕ). sets l k ys) e
+sets-append l i (x ∷ xs) ys =
+    let e : i + suc (length xs) ≡ suc i + length xs = omega arith in
+    ap (λ (k : ℕ). sets (sets (set l i x) (suc i) xs) k ys) e ∙ sets-append (set l i x) (suc i) xs ys
+
+-- at the front: the list, then what stood past its end
+pub sets-front : (l xs : List ℕ) → length xs ≤ length l → sets l 0 xs ≡ xs ++ drop (length xs) l
+sets-front l xs h =
+    let e : 0 + length xs ≡ length xs = omega arith in
+    sets-eq xs l 0 (omega arith) ∙ ap (λ (k : ℕ). xs ++ drop k l) e
+
+-- no length changes
+pub laid : (b b′ : List ℕ) (i : ℕ) (xs : List ℕ) → b′ ≡ sets b i xs → length b′ ≡ length b
+laid b b′ i xs e = ap length e ∙ length-sets b i xs
