@@ -2,3 +2,4 @@ pub mod Owned
 pub mod Plans
 pub mod Again
 pub mod Tabling
+pub mod Trailing

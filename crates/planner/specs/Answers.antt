@@ -2,7 +2,7 @@
 use mathlib.Core.Path.{_≡_}
 use mathlib.Core.List.{[]}
 use Prim.Native.Nat.{ℕ}
-use Rattle.plant.specs.Refusals.{Answer, given, refused, _>>=_}
+use Rattle.plant.specs.Refusals.{Answer, given, refused, _>>=_, numberOf}
 use Rattle.model.specs.Sound.{Sound}
 use Rattle.walks.specs.Graph.{Connected}
 use Rattle.listing.specs.declared.Decoded.{Decoded}
@@ -11,6 +11,11 @@ use Rattle.listing.specs.Answers.{verdictAnswer}
 use Rattle.table.specs.declared.Table.{Table}
 use Rattle.table.specs.Rules.{tableWith}
 use Rattle.planner.specs.declared.Tabled.{Tabled}
+use Rattle.planner.specs.declared.Numbers.{Numbers}
+use Rattle.planner.specs.declared.Summary.{Summary}
+use Rattle.planner.specs.declared.Summary.the-variants as summary-is
+use Rattle.planner.specs.declared.Trailed.{Trailed}
+use Rattle.planner.specs.declared.Trailed.the-variants as trailed
 
 -- ---- a plant that can be planned
 
@@ -31,3 +36,13 @@ tablePart (refused n) = tableWith []
 pub record Tables (a : Answer Table) (r : Tabled) : Type 0 where
   pub answer : tableAnswer r ≡ a
   pub table : r .table ≡ tablePart a
+
+-- ---- the numbers of a plant, and the trail
+
+abbrev pub summaryAnswer : Summary → Answer Numbers
+summaryAnswer (summary-is.Plant n) = given n
+summaryAnswer (summary-is.Refused k) = refused (numberOf k)
+
+abbrev pub trailAnswer : Trailed → Answer ℕ
+trailAnswer (trailed.Hops n) = given n
+trailAnswer (trailed.Refused k) = refused (numberOf k)

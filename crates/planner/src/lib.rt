@@ -11,13 +11,33 @@ ghost use Rattle.walks.specs.Graph.{Connected};
 ghost use Rattle.listing.specs.Writing.{bufferAfter};
 ghost use Rattle.listing.specs.Answers.{Reads, writeAnswer};
 ghost use Rattle.planner.specs.Planning.{planning};
-ghost use Rattle.planner.specs.Calls.{rewriting, overlaid, rereading, tabling};
-ghost use Rattle.planner.specs.Answers.{Ready, Tables};
+ghost use Rattle.planner.specs.Calls.{rewriting, overlaid, rereading, tabling, numbersOf, summing, laying, laidOut, trailing, trailedBy};
+ghost use Rattle.planner.specs.Answers.{Ready, Tables, summaryAnswer, trailAnswer};
 
 // The forwarding table of a listing. At a refusal it has no rule.
 pub struct Tabled {
     pub verdict: Verdict,
     pub table: Table,
+}
+
+// Switches, links, bridges, rules and hops of a plant.
+pub struct Numbers {
+    pub switches: u8,
+    pub links: u16,
+    pub bridges: u16,
+    pub rules: u16,
+    pub hops: u16,
+}
+
+pub enum Summary {
+    Plant(Numbers),
+    Refused(Refusal),
+}
+
+// The hops of a trail that was laid into a buffer.
+pub enum Trailed {
+    Hops(u16),
+    Refused(Refusal),
 }
 
 // The plant of a listing that can be planned: refusals 1 to 9.
@@ -87,5 +107,75 @@ pub fn forwarding_table(listing: &[u8]) -> Tabled
                 table,
             }
         }
+    }
+}
+
+// The numbers of a plant that can be planned.
+fn numbers_of(p: Plant) -> Numbers
+    requires { ⌜ Sound p × Connected p ⌝ }
+    ensures { λ r. ⌜ r ≡ numbersOf p ⌝ }
+{
+    let b = graph::bridges(p);
+    let used = graph::arcs_with(p, b);
+    let t = distance::distances(p, used);
+    let via = trail::first_hops(p, used, t);
+    let hops = trail::hops(p, used, t, &via);
+    let bridges = graph::count_set(&b);
+    let rules = graph::count_set(&used);
+    Numbers {
+        switches: p.switches,
+        links: p.count,
+        bridges: bridges as u16,
+        rules: rules as u16,
+        hops,
+    }
+}
+
+// Switches, links, bridges, rules and hops of a listing: refusals 1 to 9.
+pub fn summarize(listing: &[u8]) -> Summary
+    ensures { λ r. ⌜ summaryAnswer r ≡ summing (now (listing .entry)) ⌝ }
+{
+    let d = plan(listing);
+    let v = d.verdict;
+    match v {
+        Verdict::Sound => {
+            let p = d.plant;
+            Summary::Plant(numbers_of(p))
+        }
+        Verdict::Refused(k) => Summary::Refused(k),
+    }
+}
+
+// The trail of a plant that can be planned into the front of the buffer, or refusal 10.
+fn put_trail(p: Plant, buffer: &mut [u16]) -> Trailed
+    requires { ⌜ Sound p × Connected p ⌝ }
+    ensures { λ r. ⌜ trailAnswer r ≡ laying p (now (buffer .entry)) ⌝ }
+    ensures { λ _. ⌜ now (buffer .exit) ≡ laidOut p (now (buffer .entry)) ⌝ }
+{
+    let used = graph::arcs_in_use(p);
+    let t = distance::distances(p, used);
+    let via = trail::first_hops(p, used, t);
+    let hops = trail::hops(p, used, t, &via);
+    let n = hops as usize;
+    if buffer.len() < n {
+        return Trailed::Refused(Refusal::TrailBufferShort);
+    }
+    trail::fill(p, used, t, &via, buffer);
+    Trailed::Hops(hops)
+}
+
+// The trail of a listing into the front of the lent buffer, and its hops: refusals 1 to 10.
+pub fn lay_trail(listing: &[u8], buffer: &mut [u16]) -> Trailed
+    ensures { λ r. ⌜ trailAnswer r ≡ trailing (now (listing .entry)) (now (buffer .entry)) ⌝ }
+    ensures { λ _. ⌜ now (buffer .exit) ≡ trailedBy (planning (now (listing .entry))) (now (buffer .entry)) ⌝ }
+{
+    let d = plan(listing);
+    let v = d.verdict;
+    match v {
+        Verdict::Sound => {
+            let p = d.plant;
+            put_trail(p, buffer)
+        }
+        Verdict::Refused(k) => Trailed::Refused(k),
     }
 }

@@ -1,0 +1,67 @@
+-- `planner::put_trail` meets its contract. Assumes nothing.
+use mathlib.Core.Path.{_∙_}
+use Prim.Native.Nat.{_≤_, _<_}
+use native.Mathlib.Omega.{arith}
+use lib.ListN.{length}
+use Rattle.routes.specs.Plants.{trailOf}
+use Rattle.planner.proofs.Trailing.{planned, lay-short, kept-short, lay-enough, laid-enough}
+use borrow.Author.Needs.{needs}
+use Rattle.planner.proofs.put_trail.Statement.{statement}
+use Rattle.planner.proofs.put_trail.Tie as tie
+
+arcs-in-use-requires : tie.Need-arcs-in-use-requires
+arcs-in-use-requires c κs = search needs
+
+distances-requires : tie.Need-distances-requires
+distances-requires c κs = search needs
+
+first-hops-requires : tie.Need-first-hops-requires
+first-hops-requires c κs = search needs
+
+hops-requires : tie.Need-hops-requires
+hops-requires c κs =
+    let k = c .before .before .before .before .before in
+    (planned (k .args .p) (k .pre .0) _ (k .pre .1) (c .before .before .before .arcs-in-use .ensures), (c .before .before .distances .ensures, c .before .first-hops .ensures))
+
+cast-n : tie.Need-cast-n
+cast-n c = search needs
+
+returns : tie.Need-returns
+returns c =
+    let k = c .before .before .before .before .before .before .before in
+    let h : length (k .args .buffer .now) < length (trailOf (k .args .p)) = omega (arith, c .if1 .taken, c .before .hops .ensures) in
+    (lay-short (k .args .p) (k .args .buffer .now) h, kept-short (k .args .p) (k .args .buffer .now) h)
+
+fill-requires : tie.Need-fill-requires
+fill-requires c κs =
+    let i = c .before .before in
+    let v = i .before .before in
+    let k = v .before .before .before .before .before in (
+      planned (k .args .p) (k .pre .0) _ (k .pre .1) (v .before .before .before .arcs-in-use .ensures),
+      (v .before .before .distances .ensures, (v .before .first-hops .ensures, omega (arith, i .if1 .left, i .before .hops .ensures))),
+    )
+
+same-length : tie.Need-same-length
+same-length c = search needs
+
+returns-2 : tie.Need-returns-2
+returns-2 c =
+    let f = c .before .before in
+    let i = f .before .before .before in
+    let k = i .before .before .before .before .before .before .before in
+    let h : length (trailOf (k .args .p)) ≤ length (k .args .buffer .now) = omega (arith, i .if1 .left, i .before .hops .ensures) in
+    (lay-enough (k .args .p) (k .args .buffer .now) h _ (i .before .hops .ensures), f .fill .ensures ∙ laid-enough (k .args .p) (k .args .buffer .now) h)
+
+pub put-trail-spec : {M : Type 1} → statement M
+put-trail-spec =
+    tie.close
+    (tie.spec
+    arcs-in-use-requires
+    distances-requires
+    first-hops-requires
+    hops-requires
+    cast-n
+    returns
+    fill-requires
+    same-length
+    returns-2)

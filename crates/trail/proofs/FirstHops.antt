@@ -1,0 +1,126 @@
+-- The table of first hops, label by label from the highest: after the labels from a on, each cell holds the lowest of them that lessens the distance.
+-- Assumes a sound plant and its table of distances.
+use mathlib.Core.Path.{_≡_, refl, sym, ap, ap₂, _∙_, subst}
+use mathlib.Core.Logic.{_⊎_, inl, inr}
+use mathlib.Core.Bool.{Bool, _&&_}
+use mathlib.Core.List.{List, []}
+use Prim.Native.Nat.{ℕ, suc, _+_, _-_, _*_, _<_}
+use native.Mathlib.Omega.{arith}
+use native.Mathlib.Numerals.{add-one}
+use lib.Dec.{T, eqb, eqb→eq, ltb}
+use lib.ListN.{length, getD, set, replicate, length-set}
+use lib.Seq.{getD-set-same, getD-set-other}
+use Rattle.lists.specs.Tests.{choose, choose-true, choose-false, if-true, if-false, T-or, T-true, eq?, eq→eqb, and-left, and-right}
+use Rattle.lists.specs.Least.{leastFrom}
+use Rattle.model.specs.Limits.{maxSwitches}
+use Rattle.model.specs.Sound.{Sound}
+use Rattle.plant.specs.declared.Plant.{Plant}
+use Rattle.walks.specs.Arcs.{tail, head}
+use Rattle.routes.specs.Distance.{dist, lessens, hop}
+use Rattle.distance.specs.Table.{cell}
+use Rattle.distance.specs.Distances.{flag, distOf, distancesOf}
+use Rattle.distance.proofs.Arcs.{tail-lt, head-lt}
+use Rattle.distance.proofs.Tables.{Holds, flat-holds, holds-table}
+use Rattle.trail.specs.Rows.{better, Lowered}
+use Rattle.trail.specs.Steps.{hopIn, firstHopsOf}
+use Rattle.trail.proofs.Cells.{cell-is}
+
+-- of f + 1 numbers from k on, the first that passes: k, or the first of those after it
+first-step : (f k : ℕ) (q : ℕ → Bool) → leastFrom (suc f) k q ≡ choose (q k) k (leastFrom f (suc k) q)
+unfolding leastFrom
+first-step f k q = go (T-or (q k))
+  where
+    go : T (q k) ⊎ (T (q k) → ⊥) → leastFrom (suc f) k q ≡ choose (q k) k (leastFrom f (suc k) q)
+    go (inl t) = if-true (q k) k (leastFrom f (suc k) q) t ∙ sym (choose-true (q k) k (leastFrom f (suc k) q) t)
+    go (inr n) = if-false (q k) k (leastFrom f (suc k) q) n ∙ sym (choose-false (q k) k (leastFrom f (suc k) q) n)
+
+module _ (p : Plant) (us : List Bool) where
+  abbrev S : ℕ
+  S = p .switches
+
+  abbrev n : ℕ
+  n = 2 * p .count
+
+  abbrev L : ℕ → ℕ → ℕ → Bool
+  L u v a = lessens S n (tail p) (head p) (flag us) u v a
+
+  -- the first hop from u to v, of the labels from a on
+  unfoldable pub hopFrom : ℕ → ℕ → ℕ → ℕ
+  hopFrom a u v = leastFrom (n - a) a (L u v)
+
+  hop-step : (a u v : ℕ) → a < n → hopFrom a u v ≡ choose (L u v a) a (hopFrom (a + 1) u v)
+  unfolding hopFrom
+  hop-step a u v h =
+      let e : n - a ≡ suc (n - suc a) = omega arith in
+      ap (λ (f : ℕ). leastFrom f a (L u v)) e ∙ first-step (n - suc a) a (L u v) ∙ ap (λ (b : ℕ). choose (L u v a) a (leastFrom (n - b) b (L u v))) (sym (add-one a))
+
+  -- label a makes no difference where its arc does not leave u, and none where it is not in use
+  hop-other : (a u v : ℕ) → a < n → (T (L u v a) → ⊥) → hopFrom (a + 1) u v ≡ hopFrom a u v
+  hop-other a u v h f = sym (hop-step a u v h ∙ choose-false (L u v a) a (hopFrom (a + 1) u v) f)
+
+  pub hops-none : Holds (hopFrom n) (replicate maxSwitches (replicate maxSwitches n))
+  unfolding hopFrom leastFrom
+  hops-none = record {
+    shape = flat-holds n .shape;
+    cells = λ u v h k. let e : n - n ≡ 0 = omega arith in flat-holds n .cells u v h k ∙ ap (λ (f : ℕ). leastFrom f n (L u v)) (sym e);
+  }
+
+  pub hops-all : (h : List (List ℕ)) → Holds (hopFrom 0) h → h ≡ firstHopsOf p us
+  unfolding hopFrom hop
+  hops-all h q = holds-table (hopIn p us) h (record {
+    shape = q .shape;
+    cells = λ u v i k. let e : n - 0 ≡ n = omega arith in q .cells u v i k ∙ ap (λ (f : ℕ). leastFrom f 0 (L u v)) e;
+  })
+
+  module _ (a b : ℕ) (next : a ≡ b + 1) (inside : b < n) (h : List (List ℕ)) (q : Holds (hopFrom a) h) where
+    on : (u v : ℕ) → hopFrom a u v ≡ hopFrom (b + 1) u v
+    on u v = ap (λ (k : ℕ). hopFrom k u v) next
+
+    pub hops-unused : (T (flag us b) → ⊥) → Holds (hopFrom b) h
+    hops-unused f = record {
+      shape = q .shape;
+      cells = λ u v i k. q .cells u v i k ∙ on u v ∙ hop-other b u v inside (λ t. f (and-left (flag us b) _ t));
+    }
+
+    module _ (ok : Sound p) (t : List (List ℕ)) (right : t ≡ distancesOf p us) (x y : ℕ) (tail-is : x ≡ tail p b) (head-is : y ≡ head p b) (r : List ℕ)
+        (row : Lowered (getD t y []) (getD t x []) (getD h x []) b maxSwitches r) (used : T (flag us b))
+      where
+        x-in : x < maxSwitches
+        x-in = omega (arith, tail-is, tail-lt p ok b inside, ok .few-switches)
+
+        y-in : y < maxSwitches
+        y-in = omega (arith, head-is, head-lt p ok b inside, ok .few-switches)
+
+        -- in row x the test of the code is the test of the definition
+        same : (v : ℕ) → v < maxSwitches → L x v b ≡ ltb (getD (getD t y []) v 0) (getD (getD t x []) v 0)
+        same v i =
+            ap₂ (λ (u w : Bool). u && (w && ltb (distOf p us (head p b) v) (distOf p us x v))) (T-true (flag us b) used) (T-true (eqb (tail p b) x) (eq→eqb (sym tail-is)))
+            ∙ ap₂ (λ (k l : ℕ). ltb k l) (ap (λ (z : ℕ). distOf p us z v) (sym head-is) ∙ sym (cell-is p us t right y v v y-in i refl)) (sym (cell-is p us t right x v v x-in i refl))
+
+        row-x : (v : ℕ) → v < maxSwitches → getD r v 0 ≡ hopFrom b x v
+        row-x v i =
+            row .done v i
+            ∙ ap₂ (λ (c : Bool) (k : ℕ). choose c b k) (sym (same v i)) (q .cells x v x-in i ∙ on x v)
+            ∙ sym (hop-step b x v inside)
+
+        pub hops-put : Holds (hopFrom b) (set h x r)
+        hops-put = record {
+          shape = record { long = length-set h x r ∙ q .shape .long; wide = λ u i. wide u i (eq? u x) };
+          cells = λ u v i k. put u v i k (eq? u x);
+        }
+          where
+            same-row : getD (set h x r) x [] ≡ r
+            same-row = getD-set-same h x r [] (omega (arith, x-in, q .shape .long))
+
+            wide : (u : ℕ) → u < maxSwitches → (u ≡ x) ⊎ (u ≡ x → ⊥) → length (getD (set h x r) u []) ≡ maxSwitches
+            wide u i (inl e) = ap (λ (z : ℕ). length (getD (set h x r) z [])) e ∙ ap length same-row ∙ row .places
+            wide u i (inr f) = ap length (getD-set-other h x u r [] f) ∙ q .shape .wide u i
+
+            put : (u v : ℕ) → u < maxSwitches → v < maxSwitches → (u ≡ x) ⊎ (u ≡ x → ⊥) → cell (set h x r) u v ≡ hopFrom b u v
+            put u v i k (inl e) =
+                ap (λ (z : ℕ). cell (set h x r) z v) e ∙ ap (λ (s : List ℕ). getD s v 0) same-row ∙ row-x v k ∙ ap (λ (z : ℕ). hopFrom b z v) (sym e)
+            put u v i k (inr f) =
+                ap (λ (s : List ℕ). getD s v 0) (getD-set-other h x u r [] f)
+                ∙ q .cells u v i k
+                ∙ on u v
+                ∙ hop-other b u v inside (λ z. f (sym (eqb→eq (tail p b) u (and-left (eqb (tail p b) u) _ (and-right (flag us b) _ z))) ∙ sym tail-is))

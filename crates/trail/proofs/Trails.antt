@@ -1,0 +1,52 @@
+-- Theorem D for every sound connected plant: its trail is a closed walk from the start, crosses exactly the arcs in use, has at most 20,479 hops, and is the
+-- trail leg by leg. Assumes a sound connected plant.
+use mathlib.Core.Path.{_≡_}
+use Prim.Native.Nat.{ℕ, _+_, _-_, _*_, _≤_}
+use native.Mathlib.Omega.{arith}
+use native.Mathlib.Nat.{mul-le-mul-right}
+use lib.ListN.{length}
+use Rattle.model.specs.Limits.{maxSwitches, maxLinks, maxHops}
+use Rattle.model.specs.Sound.{Sound}
+use Rattle.plant.specs.declared.Plant.{Plant}
+use Rattle.walks.specs.Arcs.{Valid, tail, head}
+use Rattle.walks.specs.Graph.{Connected, used, arcsUsed}
+use Rattle.walks.specs.Visited.{visited-all}
+use Rattle.walks.specs.Orientation.{strong}
+use Rattle.walks.specs.Counting.{arcs-in-use-all, few-bridges}
+use Rattle.routes.specs.Meaning.{Tour}
+use Rattle.routes.specs.Plants.{trailOf, AllJoined}
+use Rattle.routes.proofs.Plants as plants
+use Rattle.trail.specs.Trails.{IsTrail, legsOf}
+use Rattle.trail.proofs.Valid.{sound-valid}
+
+module _ (p : Plant) (ok : Sound p) (con : Connected p) where
+  valid : Valid p
+  valid = sound-valid p ok
+
+  -- theorem A
+  pub all-joined : AllJoined p
+  all-joined x y h i = strong p valid x y (visited-all p valid con x h) (visited-all p valid con y i)
+
+  -- theorem B, within the limits
+  few-arcs : arcsUsed p ≤ maxLinks + (maxSwitches - 1)
+  few-arcs = omega (arith, arcs-in-use-all p valid con, few-bridges p valid con, ok .few-links, ok .few-switches)
+
+  pub most-hops : p .switches * arcsUsed p + (p .switches - 1) ≤ maxHops
+  most-hops = omega (arith, few-arcs, ok .few-switches, mul-le-mul-right (arcsUsed p) (ok .few-switches))
+
+  tour : Tour (p .switches) (2 * p .count) (tail p) (head p) (used p) (p .start) (p .switches * arcsUsed p + (p .switches - 1)) (trailOf p)
+  tour = plants.trail-theorem p valid all-joined
+
+  pub hops-limit : length (trailOf p) ≤ maxHops
+  hops-limit = omega (arith, tour .short, most-hops)
+
+  pub trail-is : IsTrail p (trailOf p)
+  trail-is = record {
+    closed = tour .closed;
+    exactly = λ a. (λ i. tour .in-use a i .1, λ t. tour .crosses a (plants.used-below p valid a t, t));
+    short = hops-limit;
+  }
+
+  -- document 01's wording gives the same list
+  pub trail-by-legs : legsOf p ≡ trailOf p
+  trail-by-legs = plants.trail-by-legs p valid all-joined

@@ -1,0 +1,72 @@
+-- A row of first hops with one more arc tried. The invariant: the places below v are done. Assumes nothing.
+use mathlib.Core.Path.{_≡_, sym, subst}
+use mathlib.Core.Logic.{⊎-elim}
+use Prim.Native.Nat.{_≤_, _+_, _-_}
+use native.Mathlib.Omega.{arith}
+use borrow.Author.Needs.{needs}
+use Rattle.model.specs.Limits.{maxSwitches}
+use Rattle.trail.specs.Rows.{Lowered}
+use Rattle.trail.proofs.Rows.{lower-none, lower-put, lower-keep}
+use Rattle.trail.proofs.lower.Statement.{statement}
+use Rattle.trail.proofs.lower.Tie as tie
+
+abbrev Inv-loop : tie.InvT-loop
+Inv-loop a near far r₀ v₀ r v = (v ≤ maxSwitches) × Lowered near far r₀ a v r
+
+abbrev μ-loop : tie.MeasureT-loop
+μ-loop a near far r₀ v₀ r v = maxSwitches - v
+
+loop-holds : tie.Need-loop-holds Inv-loop μ-loop
+loop-holds c = (omega arith, lower-none _ _ _ _ (c .good .1 .1 .0 .1 .0 .1))
+
+array-read-if1 : tie.Need-array-read-if1 Inv-loop μ-loop
+array-read-if1 c = search needs
+
+array-read-if1-2 : tie.Need-array-read-if1-2 Inv-loop μ-loop
+array-read-if1-2 c = search needs
+
+mul-r : tie.Need-mul-r Inv-loop μ-loop
+mul-r c = search needs
+
+array-write-r : tie.Need-array-write-r Inv-loop μ-loop
+array-write-r c = search needs
+
+add-v : tie.Need-add-v Inv-loop μ-loop
+add-v c = search needs
+
+loop-less : tie.Need-loop-less Inv-loop μ-loop
+loop-less c = search needs
+
+loop-again : tie.Need-loop-again Inv-loop μ-loop
+loop-again c =
+    let k = c .before .before .loop in
+    let v-in = c .before .loop-test .taken in (
+      omega arith,
+      ⊎-elim
+          (λ w. subst (Lowered _ _ _ _ (k .v + 1)) (sym (w .1)) (lower-put _ _ _ _ (k .v) (k .r) (k .inv .1) v-in (w .0 .taken)))
+          (λ w. subst (Lowered _ _ _ _ (k .v + 1)) (sym (w .1)) (lower-keep _ _ _ _ (k .v) (k .r) (k .inv .1) (w .0 .left)))
+          (c .if1 .came),
+    )
+
+returns : tie.Need-returns Inv-loop μ-loop
+returns c =
+    let k = c .before .loop in
+    let e : k .v ≡ maxSwitches = omega arith in
+    let s = c .before .before in
+    subst (λ v. Lowered (s .args .t1) (s .args .t2) (s .args .row) (s .args .a) v (k .r)) e (k .inv .1)
+
+pub lower-spec : {M : Type 1} → statement M
+lower-spec =
+    tie.close
+    (tie.spec
+    Inv-loop
+    μ-loop
+    loop-holds
+    array-read-if1
+    array-read-if1-2
+    mul-r
+    array-write-r
+    add-v
+    loop-less
+    loop-again
+    returns)

@@ -1,0 +1,119 @@
+-- The nearest uncrossed arc in use. The invariant: the best of the labels below a. Assumes nothing.
+use mathlib.Core.Logic.{⊎-elim}
+use Prim.Native.Nat.{_≤_, _+_, _-_, _*_}
+use native.Mathlib.Omega.{arith}
+use borrow.Author.Needs.{needs}
+use borrow.Author.Tests.{not-true, not-false}
+use Rattle.walks.specs.Arcs.{tail, head}
+use Rattle.distance.specs.Distances.{flag}
+use Rattle.distance.proofs.Arcs.{tail-lt}
+use Rattle.trail.proofs.Cells.{cell-is}
+use Rattle.trail.proofs.Best.{Best, best-none, best-skip, best-stay, best-new, best-at, best-top, best-all, left-yes, left-unused, left-crossed}
+use Rattle.trail.proofs.nearest.Statement.{statement}
+use Rattle.trail.proofs.nearest.Tie as tie
+
+abbrev Inv-loop : tie.InvT-loop
+Inv-loop u p used t crossed n x best₀ least₀ a₀ best least a = (a ≤ 2 * p .count) × Best (p .switches) (2 * p .count) (tail p) (head p) (flag used) (flag crossed) u a best least
+
+abbrev μ-loop : tie.MeasureT-loop
+μ-loop u p used t crossed n x best₀ least₀ a₀ best least a = 2 * p .count - a
+
+cast-n : tie.Need-cast-n Inv-loop μ-loop
+cast-n c = search needs
+
+mul-n : tie.Need-mul-n Inv-loop μ-loop
+mul-n c = search needs
+
+add-least : tie.Need-add-least Inv-loop μ-loop
+add-least c = omega (arith, c .pre .0 .few-switches)
+
+loop-holds : tie.Need-loop-holds Inv-loop μ-loop
+loop-holds c = (omega arith, best-none _ _ _ _ _ _ _)
+
+array-read-if1 : tie.Need-array-read-if1 Inv-loop μ-loop
+array-read-if1 c = omega (arith, c .before .before .pre .0 .few-links)
+
+array-read-if2 : tie.Need-array-read-if2 Inv-loop μ-loop
+array-read-if2 c = omega (arith, c .before .before .before .pre .0 .few-links)
+
+mul-l : tie.Need-mul-l Inv-loop μ-loop
+mul-l c = search needs
+
+element-copy-out-l : tie.Need-element-copy-out-l Inv-loop μ-loop
+element-copy-out-l c = omega (arith, c .before .before .before .before .pre .0 .few-links)
+
+tail-of-requires : tie.Need-tail-of-requires Inv-loop μ-loop
+tail-of-requires c κs = search needs
+
+cast-y : tie.Need-cast-y Inv-loop μ-loop
+cast-y c = search needs
+
+mul-d : tie.Need-mul-d Inv-loop μ-loop
+mul-d c = let s = c .before .before .before .before .before .before in omega (arith, s .pre .0 .few-switches)
+
+index-1-d : tie.Need-index-1-d Inv-loop μ-loop
+index-1-d c = let s = c .before .before .before .before .before .before in omega (arith, s .pre .0 .few-switches)
+
+index-2-d : tie.Need-index-2-d Inv-loop μ-loop
+unfolding tail
+index-2-d c = let in-loop = c .before .before .before .before in let s = in-loop .before .before in omega (arith, s .pre .0 .few-switches, c .tail-of .ensures, tail-lt (s .args .t1) (s .pre .0) _ (in-loop .loop-test .taken))
+
+add-a : tie.Need-add-a Inv-loop μ-loop
+add-a c = search needs
+
+loop-less : tie.Need-loop-less Inv-loop μ-loop
+loop-less c = search needs
+
+loop-again : tie.Need-loop-again Inv-loop μ-loop
+unfolding tail
+loop-again c =
+    let k = c .before .before .loop in
+    let s = c .before .before .before in
+    let p = s .args .t1 in
+    let low = tail-lt p (s .pre .0) (k .a) (c .before .loop-test .taken) in
+    let few = s .pre .0 .few-switches in (
+      omega arith,
+      ⊎-elim
+          (λ w. best-at _ _ _ _ _ _ _ (k .a + 1) _ _ _ _ (w .6) (w .7)
+          (best-new _ _ _ _ _ _ _ (k .a) (k .best) (k .least) _ (left-yes (flag (s .args .t2)) (flag (s .args .t4)) (k .a) (w .0 .taken) (not-true _ (w .1 .taken)))
+          (cell-is p (s .args .t2) (s .args .t3) (s .pre .1 .0) (s .args .u) (w .3 .result) (tail p (k .a)) (omega arith) (omega (arith, w .3 .ensures)) (w .3 .ensures)) (w .5 .taken) (k .inv .1)))
+          (⊎-elim
+          (λ w. best-at _ _ _ _ _ _ _ (k .a + 1) _ _ _ _ (w .6) (w .7)
+          (best-stay _ _ _ _ _ _ _ (k .a) (k .best) (k .least) _
+          (cell-is p (s .args .t2) (s .args .t3) (s .pre .1 .0) (s .args .u) (w .3 .result) (tail p (k .a)) (omega arith) (omega (arith, w .3 .ensures)) (w .3 .ensures)) (w .5 .left) (k .inv .1)))
+          (⊎-elim
+          (λ w. best-at _ _ _ _ _ _ _ (k .a + 1) _ _ _ _ (w .2) (w .3) (best-skip _ _ _ _ _ _ _ (k .a) (k .best) (k .least) (left-crossed (flag (s .args .t2)) (flag (s .args .t4)) (k .a) (not-false _ (w .1 .left))) (k .inv .1)))
+          (λ w. best-at _ _ _ _ _ _ _ (k .a + 1) _ _ _ _ (w .1) (w .2) (best-skip _ _ _ _ _ _ _ (k .a) (k .best) (k .least) (left-unused (flag (s .args .t2)) (flag (s .args .t4)) (k .a) (w .0 .left)) (k .inv .1)))))
+          (c .if1 .came),
+    )
+
+cast-result : tie.Need-cast-result Inv-loop μ-loop
+cast-result c = let k = c .before .loop in omega (arith, c .before .before .pre .0 .few-links, best-top _ _ _ _ _ _ _ (k .a) (k .best) (k .least) (k .inv .0) (k .inv .1))
+
+returns : tie.Need-returns Inv-loop μ-loop
+returns c = let k = c .before .loop in best-all _ _ _ _ _ _ _ (k .a) (k .best) (k .least) (omega arith) (k .inv .1)
+
+pub nearest-spec : {M : Type 1} → statement M
+nearest-spec =
+    tie.close
+    (tie.spec
+    Inv-loop
+    μ-loop
+    cast-n
+    mul-n
+    add-least
+    loop-holds
+    array-read-if1
+    array-read-if2
+    mul-l
+    element-copy-out-l
+    tail-of-requires
+    cast-y
+    mul-d
+    index-1-d
+    index-2-d
+    add-a
+    loop-less
+    loop-again
+    cast-result
+    returns)

@@ -1,0 +1,5 @@
+pub mod Rows
+pub mod Steps
+pub mod Filled
+pub mod Trails
+pub mod Cases

@@ -1,0 +1,54 @@
+-- The steps of the trail over flags of the arcs in use: the table of first hops, and what a walker on the trail knows at a switch.
+-- `Planned` says what a plant and its flags have to be for the trail to be the plant's.
+use mathlib.Core.Path.{_≡_}
+use mathlib.Core.Bool.{Bool}
+use mathlib.Core.List.{List}
+use Prim.Native.Nat.{ℕ, _*_, _<_}
+use lib.ListN.{length}
+use Rattle.model.specs.Limits.{maxLinks}
+use Rattle.model.specs.Sound.{Sound}
+use Rattle.plant.specs.declared.Plant.{Plant}
+use Rattle.walks.specs.Arcs.{tail, head}
+use Rattle.walks.specs.Graph.{Connected, used}
+use Rattle.routes.specs.Distance.{hop}
+use Rattle.routes.specs.Trail.{nearest, goal, next}
+use Rattle.distance.specs.Table.{tableOf}
+use Rattle.distance.specs.Distances.{flag}
+use Rattle.trail.specs.declared.Walker.{Walker}
+
+-- the plant is sound and connected, and the flags tell its arcs in use
+pub record Planned (p : Plant) (us : List Bool) : Type 0 where
+  pub sound : Sound p
+  pub connected : Connected p
+  pub flags : (a : ℕ) → a < 2 * p .count → flag us a ≡ used p a
+
+module _ (p : Plant) (us : List Bool) where
+  -- the lowest label of an arc in use that leaves u and lessens the distance to v; the number of labels if there is none
+  abbrev pub hopIn : ℕ → ℕ → ℕ
+  hopIn u v = hop (p .switches) (2 * p .count) (tail p) (head p) (flag us) u v
+
+  -- the table of first hops
+  abbrev pub firstHopsOf : List (List ℕ)
+  firstHopsOf = tableOf hopIn
+
+  -- the arc nearest to u of those in use that are not flagged as crossed: by distance, then by label; the number of labels if there is none
+  abbrev pub nearestIn : List Bool → ℕ → ℕ
+  nearestIn m u = nearest (p .switches) (2 * p .count) (tail p) (head p) (flag us) (flag m) u
+
+  -- where the trail goes from u: to that arc's tail, or back to the start
+  abbrev pub goalIn : List Bool → ℕ → ℕ
+  goalIn m u = goal (p .switches) (2 * p .count) (tail p) (head p) (flag us) (p .start) (flag m) u
+
+  -- the label of the next hop from u; the number of labels if the trail has ended
+  abbrev pub nextIn : List Bool → ℕ → ℕ
+  nextIn m u = next (p .switches) (2 * p .count) (tail p) (head p) (flag us) (p .start) (flag m) u
+
+  -- the walker at u with so many arcs crossed
+  unfoldable pub walkerAt : List Bool → ℕ → Walker
+  walkerAt m u = record { at = u; to = goalIn m u; aim = nearestIn m u; next = nextIn m u; crossed = m }
+
+  -- the walker is at a switch, and knows what there is to know there
+  pub record Stands (w : Walker) : Type 0 where
+    pub inside : w .at < p .switches
+    pub places : length (w .crossed) ≡ 2 * maxLinks
+    pub knows : w ≡ walkerAt (w .crossed) (w .at)

@@ -1,0 +1,270 @@
+// The trail of a plant: the table of first hops, a walker that goes hop by hop, and the trail counted, written to a lent buffer, and compared with a lent
+// one. The flags of the arcs in use and the table of distances are the caller's.
+ghost use mathlib.Core.Path.{_≡_};
+ghost use mathlib.Core.Bool.{true, false};
+ghost use Prim.Native.Nat.{_*_, _≤_, _<_};
+ghost use lib.Dec.{eqb};
+ghost use lib.ListN.{length, set, replicate};
+ghost use Rattle.lists.specs.Tests.{choose};
+ghost use Rattle.model.specs.Limits.{maxSwitches, maxLinks};
+ghost use Rattle.model.specs.Sound.{Sound};
+ghost use Rattle.walks.specs.Arcs.{head};
+ghost use Rattle.routes.specs.Plants.{trailOf};
+ghost use Rattle.distance.specs.Table.{cell};
+ghost use Rattle.distance.specs.Distances.{distancesOf};
+ghost use Rattle.trail.specs.Rows.{Lowered};
+ghost use Rattle.trail.specs.Steps.{Planned, firstHopsOf, nearestIn, walkerAt, Stands};
+ghost use Rattle.trail.specs.Filled.{filledWith, sameList};
+use distance::LABELS;
+use distance::PLACES;
+use distance::head_of;
+use distance::tail_of;
+use plant::Link;
+use plant::Plant;
+
+// A walker on the trail: the switch it is at, the arcs crossed, the nearest uncrossed arc in use, the switch it goes to, and the label of its next hop.
+pub struct Walker {
+    pub at: u8,
+    pub to: u8,
+    pub aim: u16,
+    pub next: u16,
+    pub crossed: [bool; LABELS],
+}
+
+// For each place of a row of first hops the label a, where the distance from the arc's head is less than that from its tail.
+fn lower(near: [u8; PLACES], far: [u8; PLACES], row: [u16; PLACES], a: u16) -> [u16; PLACES]
+    ensures { λ r. ⌜ Lowered near far row a maxSwitches r ⌝ }
+{
+    let mut r = row;
+    let mut v: usize = 0;
+    while v < PLACES {
+        if near[v] < far[v] {
+            r[v] = a;
+        }
+        v += 1;
+    }
+    r
+}
+
+// From each switch to each, the lowest label of an arc in use that lessens the distance; the number of labels where there is none. The labels are tried
+// from the highest on, and a lower one takes the place of a higher.
+pub fn first_hops(
+    p: Plant,
+    used: [bool; LABELS],
+    t: [[u8; PLACES]; PLACES],
+) -> [[u16; PLACES]; PLACES]
+    requires { ⌜ Sound p ⌝ }
+    requires { ⌜ t ≡ distancesOf p used ⌝ }
+    ensures { λ r. ⌜ r ≡ firstHopsOf p used ⌝ }
+{
+    let n = 2 * p.count;
+    let none = [n; PLACES];
+    let mut h = [none; PLACES];
+    let mut a = n as usize;
+    while 0 < a {
+        a -= 1;
+        if used[a] {
+            let l = p.links[a / 2];
+            let x = tail_of(l, a) as usize;
+            let y = head_of(l, a) as usize;
+            h[x] = lower(t[y], t[x], h[x], a as u16);
+        }
+    }
+    h
+}
+
+// The uncrossed arc in use that is nearest to u, by distance and then by label; the number of labels if there is none.
+pub fn nearest(
+    p: Plant,
+    used: [bool; LABELS],
+    t: [[u8; PLACES]; PLACES],
+    crossed: [bool; LABELS],
+    u: u8,
+) -> u16
+    requires { ⌜ Sound p ⌝ }
+    requires { ⌜ t ≡ distancesOf p used ⌝ }
+    requires { ⌜ u < p .switches ⌝ }
+    ensures { λ r. ⌜ r ≡ nearestIn p used crossed u ⌝ }
+{
+    let n = 2 * p.count as usize;
+    let x = u as usize;
+    let mut best = n;
+    let mut least = p.switches + 1;
+    let mut a: usize = 0;
+    while a < n {
+        if used[a] {
+            if !crossed[a] {
+                let l = p.links[a / 2];
+                let y = tail_of(l, a) as usize;
+                let d = t[x][y];
+                if d < least {
+                    best = a;
+                    least = d;
+                }
+            }
+        }
+        a += 1;
+    }
+    best as u16
+}
+
+// The label of the next hop from u: the nearest arc, if it is where the trail goes, else the first hop to there.
+fn next(via: &[[u16; PLACES]; PLACES], u: u8, to: u8, aim: u16) -> u16
+    requires { ⌜ u < maxSwitches ⌝ }
+    requires { ⌜ to < maxSwitches ⌝ }
+    ensures { λ r. ⌜ r ≡ choose (eqb u to) aim (cell (now (via .entry)) u to) ⌝ }
+{
+    if u == to {
+        return aim;
+    }
+    let x = u as usize;
+    let y = to as usize;
+    via[x][y]
+}
+
+// A walker at u that looks for the nearest arc anew.
+fn aimed(
+    p: Plant,
+    used: [bool; LABELS],
+    t: [[u8; PLACES]; PLACES],
+    via: &[[u16; PLACES]; PLACES],
+    crossed: [bool; LABELS],
+    u: u8,
+) -> Walker
+    requires { ⌜ Sound p ⌝ }
+    requires { ⌜ t ≡ distancesOf p used ⌝ }
+    requires { ⌜ now via ≡ firstHopsOf p used ⌝ }
+    requires { ⌜ u < p .switches ⌝ }
+    ensures { λ r. ⌜ r ≡ walkerAt p used crossed u ⌝ }
+{
+    let a = nearest(p, used, t, crossed, u);
+    let mut to = p.start;
+    if a < 2 * p.count {
+        let i = a as usize;
+        to = tail_of(p.links[i / 2], i);
+    }
+    Walker {
+        at: u,
+        to,
+        aim: a,
+        next: next(via, u, to, a),
+        crossed,
+    }
+}
+
+// The walker crosses the next arc. On the way to the nearest arc that arc stays the nearest; once it is crossed, the walker looks for the next.
+pub fn step(
+    p: Plant,
+    used: [bool; LABELS],
+    t: [[u8; PLACES]; PLACES],
+    via: &[[u16; PLACES]; PLACES],
+    w: Walker,
+) -> Walker
+    requires { ⌜ Planned p used ⌝ }
+    requires { ⌜ t ≡ distancesOf p used ⌝ }
+    requires { ⌜ now via ≡ firstHopsOf p used ⌝ }
+    requires { ⌜ Stands p used w ⌝ }
+    requires { ⌜ w .next < 2 * p .count ⌝ }
+    ensures { λ r. ⌜ r ≡ walkerAt p used (set (w .crossed) (w .next) true) (head p (w .next)) ⌝ }
+{
+    let a = w.next as usize;
+    let at = head_of(p.links[a / 2], a);
+    let mut v = w;
+    v.crossed[a] = true;
+    if v.next == v.aim {
+        return aimed(p, used, t, via, v.crossed, at);
+    }
+    v.at = at;
+    v.next = next(via, at, v.to, v.aim);
+    v
+}
+
+// The walker at the start, with no arc crossed.
+pub fn begin(
+    p: Plant,
+    used: [bool; LABELS],
+    t: [[u8; PLACES]; PLACES],
+    via: &[[u16; PLACES]; PLACES],
+) -> Walker
+    requires { ⌜ Sound p ⌝ }
+    requires { ⌜ t ≡ distancesOf p used ⌝ }
+    requires { ⌜ now via ≡ firstHopsOf p used ⌝ }
+    ensures { λ r. ⌜ r ≡ walkerAt p used (replicate (2 * maxLinks) false) (p .start) ⌝ }
+{
+    aimed(p, used, t, via, [false; LABELS], p.start)
+}
+
+// The number of hops of the trail.
+pub fn hops(
+    p: Plant,
+    used: [bool; LABELS],
+    t: [[u8; PLACES]; PLACES],
+    via: &[[u16; PLACES]; PLACES],
+) -> u16
+    requires { ⌜ Planned p used ⌝ }
+    requires { ⌜ t ≡ distancesOf p used ⌝ }
+    requires { ⌜ now via ≡ firstHopsOf p used ⌝ }
+    ensures { λ r. ⌜ r ≡ length (trailOf p) ⌝ }
+{
+    let n = 2 * p.count;
+    let mut w = begin(p, used, t, via);
+    let mut count: u16 = 0;
+    while w.next < n {
+        w = step(p, used, t, via, w);
+        count += 1;
+    }
+    count
+}
+
+// The trail into the front of a lent buffer that has room for it; the places after it keep their contents.
+pub fn fill(
+    p: Plant,
+    used: [bool; LABELS],
+    t: [[u8; PLACES]; PLACES],
+    via: &[[u16; PLACES]; PLACES],
+    buf: &mut [u16],
+)
+    requires { ⌜ Planned p used ⌝ }
+    requires { ⌜ t ≡ distancesOf p used ⌝ }
+    requires { ⌜ now via ≡ firstHopsOf p used ⌝ }
+    requires { ⌜ length (trailOf p) ≤ length (now buf) ⌝ }
+    ensures { λ _. ⌜ now (buf .exit) ≡ filledWith (trailOf p) (now (buf .entry)) ⌝ }
+{
+    let end = 2 * p.count;
+    let mut w = begin(p, used, t, via);
+    let mut i: usize = 0;
+    while w.next < end {
+        buf[i] = w.next;
+        w = step(p, used, t, via, w);
+        i += 1;
+    }
+}
+
+// Is the lent trail, in its whole length, the plant's? Refusal 12 is tried by this.
+pub fn same_trail(
+    p: Plant,
+    used: [bool; LABELS],
+    t: [[u8; PLACES]; PLACES],
+    via: &[[u16; PLACES]; PLACES],
+    lent: &[u16],
+) -> bool
+    requires { ⌜ Planned p used ⌝ }
+    requires { ⌜ t ≡ distancesOf p used ⌝ }
+    requires { ⌜ now via ≡ firstHopsOf p used ⌝ }
+    ensures { λ r. ⌜ r ≡ sameList (now (lent .entry)) (trailOf p) ⌝ }
+{
+    let n = 2 * p.count;
+    let mut w = begin(p, used, t, via);
+    let mut k: usize = 0;
+    while w.next < n {
+        if lent.len() <= k {
+            return false;
+        }
+        if lent[k] != w.next {
+            return false;
+        }
+        w = step(p, used, t, via, w);
+        k += 1;
+    }
+    k == lent.len()
+}
