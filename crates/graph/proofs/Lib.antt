@@ -1,6 +1,5 @@
 pub mod Plain
 pub mod Unvisited
-pub mod Valid
 pub mod Links
 pub mod Entering
 pub mod Goes

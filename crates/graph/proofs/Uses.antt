@@ -27,7 +27,7 @@ use Rattle.graph.specs.declared.Visited.{Visited}
 use Rattle.graph.specs.Flags.{Flags, countSet}
 use Rattle.graph.specs.Shows.{Shows}
 use Rattle.graph.specs.Steps.{inUse}
-use Rattle.graph.proofs.Valid.{sound-valid}
+use Rattle.walks.specs.Valid.{sound-valid}
 use Rattle.graph.proofs.Filled.{flags-count}
 
 module _ (p : Plant) where

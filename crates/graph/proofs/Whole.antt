@@ -22,7 +22,7 @@ use Rattle.walks.specs.Visited.{begin, run}
 use Rattle.graph.specs.declared.Visited.{Visited}
 use Rattle.graph.specs.Shows.{Shows, unvisited}
 use Rattle.graph.specs.Steps.{beginOf, At, Went}
-use Rattle.graph.proofs.Valid.{sound-valid}
+use Rattle.walks.specs.Valid.{sound-valid}
 use Rattle.graph.proofs.Plain.{getD-replicate, flag-set}
 use Rattle.graph.proofs.Unvisited.{unvisited-set}
 

@@ -13,7 +13,7 @@ use Rattle.model.specs.Answers.{given-refused, given-given, refuse-given, then-
 use Rattle.model.specs.Sound.{Sound}
 use Rattle.walks.specs.Graph.{Connected, connected}
 use Rattle.walks.specs.Tests.{connected-is}
-use Rattle.graph.proofs.Valid.{sound-valid}
+use Rattle.walks.specs.Valid.{sound-valid}
 use Rattle.listing.specs.declared.Decoded.{Decoded}
 use Rattle.listing.specs.declared.Verdict.{Verdict}
 use Rattle.listing.specs.declared.Verdict.the-variants as verdict

@@ -18,7 +18,7 @@ use Rattle.walks.specs.Arcs.{side, tail, head}
 use Rattle.walks.specs.Graph.{Connected, used, liveLinks, bridges, arcsUsed}
 use Rattle.walks.specs.Live.{all-live}
 use Rattle.walks.specs.Counting.{arcs-in-use, arcs-in-use-all, few-bridges}
-use Rattle.graph.proofs.Valid.{sound-valid}
+use Rattle.walks.specs.Valid.{sound-valid}
 use Rattle.table.specs.declared.Rule.{Rule}
 use Rattle.table.specs.declared.Table.{Table}
 use Rattle.table.specs.Rules.{maxRules, zeroRule, tableWith, ruleOf, rulesBelow, rulesOf, tableOf}

@@ -10,7 +10,7 @@ use Rattle.routes.specs.Distance.{dist}
 use Rattle.routes.specs.Trail.{uncrossed, nearest}
 use Rattle.routes.proofs.Distances.{dist-top}
 use Rattle.routes.proofs.Nearest.{nearest-none, nearest-is}
-use Rattle.trail.proofs.Below.{below-next}
+use Rattle.trail.proofs.Lists.{below-next}
 
 -- is arc a left?
 module _ (ok m : ℕ → Bool) (a : ℕ) where

@@ -1,6 +1,6 @@
 -- The table of first hops, label by label from the highest: after the labels from a on, each cell holds the lowest of them that lessens the distance.
 -- Assumes a sound plant and its table of distances.
-use mathlib.Core.Path.{_≡_, refl, sym, ap, ap₂, _∙_, subst}
+use mathlib.Core.Path.{_≡_, refl, sym, ap, ap₂, _∙_}
 use mathlib.Core.Logic.{_⊎_, inl, inr}
 use mathlib.Core.Bool.{Bool, _&&_}
 use mathlib.Core.List.{List, []}
@@ -10,29 +10,21 @@ use native.Mathlib.Numerals.{add-one}
 use lib.Dec.{T, eqb, eqb→eq, ltb}
 use lib.ListN.{length, getD, set, replicate, length-set}
 use lib.Seq.{getD-set-same, getD-set-other}
-use Rattle.lists.specs.Tests.{choose, choose-true, choose-false, if-true, if-false, T-or, T-true, eq?, eq→eqb, and-left, and-right}
+use Rattle.lists.specs.Tests.{choose, choose-false, T-true, eq?, eq→eqb, and-left, and-right}
 use Rattle.lists.specs.Least.{leastFrom}
 use Rattle.model.specs.Limits.{maxSwitches}
 use Rattle.model.specs.Sound.{Sound}
 use Rattle.plant.specs.declared.Plant.{Plant}
 use Rattle.walks.specs.Arcs.{tail, head}
-use Rattle.routes.specs.Distance.{dist, lessens, hop}
+use Rattle.routes.specs.Distance.{lessens, hop}
 use Rattle.distance.specs.Table.{cell}
 use Rattle.distance.specs.Distances.{flag, distOf, distancesOf}
 use Rattle.distance.proofs.Arcs.{tail-lt, head-lt}
 use Rattle.distance.proofs.Tables.{Holds, flat-holds, holds-table}
-use Rattle.trail.specs.Rows.{better, Lowered}
+use Rattle.trail.specs.Rows.{Lowered}
 use Rattle.trail.specs.Steps.{hopIn, firstHopsOf}
+use Rattle.trail.proofs.Lists.{first-step}
 use Rattle.trail.proofs.Cells.{cell-is}
-
--- of f + 1 numbers from k on, the first that passes: k, or the first of those after it
-first-step : (f k : ℕ) (q : ℕ → Bool) → leastFrom (suc f) k q ≡ choose (q k) k (leastFrom f (suc k) q)
-unfolding leastFrom
-first-step f k q = go (T-or (q k))
-  where
-    go : T (q k) ⊎ (T (q k) → ⊥) → leastFrom (suc f) k q ≡ choose (q k) k (leastFrom f (suc k) q)
-    go (inl t) = if-true (q k) k (leastFrom f (suc k) q) t ∙ sym (choose-true (q k) k (leastFrom f (suc k) q) t)
-    go (inr n) = if-false (q k) k (leastFrom f (suc k) q) n ∙ sym (choose-false (q k) k (leastFrom f (suc k) q) n)
 
 module _ (p : Plant) (us : List Bool) where
   abbrev S : ℕ

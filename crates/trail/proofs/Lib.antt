@@ -1,10 +1,10 @@
-pub mod Below
+pub mod Lists
 pub mod Cells
 pub mod Rows
 pub mod FirstHops
 pub mod Best
-pub mod Valid
 pub mod Trails
 pub mod Walkers
+pub mod OnTheWay
 pub mod Rest
 pub mod Filled

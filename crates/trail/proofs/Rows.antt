@@ -1,5 +1,5 @@
 -- One place more of a row of first hops. Assumes nothing.
-use mathlib.Core.Path.{_≡_, refl, sym, ap, _∙_}
+use mathlib.Core.Path.{_≡_, refl, sym, _∙_}
 use mathlib.Core.List.{List}
 use Prim.Native.Nat.{ℕ, _+_, _≤_, _<_}
 use native.Mathlib.Omega.{arith}
@@ -9,7 +9,7 @@ use lib.Seq.{getD-set-same, getD-set-other}
 use Rattle.lists.specs.Tests.{choose-true, choose-false}
 use Rattle.model.specs.Limits.{maxSwitches}
 use Rattle.trail.specs.Rows.{better, Lowered}
-use Rattle.trail.proofs.Below.{below-next}
+use Rattle.trail.proofs.Lists.{below-next}
 
 module _ (near far row : List ℕ) (a : ℕ) where
   abbrev L : ℕ → List ℕ → Type 0

@@ -1,7 +1,7 @@
--- Theorem D for every sound connected plant: its trail is a closed walk from the start, crosses exactly the arcs in use, has at most 20,479 hops, and is the
--- trail leg by leg. Assumes a sound connected plant.
+-- Theorem D for every sound connected plant: its trail is a closed walk from the start, crosses exactly the arcs in use, has at most `maxHops` hops, and is
+-- the trail leg by leg. Assumes a sound connected plant.
 use mathlib.Core.Path.{_≡_}
-use Prim.Native.Nat.{ℕ, _+_, _-_, _*_, _≤_}
+use Prim.Native.Nat.{_+_, _-_, _*_, _≤_}
 use native.Mathlib.Omega.{arith}
 use native.Mathlib.Nat.{mul-le-mul-right}
 use lib.ListN.{length}
@@ -9,15 +9,15 @@ use Rattle.model.specs.Limits.{maxSwitches, maxLinks, maxHops}
 use Rattle.model.specs.Sound.{Sound}
 use Rattle.plant.specs.declared.Plant.{Plant}
 use Rattle.walks.specs.Arcs.{Valid, tail, head}
-use Rattle.walks.specs.Graph.{Connected, used, arcsUsed}
+use Rattle.walks.specs.Graph.{ClosedWalk, Connected, used, arcsUsed}
 use Rattle.walks.specs.Visited.{visited-all}
-use Rattle.walks.specs.Orientation.{strong}
+use Rattle.walks.specs.Orientation.{used-arc, strong}
 use Rattle.walks.specs.Counting.{arcs-in-use-all, few-bridges}
 use Rattle.routes.specs.Meaning.{Tour}
 use Rattle.routes.specs.Plants.{trailOf, AllJoined}
 use Rattle.routes.proofs.Plants as plants
 use Rattle.trail.specs.Trails.{IsTrail, legsOf}
-use Rattle.trail.proofs.Valid.{sound-valid}
+use Rattle.walks.specs.Valid.{sound-valid}
 
 module _ (p : Plant) (ok : Sound p) (con : Connected p) where
   valid : Valid p
@@ -46,6 +46,10 @@ module _ (p : Plant) (ok : Sound p) (con : Connected p) where
     exactly = λ a. (λ i. tour .in-use a i .1, λ t. tour .crosses a (plants.used-below p valid a t, t));
     short = hops-limit;
   }
+
+  -- in document 01's sense of a closed walk
+  pub trail-closed : ClosedWalk p (trailOf p)
+  trail-closed = record { from = p .start; walk = trail-is .closed; arcs-alone = λ a i. used-arc p a (trail-is .exactly a .0 i) }
 
   -- document 01's wording gives the same list
   pub trail-by-legs : legsOf p ≡ trailOf p

@@ -43,7 +43,7 @@ module _ (p : Plant) (us : List Bool) where
   abbrev pub nextIn : List Bool → ℕ → ℕ
   nextIn m u = next (p .switches) (2 * p .count) (tail p) (head p) (flag us) (p .start) (flag m) u
 
-  -- the walker at u with so many arcs crossed
+  -- the walker at u, where m flags the arcs crossed
   unfoldable pub walkerAt : List Bool → ℕ → Walker
   walkerAt m u = record { at = u; to = goalIn m u; aim = nearestIn m u; next = nextIn m u; crossed = m }
 

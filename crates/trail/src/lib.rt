@@ -19,10 +19,10 @@ use distance::LABELS;
 use distance::PLACES;
 use distance::head_of;
 use distance::tail_of;
-use plant::Link;
 use plant::Plant;
 
-// A walker on the trail: the switch it is at, the arcs crossed, the nearest uncrossed arc in use, the switch it goes to, and the label of its next hop.
+// A walker on the trail: the switch that it is at, the switch that it goes to, the nearest uncrossed arc in use, the label of its next hop, and the arcs
+// crossed. The number of labels stands for no arc and for no hop.
 pub struct Walker {
     pub at: u8,
     pub to: u8,
@@ -31,7 +31,7 @@ pub struct Walker {
     pub crossed: [bool; LABELS],
 }
 
-// For each place of a row of first hops the label a, where the distance from the arc's head is less than that from its tail.
+// A row of first hops, with label a in each place where the distance from the arc's head, `near`, is less than that from its tail, `far`.
 fn lower(near: [u8; PLACES], far: [u8; PLACES], row: [u16; PLACES], a: u16) -> [u16; PLACES]
     ensures { λ r. ⌜ Lowered near far row a maxSwitches r ⌝ }
 {
@@ -122,7 +122,7 @@ fn next(via: &[[u16; PLACES]; PLACES], u: u8, to: u8, aim: u16) -> u16
     via[x][y]
 }
 
-// A walker at u that looks for the nearest arc anew.
+// A walker at u that looks for the nearest arc anew. With none left it goes to the start.
 fn aimed(
     p: Plant,
     used: [bool; LABELS],
@@ -152,7 +152,7 @@ fn aimed(
     }
 }
 
-// The walker crosses the next arc. On the way to the nearest arc that arc stays the nearest; once it is crossed, the walker looks for the next.
+// The walker crosses its next arc. On the way to the nearest arc that arc stays the nearest; once it is crossed, the walker looks for another.
 pub fn step(
     p: Plant,
     used: [bool; LABELS],

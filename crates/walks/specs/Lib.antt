@@ -14,3 +14,4 @@ pub mod Attained
 pub mod ByLinks
 pub mod FirstMet
 pub mod Cases
+pub mod Valid

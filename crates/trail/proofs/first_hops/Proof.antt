@@ -1,11 +1,10 @@
 -- The table of first hops, label by label from the highest. The invariant: what `Holds` says of the table after the labels from a on. Assumes nothing.
 use mathlib.Core.Path.{_≡_, subst}
-use Prim.Native.Nat.{_≤_, _+_, _-_, _*_}
+use Prim.Native.Nat.{_≤_, _-_, _*_}
 use native.Mathlib.Omega.{arith}
 use borrow.Author.Needs.{needs}
 use Rattle.lists.specs.Tests.{true-T, false-T}
 use Rattle.walks.specs.Arcs.{tail, head}
-use Rattle.distance.specs.Distances.{flag}
 use Rattle.distance.proofs.Arcs.{tail-lt, head-lt}
 use Rattle.distance.proofs.Tables.{Holds}
 use Rattle.trail.proofs.FirstHops.{hopFrom, hops-none, hops-unused, hops-put, hops-all}

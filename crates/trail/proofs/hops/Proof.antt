@@ -1,13 +1,12 @@
 -- The number of hops. The invariant: those counted and those left make the whole trail. The measure is the most hops ahead. Assumes nothing.
 use mathlib.Core.Path.{_≡_, ap}
-use Prim.Native.Nat.{_+_, _*_}
+use Prim.Native.Nat.{_+_}
 use native.Mathlib.Omega.{arith}
-use borrow.Author.Needs.{needs}
 use lib.ListN.{length}
 use Rattle.routes.specs.Plants.{trailOf}
 use Rattle.trail.specs.Steps.{Stands}
 use Rattle.trail.proofs.Trails.{hops-limit}
-use Rattle.trail.proofs.Rest.{restOf, aheadOf, begin-stands, begin-rest, end-rest, step-stands, step-rest, step-less}
+use Rattle.trail.proofs.Rest.{restOf, aheadOf, begins, steps, ends}
 use Rattle.trail.proofs.hops.Statement.{statement}
 use Rattle.trail.proofs.hops.Tie as tie
 
@@ -25,11 +24,8 @@ begin-requires c κs = let s = c .before in (s .pre .0 .sound, (s .pre .1 .0, s 
 
 loop-holds : tie.Need-loop-holds Inv-loop μ-loop
 loop-holds c =
-    let s = c .before .before in
-    let b = c .begin in (
-      begin-stands (s .args .p) (s .args .used) (s .pre .0) (b .result) (b .ensures),
-      omega (arith, ap length (begin-rest (s .args .p) (s .args .used) (s .pre .0) (b .result) (b .ensures))),
-    )
+    let b = begins (c .before .before .pre .0) (c .begin .ensures) in
+    (b .stands, omega (arith, ap length (b .rest)))
 
 step-requires : tie.Need-step-requires Inv-loop μ-loop
 step-requires c κs =
@@ -41,29 +37,26 @@ add-count : tie.Need-add-count Inv-loop μ-loop
 add-count c =
     let k = c .before .before .before .loop in
     let s = c .before .before .before .before .before .before in
-    omega (arith, k .inv .1, hops-limit (s .args .p) (s .pre .0 .sound) (s .pre .0 .connected), ap length (step-rest (s .args .p) (s .args .used) (s .pre .0) (k .w) (k .inv .0) (c .before .if1 .taken) (c .step .result) (c .step .ensures)))
+    let go = steps (s .pre .0) (k .inv .0) (c .before .if1 .taken) (c .step .ensures) in
+    omega (arith, k .inv .1, ap length (go .rest), hops-limit (s .args .p) (s .pre .0 .sound) (s .pre .0 .connected))
 
 loop-less : tie.Need-loop-less Inv-loop μ-loop
 loop-less c =
     let k = c .before .before .before .loop in
     let s = c .before .before .before .before .before .before in
-    step-less (s .args .p) (s .args .used) (s .pre .0) (k .w) (k .inv .0) (c .before .if1 .taken) (c .step .result) (c .step .ensures)
+    steps (s .pre .0) (k .inv .0) (c .before .if1 .taken) (c .step .ensures) .less
 
 loop-again : tie.Need-loop-again Inv-loop μ-loop
 loop-again c =
     let k = c .before .before .before .loop in
     let s = c .before .before .before .before .before .before in
-    let i = c .before .if1 .taken in
-    let v = c .step .result in (
-      step-stands (s .args .p) (s .args .used) (s .pre .0) (k .w) (k .inv .0) i v (c .step .ensures),
-      omega (arith, k .inv .1, ap length (step-rest (s .args .p) (s .args .used) (s .pre .0) (k .w) (k .inv .0) i v (c .step .ensures))),
-    )
+    let go = steps (s .pre .0) (k .inv .0) (c .before .if1 .taken) (c .step .ensures) in
+    (go .stands, omega (arith, k .inv .1, ap length (go .rest)))
 
 returns : tie.Need-returns Inv-loop μ-loop
 returns c =
     let k = c .before .before .loop in
-    let s = c .before .before .before .before .before in
-    omega (arith, k .inv .1, ap length (end-rest (s .args .p) (s .args .used) (s .pre .0) (k .w) (k .inv .0) (c .if1 .left)))
+    omega (arith, k .inv .1, ap length (ends (c .before .before .before .before .before .pre .0) (k .inv .0) (c .if1 .left)))
 
 pub hops-spec : {M : Type 1} → statement M
 hops-spec =

@@ -1,5 +1,4 @@
 -- The next hop: the nearest arc where the walker is at its goal, and else the first hop to there. Assumes nothing.
-use mathlib.Core.Path.{sym}
 use borrow.Author.Needs.{needs}
 use borrow.Author.Tests.{eq-eqb, ne-eqb}
 use Rattle.trail.proofs.next.Statement.{statement}

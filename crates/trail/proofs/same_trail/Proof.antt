@@ -1,6 +1,6 @@
 -- A lent trail compared. The invariant: what is left of both is the same just where the whole of both is. The measure is the most hops ahead. Assumes nothing.
 use mathlib.Core.Path.{_≡_, refl, sym, ap, _∙_}
-use Prim.Native.Nat.{_≤_, _+_, _*_}
+use Prim.Native.Nat.{_≤_}
 use native.Mathlib.Omega.{arith}
 use borrow.Author.Needs.{needs}
 use lib.ListN.{length, drop}
@@ -8,7 +8,7 @@ use Rattle.routes.specs.Plants.{trailOf}
 use Rattle.trail.specs.Filled.{sameList}
 use Rattle.trail.specs.Steps.{Stands}
 use Rattle.trail.proofs.Filled.{same-short, same-differs, same-one, same-end}
-use Rattle.trail.proofs.Rest.{restOf, aheadOf, begin-stands, begin-rest, end-rest, step-stands, step-rest, step-less}
+use Rattle.trail.proofs.Rest.{restOf, aheadOf, begins, steps, ends}
 use Rattle.trail.proofs.same_trail.Statement.{statement}
 use Rattle.trail.proofs.same_trail.Tie as tie
 
@@ -27,17 +27,15 @@ begin-requires c κs = let s = c .before .before in (s .pre .0 .sound, (s .pre .
 loop-holds : tie.Need-loop-holds Inv-loop μ-loop
 loop-holds c =
     let s = c .before .before .before in
-    let b = c .begin in (
-      begin-stands (s .args .p) (s .args .used) (s .pre .0) (b .result) (b .ensures),
-      omega arith,
-      ap (sameList (s .args .lent .now)) (begin-rest (s .args .p) (s .args .used) (s .pre .0) (b .result) (b .ensures)),
-    )
+    let b = begins (s .pre .0) (c .begin .ensures) in
+    (b .stands, omega arith, ap (sameList (s .args .lent .now)) (b .rest))
 
 returns : tie.Need-returns Inv-loop μ-loop
 returns c =
     let k = c .before .before .before .loop in
     let s = c .before .before .before .before .before .before .before in
-    same-short (s .args .lent .now) _ _ (k .k) _ (step-rest (s .args .p) (s .args .used) (s .pre .0) (k .w) (k .inv .0) (c .before .if1 .taken) _ refl) (c .if2 .taken) ∙ k .inv .2
+    let go = steps (s .pre .0) (k .inv .0) (c .before .if1 .taken) refl in
+    same-short (s .args .lent .now) _ _ (k .k) _ (go .rest) (c .if2 .taken) ∙ k .inv .2
 
 mul-if3 : tie.Need-mul-if3 Inv-loop μ-loop
 mul-if3 c = search needs
@@ -50,7 +48,8 @@ returns-2 c =
     let else2 = c .before .before .before in
     let k = else2 .before .before .before .loop in
     let s = else2 .before .before .before .before .before .before .before in
-    same-differs (s .args .lent .now) _ _ (k .k) _ (step-rest (s .args .p) (s .args .used) (s .pre .0) (k .w) (k .inv .0) (else2 .before .if1 .taken) _ refl) (else2 .if2 .left) (c .if3 .taken) ∙ k .inv .2
+    let go = steps (s .pre .0) (k .inv .0) (else2 .before .if1 .taken) refl in
+    same-differs (s .args .lent .now) _ _ (k .k) _ (go .rest) (else2 .if2 .left) (c .if3 .taken) ∙ k .inv .2
 
 step-requires : tie.Need-step-requires Inv-loop μ-loop
 step-requires c κs =
@@ -70,26 +69,21 @@ loop-less c =
     let else2 = c .before .before .before .before in
     let k = else2 .before .before .before .loop in
     let s = else2 .before .before .before .before .before .before .before in
-    step-less (s .args .p) (s .args .used) (s .pre .0) (k .w) (k .inv .0) (else2 .before .if1 .taken) (c .step .result) (c .step .ensures)
+    steps (s .pre .0) (k .inv .0) (else2 .before .if1 .taken) (c .step .ensures) .less
 
 loop-again : tie.Need-loop-again Inv-loop μ-loop
 loop-again c =
     let else2 = c .before .before .before .before in
     let k = else2 .before .before .before .loop in
     let s = else2 .before .before .before .before .before .before .before in
-    let i = else2 .before .if1 .taken in
-    let v = c .step .result in
-    let rest = step-rest (s .args .p) (s .args .used) (s .pre .0) (k .w) (k .inv .0) i v (c .step .ensures) in (
-      step-stands (s .args .p) (s .args .used) (s .pre .0) (k .w) (k .inv .0) i v (c .step .ensures),
-      omega (arith, else2 .if2 .left),
-      sym (same-one (s .args .lent .now) _ _ (k .k) _ rest (else2 .if2 .left) (c .before .if3 .left)) ∙ k .inv .2,
-    )
+    let go = steps (s .pre .0) (k .inv .0) (else2 .before .if1 .taken) (c .step .ensures) in
+    (go .stands, omega (arith, else2 .if2 .left), sym (same-one (s .args .lent .now) _ _ (k .k) _ (go .rest) (else2 .if2 .left) (c .before .if3 .left)) ∙ k .inv .2)
 
 returns-3 : tie.Need-returns-3 Inv-loop μ-loop
 returns-3 c =
     let k = c .before .before .loop in
     let s = c .before .before .before .before .before .before in
-    same-end (s .args .lent .now) _ (k .k) (k .inv .1) (end-rest (s .args .p) (s .args .used) (s .pre .0) (k .w) (k .inv .0) (c .if1 .left)) ∙ k .inv .2
+    same-end (s .args .lent .now) _ (k .k) (k .inv .1) (ends (s .pre .0) (k .inv .0) (c .if1 .left)) ∙ k .inv .2
 
 pub same-trail-spec : {M : Type 1} → statement M
 same-trail-spec =

@@ -1,11 +1,12 @@
 -- One hop of the walker: after the nearest arc it looks anew, and on the way it keeps its aim. Assumes nothing.
-use mathlib.Core.Path.{_≡_, sym, ap, _∙_}
+use mathlib.Core.Path.{ap, _∙_}
 use native.Mathlib.Omega.{arith}
 use borrow.Author.Needs.{needs}
 use Rattle.walks.specs.Arcs.{head}
 use Rattle.distance.proofs.Arcs.{head-lt}
 use Rattle.trail.specs.Steps.{walkerAt}
-use Rattle.trail.proofs.Walkers.{goal-lt, to-is, on-the-way}
+use Rattle.trail.proofs.Walkers.{goal-lt}
+use Rattle.trail.proofs.OnTheWay.{to-is, on-the-way}
 use Rattle.trail.proofs.step.Statement.{statement}
 use Rattle.trail.proofs.step.Tie as tie
 
@@ -45,7 +46,7 @@ next-requires c κs =
     let w = s .args .w in
     let few = s .pre .0 .sound .few-switches in (
       omega (arith, of-head .head-of .ensures, head-lt (s .args .t1) (s .pre .0 .sound) (w .next) (s .pre .1 .1 .1 .1)),
-      omega (arith, to-is (s .args .t1) (s .args .used) (s .pre .0) w (s .pre .1 .1 .1 .0), goal-lt (s .args .t1) (s .args .used) (w .crossed) (w .at) (s .pre .0 .sound)),
+      omega (arith, to-is (s .pre .0) (s .pre .1 .1 .1 .0), goal-lt (s .args .t1) (s .args .used) (w .crossed) (w .at) (s .pre .0 .sound)),
     )
 
 returns-2 : tie.Need-returns-2
@@ -53,7 +54,7 @@ unfolding head
 returns-2 c =
     let of-head = c .before .before in
     let s = of-head .before .before .before in
-    on-the-way (s .args .t1) (s .args .used) (s .pre .0) (s .args .w) (s .pre .1 .1 .1 .0) (s .pre .1 .1 .1 .1) (c .before .if1 .left) (of-head .head-of .result) (c .next .result) _
+    on-the-way (s .pre .0) (s .pre .1 .1 .1 .0) (s .pre .1 .1 .1 .1) (c .before .if1 .left) (of-head .head-of .result) (c .next .result) _
     (of-head .head-of .ensures) (s .pre .1 .1 .0) (c .next .ensures)
 
 pub step-spec : {M : Type 1} → statement M

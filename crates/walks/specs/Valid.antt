@@ -1,8 +1,8 @@
--- A sound plant is what the theory of walks asks for. Assumes nothing.
+-- A sound plant is what this theory asks for. Assumes nothing.
 use Rattle.model.specs.Sound.{Sound}
 use Rattle.plant.specs.declared.Plant.{Plant}
 use Rattle.walks.specs.Arcs.{Valid}
 use Rattle.walks.specs.Live.{live-below}
 
 pub sound-valid : (p : Plant) → Sound p → Valid p
 sound-valid p ok = record {

@@ -1,0 +1,4 @@
+pub mod Ways
+pub mod Hops
+pub mod Rules
+pub mod Probes

@@ -1,0 +1,81 @@
+-- Flags that are set one after the other, and runs under flags of the two kinds. Assumes nothing.
+use mathlib.Core.Path.{_≡_, refl, sym, ap, _∙_}
+use mathlib.Core.Logic.{_⊎_, inl, inr}
+use mathlib.Core.Bool.{Bool, true, false, _&&_}
+use mathlib.Core.List.{List}
+use Prim.Native.Nat.{ℕ, zero, suc, _+_, _*_, _/_, _<_}
+use native.Mathlib.Omega.{arith}
+use lib.Dec.{eqb, ltb}
+use lib.ListN.{length, set, replicate}
+use lib.Seq.{getD-set-same, getD-set-other}
+use borrow.Author.Tests.{ltb-true, lt-ltb, le-ltb}
+use Rattle.lists.specs.Tests.{choose, eq?, same-test, true-T}
+use Rattle.plant.specs.declared.Plant.{Plant}
+use Rattle.plant.specs.Links.{live}
+use Rattle.walks.specs.Arcs.{tail, head}
+use Rattle.walks.specs.Graph.{used}
+use Rattle.walks.specs.Live.{live-is}
+use Rattle.walks.specs.Orientation.{used-arc}
+use Rattle.rings.specs.Packet.{End, runOn, rulesFor}
+use Rattle.rings.specs.PacketLaws.{run-same}
+use Rattle.rings.specs.Rules.{upBy, inTable, inAll}
+use Rattle.distance.specs.Distances.{flag}
+use Rattle.packet.specs.Flags.{flagged, ForArcs, ForTable, ForAll}
+use Rattle.packet.specs.Runs.{goesOn}
+use Rattle.packet.specs.Asked.{CanRun, CanProbe}
+
+-- ---- flags below a number
+
+pub flag-none : (n b : ℕ) → flag (replicate n false) b ≡ ltb b 0
+flag-none n b = go n b ∙ sym (le-ltb b 0 (omega arith))
+  where
+    go : (k c : ℕ) → flag (replicate k false) c ≡ false
+    go zero c = refl
+    go (suc k) zero = refl
+    go (suc k) (suc c) = go k c
+
+pub flag-more : (rules : List Bool) (a : ℕ) → a < length rules → ((b : ℕ) → flag rules b ≡ ltb b a) → (b : ℕ) → flag (set rules a true) b ≡ ltb b (a + 1)
+flag-more rules a h f b = go (eq? b a)
+  where
+    go : (b ≡ a) ⊎ (b ≡ a → ⊥) → flag (set rules a true) b ≡ ltb b (a + 1)
+    go (inl e) = ap (flag (set rules a true)) e ∙ getD-set-same rules a true false h ∙ sym (lt-ltb b (a + 1) (omega arith))
+    go (inr n) =
+        getD-set-other rules a b true false n ∙ f b
+        ∙ same-test (ltb b a) (ltb b (a + 1)) (λ t. lt-ltb b (a + 1) (omega (arith, ltb-true b a t))) (λ t. lt-ltb b a (omega (arith, n, ltb-true b (a + 1) t)))
+
+module _ (p : Plant) (rules : List Bool) where
+  pub flag-all : ((b : ℕ) → flag rules b ≡ ltb b (2 * p .count)) → ForAll p rules
+  flag-all f a =
+      f a
+      ∙ same-test (ltb a (2 * p .count)) (live p (a / 2))
+      (λ t. live-is p (a / 2) .1 (omega (arith, ltb-true a (2 * p .count) t)))
+      (λ t. lt-ltb a (2 * p .count) (omega (arith, live-is p (a / 2) .0 t)))
+
+  -- ---- both kinds are for arcs of the plant
+
+  table-arcs : ForTable p rules → ForArcs p rules
+  table-arcs f a t = used-arc p a (true-T (used p a) (sym (f a) ∙ t))
+
+  pub all-arcs : ForAll p rules → ForArcs p rules
+  all-arcs f a t = true-T (live p (a / 2)) (sym (f a) ∙ t)
+
+  pub probe-runs : (states w : List ℕ) → CanProbe p rules states w → CanRun p rules states
+  probe-runs states w ok = record { sound = ok .sound; arcs = table-arcs (ok .used); bytes = ok .bytes }
+
+  -- ---- a run under flags is one under the rules that they tell
+
+  module _ (kind : ℕ → Bool) (f : (a : ℕ) → flag rules a ≡ kind a) (states : List ℕ) (e : End) (w : List ℕ) where
+    runs-same : goesOn p rules states e w ≡ runOn (rulesFor kind (tail p)) (upBy states) (head p) e w
+    unfolding runOn flagged rulesFor
+    runs-same =
+        ap (λ (r : End). choose (e .ended) r e)
+        (run-same (rulesFor (flag rules) (tail p)) (rulesFor kind (tail p)) (upBy states) (upBy states) (head p) w (e .last) (e .hops)
+        (λ x a h. ap (λ (b : Bool). b && eqb (tail p a) x) (f a)) (λ x a h t. refl))
+
+  pub on-table : ForTable p rules → (states : List ℕ) (e : End) (w : List ℕ) → goesOn p rules states e w ≡ runOn (inTable p) (upBy states) (head p) e w
+  unfolding inTable
+  on-table f states e w = runs-same (used p) f states e w
+
+  pub on-all : ForAll p rules → (states : List ℕ) (e : End) (w : List ℕ) → goesOn p rules states e w ≡ runOn (inAll p) (upBy states) (head p) e w
+  unfolding inAll
+  on-all f states e w = runs-same (λ a. live p (a / 2)) f states e w

@@ -1,0 +1,54 @@
+-- The labels of the way back by number. Assumes nothing.
+use mathlib.Core.Path.{_≡_, refl, sym, ap, _∙_}
+use mathlib.Core.Logic.{_⊎_, inl, inr}
+use mathlib.Core.Bool.{Bool, true, false}
+use mathlib.Core.List.{List, [], _∷_, _++_}
+use Prim.Native.Nat.{ℕ, suc, _+_, _-_, _%_, _<_}
+use native.Mathlib.Omega.{arith}
+use lib.ListN.{length, getD, length-append, List·getD-append}
+use lib.Seq.{getD-at}
+use Rattle.lists.specs.Tests.{eq?}
+use Rattle.walks.specs.Arcs.{opposite}
+use Rattle.rings.specs.Probe.{back}
+use Rattle.packet.specs.Runs.{way}
+
+pub back-length : (w : List ℕ) → length (back w) ≡ length w
+back-length [] = refl
+back-length (a ∷ w) = length-append (back w) (opposite a ∷ []) ∙ omega (arith, back-length w)
+
+pub way-length : (b : Bool) (w : List ℕ) → length (way b w) ≡ length w
+way-length true w = back-length w
+way-length false w = refl
+
+-- label i of the way back is opposite to the one that stands so far from the end
+back-at : (w : List ℕ) (i : ℕ) → i < length w → getD (back w) i 0 ≡ opposite (getD w (length w - 1 - i) 0)
+back-at [] i h = absurd (omega arith)
+back-at (a ∷ w) i h = go (eq? i (length w)) (back-at w i)
+  where
+    go : (i ≡ length w) ⊎ (i ≡ length w → ⊥) → (i < length w → getD (back w) i 0 ≡ opposite (getD w (length w - 1 - i) 0))
+        → getD (back w ++ (opposite a ∷ [])) i 0 ≡ opposite (getD (a ∷ w) (suc (length w) - 1 - i) 0)
+    go (inl e) rec =
+        let z : suc (length w) - 1 - i ≡ 0 = omega arith in
+        rw z (getD-at (back w) (opposite a) [] 0 i (back-length w ∙ sym e))
+    go (inr n) rec =
+        let z : suc (length w) - 1 - i ≡ suc (length w - 1 - i) = omega (arith, n) in
+        rw z (List·getD-append (back w) (opposite a ∷ []) 0 i (omega (arith, n, back-length w)) ∙ rec (omega (arith, n)))
+
+-- ---- label i out
+
+pub label-out : (b : Bool) (w : List ℕ) (i : ℕ) → b ≡ false → getD w i 0 ≡ getD (way b w) i 0
+label-out b w i t = rw t
+
+-- ---- label i back: a stands so far from the end
+
+module _ (b : Bool) (w : List ℕ) (i a : ℕ) (t : b ≡ true) (h : i < length w) (e : a ≡ getD w (length w - 1 - i) 0) where
+  turned : opposite a ≡ getD (way b w) i 0
+  turned = rw t (ap opposite e ∙ sym (back-at w i h))
+
+  pub label-even : a % 2 ≡ 0 → a + 1 ≡ getD (way b w) i 0
+  unfolding opposite
+  label-even m = let o : a + 1 ≡ opposite a = omega arith in o ∙ turned
+
+  pub label-odd : (a % 2 ≡ 0 → ⊥) → a - 1 ≡ getD (way b w) i 0
+  unfolding opposite
+  label-odd m = let o : a - 1 ≡ opposite a = omega (arith, m) in o ∙ turned

@@ -1,0 +1,80 @@
+-- The full check: the stretch of the trail from the place of the switch, then the front. Assumes nothing.
+use mathlib.Core.Path.{sym}
+use native.Mathlib.Omega.{arith}
+use lib.Seq.{length-take-le}
+use borrow.Author.Needs.{needs}
+use Rattle.order.proofs.Rings.{place-in}
+use Rattle.packet.specs.Runs.{endOf}
+use Rattle.packet.proofs.Rules.{probe-runs}
+use Rattle.packet.proofs.Probes.{rest-length, injected-hops, after-hops, ring-is}
+use Rattle.packet.proofs.full_check.Statement.{statement}
+use Rattle.packet.proofs.full_check.Tie as tie
+
+place-of-requires : tie.Need-place-of-requires
+place-of-requires c κs = search needs
+
+injected-requires : tie.Need-injected-requires
+injected-requires c κs = search needs
+
+mul-run-on : tie.Need-mul-run-on
+mul-run-on c = omega (arith, place-in _ _ _ _ (c .before .place-of .ensures))
+
+sub-run-on : tie.Need-sub-run-on
+sub-run-on c = place-in _ _ _ _ (c .before .place-of .ensures)
+
+part-run-on-start : tie.Need-part-run-on-start
+part-run-on-start c = place-in _ _ _ _ (c .before .place-of .ensures)
+
+part-run-on-end : tie.Need-part-run-on-end
+part-run-on-end c = search needs
+
+run-on-requires : tie.Need-run-on-requires
+run-on-requires c κs =
+    let at = c .before .before in
+    let s = at .before .before .before in (
+      probe-runs _ _ _ _ (s .pre),
+      omega (arith, injected-hops _ _ (c .before .injected .ensures), rest-length (s .args .trail .now) (at .place-of .result)),
+    )
+
+slice-aggregate-run-on : tie.Need-slice-aggregate-run-on
+slice-aggregate-run-on c =
+    let at = c .before .before .before .before in
+    let s = at .before .before .before .args in
+    sym (length-take-le (at .place-of .result) (s .trail .now) (place-in _ _ _ _ (at .place-of .ensures)))
+
+run-on-requires-2 : tie.Need-run-on-requires-2
+run-on-requires-2 c κs =
+    let at = c .before .before .before .before in
+    let s = at .before .before .before in (
+      probe-runs _ _ _ _ (s .pre),
+      omega (
+        arith,
+        injected-hops _ _ (c .before .before .before .injected .ensures),
+        after-hops _ _ _ _ _ _ (c .before .run-on .ensures),
+        rest-length (s .args .trail .now) (at .place-of .result),
+        length-take-le (at .place-of .result) (s .args .trail .now) (place-in _ _ _ _ (at .place-of .ensures)),
+      ),
+    )
+
+returns : tie.Need-returns
+returns c =
+    let at = c .before .before .before .before .before in
+    let s = at .before .before .before in
+    ring-is (s .args .p) (s .args .table) (s .args .states .now) (s .args .trail .now) (s .args .s) (s .pre .used) (at .place-of .result)
+    (endOf (c .before .before .before .before .injected .result)) (endOf (c .before .before .run-on .result)) _ (at .place-of .ensures)
+    (c .before .before .before .before .injected .ensures) (c .before .before .run-on .ensures) (c .run-on2 .ensures)
+
+pub full-check-spec : {M : Type 1} → statement M
+full-check-spec =
+    tie.close
+    (tie.spec
+    place-of-requires
+    injected-requires
+    mul-run-on
+    sub-run-on
+    part-run-on-start
+    part-run-on-end
+    run-on-requires
+    slice-aggregate-run-on
+    run-on-requires-2
+    returns)

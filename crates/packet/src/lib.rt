@@ -1,0 +1,205 @@
+// Packet runs: under rules that are flags of labels, by one state byte for each link; the full check, and every probe.
+ghost use mathlib.Core.Path.{_≡_};
+ghost use mathlib.Core.Bool.{not, _&&_};
+ghost use Prim.Native.Nat.{_+_, _*_, _%_, _≤_, _<_};
+ghost use lib.Dec.{eqb};
+ghost use lib.ListN.{length, getD};
+ghost use Rattle.model.specs.Sound.{Sound};
+ghost use Rattle.walks.specs.Arcs.{side, head};
+ghost use Rattle.rings.specs.Packet.{run};
+ghost use Rattle.rings.specs.Rules.{upBy, inTable};
+ghost use Rattle.rings.specs.Probe.{back};
+ghost use Rattle.rings.specs.Injection.{ringOf, probeRun};
+ghost use Rattle.packet.specs.Flags.{ForAll};
+ghost use Rattle.packet.specs.Asked.{CanRun, CanProbe};
+ghost use Rattle.packet.specs.Runs.{endOf, injectedAt, way, outAndBack, goesOn};
+use distance::LABELS;
+use distance::head_of;
+use distance::tail_of;
+use order::front;
+use order::place_of;
+use order::span_of;
+use order::stretch;
+use plant::Link;
+use plant::Plant;
+
+// How a run comes out: has the packet ended (else it is lost), the hops that it made, and the switch that it came to last.
+pub struct End {
+    pub ended: bool,
+    pub hops: usize,
+    pub last: u8,
+}
+
+// A packet that is injected at switch s.
+pub fn injected(s: u8) -> End
+    ensures { λ r. ⌜ endOf r ≡ injectedAt s ⌝ }
+{
+    End {
+        ended: true,
+        hops: 0,
+        last: s,
+    }
+}
+
+// Label i of these labels, or of the way back over them: the opposite arcs, from the last.
+fn label_at(labels: &[u16], i: usize, backward: bool) -> u16
+    requires { ⌜ i < length (now labels) ⌝ }
+    ensures { λ r. ⌜ r ≡ getD (way backward (now (labels .entry))) i 0 ⌝ }
+{
+    if !backward {
+        return labels[i];
+    }
+    let a = labels[labels.len() - 1 - i];
+    if a % 2 == 0 { a + 1 } else { a - 1 }
+}
+
+// Does a packet at switch s cross link l by label a? There is a rule for the label at the switch that its arc leaves, and the link is up.
+fn crosses(rule: bool, state: u8, l: Link, a: usize, s: u8) -> bool
+    ensures { λ r. ⌜ r ≡ (rule && eqb (side (a % 2) (l .first) (l .second)) s) && not (eqb state 0) ⌝ }
+{
+    if !rule {
+        return false;
+    }
+    if tail_of(l, a) != s {
+        return false;
+    }
+    state != 0
+}
+
+// A packet that came so far goes on over these labels, or back over them, unless it is lost.
+fn run_way(
+    p: Plant,
+    rules: [bool; LABELS],
+    states: &[u8],
+    e: End,
+    labels: &[u16],
+    backward: bool,
+) -> End
+    requires { ⌜ CanRun p rules (now states) ⌝ }
+    requires { do ⌜ e .hops + length (now labels) ≤ (← ⟦usize::MAX⟧) ⌝ }
+    ensures { λ r. ⌜ endOf r ≡ goesOn p rules (now (states .entry)) (endOf e) (way backward (now (labels .entry))) ⌝ }
+{
+    if !e.ended {
+        return e;
+    }
+    let n = 2 * (p.count as usize);
+    let mut at = e.last;
+    let mut hops = e.hops;
+    let mut i: usize = 0;
+    while i < labels.len() {
+        let a = label_at(labels, i, backward) as usize;
+        if n <= a {
+            return End {
+                ended: false,
+                hops,
+                last: at,
+            };
+        }
+        let l = p.links[a / 2];
+        if !crosses(rules[a], states[a / 2], l, a, at) {
+            return End {
+                ended: false,
+                hops,
+                last: at,
+            };
+        }
+        at = head_of(l, a);
+        hops += 1;
+        i += 1;
+    }
+    End {
+        ended: true,
+        hops,
+        last: at,
+    }
+}
+
+// A packet that came so far goes on with these labels, unless it is lost.
+pub fn run_on(p: Plant, rules: [bool; LABELS], states: &[u8], e: End, labels: &[u16]) -> End
+    requires { ⌜ CanRun p rules (now states) ⌝ }
+    requires { do ⌜ e .hops + length (now labels) ≤ (← ⟦usize::MAX⟧) ⌝ }
+    ensures { λ r. ⌜ endOf r ≡ goesOn p rules (now (states .entry)) (endOf e) (now (labels .entry)) ⌝ }
+{
+    run_way(p, rules, states, e, labels, false)
+}
+
+// A packet that came so far goes back over these labels, unless it is lost: over the opposite arcs, from the last.
+fn run_back(p: Plant, rules: [bool; LABELS], states: &[u8], e: End, labels: &[u16]) -> End
+    requires { ⌜ CanRun p rules (now states) ⌝ }
+    requires { do ⌜ e .hops + length (now labels) ≤ (← ⟦usize::MAX⟧) ⌝ }
+    ensures { λ r. ⌜ endOf r ≡ goesOn p rules (now (states .entry)) (endOf e) (back (now (labels .entry))) ⌝ }
+{
+    run_way(p, rules, states, e, labels, true)
+}
+
+// The full check: the packet runs under the forwarding table over the ring of switch s, which is the trail from the place of s on and then its front.
+pub fn full_check(p: Plant, table: [bool; LABELS], states: &[u8], s: u8, trail: &[u16]) -> End
+    requires { ⌜ CanProbe p table (now states) (now trail) ⌝ }
+    ensures { λ r. ⌜ endOf r ≡ run (inTable p) (upBy (now (states .entry))) (head p) s 0 (ringOf p (now (trail .entry)) s) ⌝ }
+{
+    let k = place_of(p, s, trail);
+    let e = run_on(p, table, states, injected(s), &trail[k..]);
+    run_on(p, table, states, e, &trail[..k])
+}
+
+// All rules: those of the forwarding table, and those that opposite arcs have of their own. There are two to each link.
+pub fn all_rules(p: Plant) -> [bool; LABELS]
+    requires { ⌜ Sound p ⌝ }
+    ensures { λ r. ⌜ ForAll p r ⌝ }
+{
+    let n = 2 * (p.count as usize);
+    let mut rules = [false; LABELS];
+    let mut a: usize = 0;
+    while a < n {
+        rules[a] = true;
+        a += 1;
+    }
+    rules
+}
+
+// From switch s out over x and then y, and back over the opposite arcs.
+fn there_and_back(
+    p: Plant,
+    rules: [bool; LABELS],
+    states: &[u8],
+    s: u8,
+    x: &[u16],
+    y: &[u16],
+) -> End
+    requires { ⌜ CanRun p rules (now states) ⌝ }
+    requires { do ⌜ 2 * (length (now x) + length (now y)) ≤ (← ⟦usize::MAX⟧) ⌝ }
+    ensures { λ r. ⌜ endOf r ≡ goesOn p rules (now (states .entry)) (injectedAt s) (outAndBack (now (x .entry)) (now (y .entry))) ⌝ }
+{
+    let e = run_on(p, rules, states, injected(s), x);
+    let f = run_on(p, rules, states, e, y);
+    let g = run_back(p, rules, states, f, y);
+    run_back(p, rules, states, g, x)
+}
+
+// The run of probe m of switch s: the full check if m is the number of links; else out up to the first crossing of the m-th link of the order, and back.
+pub fn probe_run(
+    p: Plant,
+    table: [bool; LABELS],
+    states: &[u8],
+    s: u8,
+    trail: &[u16],
+    m: u16,
+) -> End
+    requires { ⌜ CanProbe p table (now states) (now trail) ⌝ }
+    requires { ⌜ 1 ≤ m ⌝ }
+    requires { ⌜ m ≤ p .count ⌝ }
+    ensures { λ r. ⌜ endOf r ≡ probeRun p (now (trail .entry)) s (upBy (now (states .entry))) m ⌝ }
+{
+    if m == p.count {
+        return full_check(p, table, states, s, trail);
+    }
+    let span = span_of(p, s, trail, m);
+    there_and_back(
+        p,
+        all_rules(p),
+        states,
+        s,
+        stretch(trail, span),
+        front(trail, span),
+    )
+}
