@@ -1,9 +1,9 @@
--- `rules::print_table` meets its contract. Assumes nothing.
+-- `page::print_table` meets its contract. Assumes nothing.
 use Prim.Native.Nat.{_-_, _≤_}
 use borrow.Author.Needs.{needs}
 use Rattle.table.specs.Rules.{maxRules}
-use Rattle.rules.proofs.print_table.Statement.{statement}
-use Rattle.rules.proofs.print_table.Tie as tie
+use Rattle.page.proofs.print_table.Statement.{statement}
+use Rattle.page.proofs.print_table.Tie as tie
 
 abbrev Inv-loop : tie.InvT-loop
 Inv-loop t n i₀ i = i ≤ maxRules

@@ -1,9 +1,9 @@
--- `rules::print_trail` meets its contract. Assumes nothing.
+-- `page::print_trail` meets its contract. Assumes nothing.
 use Prim.Native.Nat.{_-_, _≤_}
 use lib.ListN.{length}
 use borrow.Author.Needs.{needs}
-use Rattle.rules.proofs.print_trail.Statement.{statement}
-use Rattle.rules.proofs.print_trail.Tie as tie
+use Rattle.page.proofs.print_trail.Statement.{statement}
+use Rattle.page.proofs.print_trail.Tie as tie
 
 abbrev Inv-loop : tie.InvT-loop
 Inv-loop labels hops n i₀ t7 i = n ≤ length labels

@@ -1,0 +1,18 @@
+// Prints the plans of the sample listings in `data`, one after the other.
+fn print_sample(path: &[u8]) {
+    let file = os::open_read(path);
+    if file < 0 {
+        os::fail(path);
+        return;
+    }
+    page::print_file(file);
+    libc::close(file);
+}
+
+fn main() {
+    print_sample(b"ring.listing");
+    print_sample(b"tree.listing");
+    print_sample(b"ring-with-tails.listing");
+    print_sample(b"two-rings.listing");
+    print_sample(b"limits.listing");
+}

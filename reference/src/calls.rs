@@ -1,0 +1,249 @@
+//! Every call with its refusals in checking order.
+
+use crate::listing;
+use crate::net::{Net, Page};
+use crate::packet::{self, Fate, Order, Under};
+use crate::plant::{Answer, Plant, Refusal};
+use crate::search::Search;
+use crate::trail::Trail;
+
+pub use crate::listing::{read, write};
+pub use crate::search::quantity;
+
+/// What the first line of the program `rules` shows.
+#[derive(Clone, Copy, Debug, PartialEq, Eq)]
+pub struct Summary {
+    pub switches: usize,
+    pub links: usize,
+    pub bridges: usize,
+    pub rules: usize,
+    pub hops: usize,
+}
+
+/// Refusals 1 to 9.
+pub fn net(listing: &[u8]) -> Answer<Net> {
+    Net::new(listing::read(listing)?)
+}
+
+/// Refusal 11.
+fn named(net: &Net, switch: u8) -> Answer<usize> {
+    if switch < net.plant.switches {
+        Ok(usize::from(switch))
+    } else {
+        Err(Refusal::SwitchOutside)
+    }
+}
+
+/// Refusal 12.
+fn same_trail(net: &Net, trail: &[u16]) -> Answer<()> {
+    if Trail::new(net).is(trail) {
+        Ok(())
+    } else {
+        Err(Refusal::OtherTrail)
+    }
+}
+
+/// Refusal 13.
+fn enough(net: &Net, states: &[u8]) -> Answer<()> {
+    if states.len() < net.links() {
+        Err(Refusal::FewStates)
+    } else {
+        Ok(())
+    }
+}
+
+/// Refusals 14 and 15.
+fn wanted(net: &Net, search: Search) -> Answer<usize> {
+    search.check_for(net.plant.links)?;
+    search.ask().map(usize::from)
+}
+
+fn summary_of(net: &Net, trail: &Trail) -> Summary {
+    Summary {
+        switches: usize::from(net.plant.switches),
+        links: net.links(),
+        bridges: net.bridges,
+        rules: net.rule_count(),
+        hops: trail.hops,
+    }
+}
+
+/// Refusals 1 to 9.
+pub fn summary(listing: &[u8]) -> Answer<Summary> {
+    let net = net(listing)?;
+    let trail = Trail::new(&net);
+    Ok(summary_of(&net, &trail))
+}
+
+/// One flag for each link, and false past them; refusals 1 to 9.
+pub fn bridges(listing: &[u8]) -> Answer<(usize, [bool; Plant::MAX_LINKS])> {
+    let net = net(listing)?;
+    Ok((net.links(), net.bridge))
+}
+
+/// Refusals 1 to 9.
+pub fn rules(listing: &[u8]) -> Answer<Page> {
+    Ok(net(listing)?.page())
+}
+
+/// Writes the trail to the front of the buffer and returns its hops;
+/// refusals 1 to 10.
+pub fn trail(listing: &[u8], buffer: &mut [u16]) -> Answer<usize> {
+    let net = net(listing)?;
+    let trail = Trail::new(&net);
+    let front = buffer
+        .get_mut(..trail.hops)
+        .ok_or(Refusal::TrailBufferShort)?;
+    trail.fill(front);
+    Ok(trail.hops)
+}
+
+/// A packet that is no probe; refusals 1 to 9, 11, 13.
+pub fn run(listing: &[u8], switch: u8, labels: &[u16], states: &[u8]) -> Answer<Fate> {
+    let net = net(listing)?;
+    let switch = named(&net, switch)?;
+    enough(&net, states)?;
+    Ok(packet::run(
+        &net,
+        Under::Page,
+        switch,
+        labels.iter().copied(),
+        states,
+    ))
+}
+
+/// The whole ring from a switch; refusals 1 to 9, 11, 12, 13.
+pub fn full_check(listing: &[u8], switch: u8, trail: &[u16], states: &[u8]) -> Answer<Fate> {
+    let net = net(listing)?;
+    let switch = named(&net, switch)?;
+    same_trail(&net, trail)?;
+    enough(&net, states)?;
+    let (rest, front) = packet::ring(trail, packet::place(&net, trail, switch));
+    let labels = rest.iter().chain(front).copied();
+    Ok(packet::run(&net, Under::Page, switch, labels, states))
+}
+
+/// Refusals 1 to 9, 11, 12.
+pub fn order(listing: &[u8], switch: u8, trail: &[u16]) -> Answer<Order> {
+    let net = net(listing)?;
+    let switch = named(&net, switch)?;
+    same_trail(&net, trail)?;
+    Ok(Order::new(&net, trail, packet::place(&net, trail, switch)))
+}
+
+/// The outward labels of the probe wanted, as parts of the lent trail;
+/// refusals 1 to 9, 11, 12, 14, 15.
+pub fn outward<'t>(
+    listing: &[u8],
+    switch: u8,
+    trail: &'t [u16],
+    search: Search,
+) -> Answer<(&'t [u16], &'t [u16])> {
+    let net = net(listing)?;
+    let switch = named(&net, switch)?;
+    same_trail(&net, trail)?;
+    let m = wanted(&net, search)?;
+    let place = packet::place(&net, trail, switch);
+    let order = Order::new(&net, trail, place);
+    Ok(packet::outward(&net, trail, place, &order, m))
+}
+
+/// The run of the probe wanted; refusals 1 to 9, 11, 12, 13, 14, 15.
+pub fn run_probe(
+    listing: &[u8],
+    switch: u8,
+    trail: &[u16],
+    states: &[u8],
+    search: Search,
+) -> Answer<Fate> {
+    let net = net(listing)?;
+    let switch = named(&net, switch)?;
+    same_trail(&net, trail)?;
+    enough(&net, states)?;
+    let m = wanted(&net, search)?;
+    let order = Order::new(&net, trail, packet::place(&net, trail, switch));
+    Ok(packet::run_probe(&net, trail, switch, &order, m, states))
+}
+
+/// What a search says of the links.
+#[derive(Clone, Copy, Debug, PartialEq, Eq)]
+pub enum Named {
+    Link(u16),
+    None,
+    Open,
+}
+
+/// Refusals 1 to 9, 11, 12, 14.
+pub fn link_named(listing: &[u8], switch: u8, trail: &[u16], search: Search) -> Answer<Named> {
+    let net = net(listing)?;
+    let switch = named(&net, switch)?;
+    same_trail(&net, trail)?;
+    search.check_for(net.plant.links)?;
+    Ok(match search {
+        Search::Down(place) => {
+            let order = Order::new(&net, trail, packet::place(&net, trail, switch));
+            Named::Link(order.link[usize::from(place) - 1])
+        }
+        Search::AllUp => Named::None,
+        Search::Checking(_) | Search::Halving(..) => Named::Open,
+    })
+}
+
+/// Refusals 1 to 9, 11.
+pub fn new_search(listing: &[u8], switch: u8) -> Answer<Search> {
+    let net = net(listing)?;
+    named(&net, switch)?;
+    Ok(Search::new(net.plant.links))
+}
+
+/// Performs a list of calls from a new search: 0 asks, 1 gives home, any
+/// other byte gives lost. Returns the last state and the number of probes,
+/// that of the accepted fates; refusals 1 to 9, 11.
+pub fn perform(listing: &[u8], switch: u8, calls: &[u8]) -> Answer<(Search, usize)> {
+    let mut state = new_search(listing, switch)?;
+    let mut probes = 0;
+    for call in calls {
+        if *call != 0 {
+            if let Ok(next) = state.give(*call == 1) {
+                state = next;
+                probes += 1;
+            }
+        }
+    }
+    Ok((state, probes))
+}
+
+/// What the program `rules` prints for a listing.
+pub fn print(listing: &[u8]) -> String {
+    use std::fmt::Write;
+
+    let mut text = String::new();
+    let mut put = |part: std::fmt::Arguments| {
+        // Writing to a string does not fail.
+        let _ = text.write_fmt(part);
+    };
+    match net(listing) {
+        Err(refusal) => put(format_args!("refused {}\n", refusal.number())),
+        Ok(net) => {
+            let trail = Trail::new(&net);
+            let sum = summary_of(&net, &trail);
+            put(format_args!(
+                "plant {} {} {} {} {}\n",
+                sum.switches, sum.links, sum.bridges, sum.rules, sum.hops
+            ));
+            for rule in net.page().rules() {
+                put(format_args!(
+                    "rule {} {} {}\n",
+                    rule.from, rule.label, rule.to
+                ));
+            }
+            put(format_args!("trail"));
+            trail.each(|label| {
+                put(format_args!(" {label}"));
+                true
+            });
+            put(format_args!("\n"));
+        }
+    }
+    text
+}

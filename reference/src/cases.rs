@@ -1,0 +1,416 @@
+//! The case format and its answers.
+//!
+//! A case is one byte, the call, and the call's arguments. Its answer is one
+//! line of text.
+
+use crate::calls;
+use crate::packet::Fate;
+use crate::plant::{Link, Plant, Refusal};
+use crate::search::Search;
+use std::io::Write;
+
+/// The calls by their number in the case format.
+pub const NAMES: [&str; 18] = [
+    "",
+    "read",
+    "write",
+    "summary",
+    "bridges",
+    "rules",
+    "trail",
+    "run",
+    "full check",
+    "order",
+    "outward",
+    "probe run",
+    "link named",
+    "new search",
+    "ask",
+    "give",
+    "perform",
+    "quantity",
+];
+
+/// The input does not follow the format at this byte.
+#[derive(Clone, Copy, Debug, PartialEq, Eq)]
+pub struct Malformed(pub usize);
+
+/// What a lent buffer holds before the call.
+pub fn prefilled(place: usize) -> u8 {
+    ((place * 7 + 3) % 251) as u8
+}
+
+/// Count and checksum of a list of numbers: h = 0, then for each number v
+/// h = (h * 31 + v + 1) mod 65521.
+#[derive(Clone, Copy, Debug, Default, PartialEq, Eq)]
+pub struct Sum {
+    count: u32,
+    /// Equal to h modulo 65521.
+    h: u64,
+}
+
+impl Sum {
+    const MODULUS: u64 = 65521;
+
+    pub fn add(&mut self, number: u32) {
+        self.count += 1;
+        self.h = self.h * 31 + u64::from(number) + 1;
+        // The remainder is taken only when the next step might not fit.
+        if self.h >> 56 != 0 {
+            self.h %= Sum::MODULUS;
+        }
+    }
+
+    pub fn of(numbers: impl IntoIterator<Item = u32>) -> Sum {
+        let mut sum = Sum::default();
+        numbers.into_iter().for_each(|number| sum.add(number));
+        sum
+    }
+}
+
+impl std::fmt::Display for Sum {
+    fn fmt(&self, f: &mut std::fmt::Formatter) -> std::fmt::Result {
+        write!(f, "{}:{}", self.count, self.h % Sum::MODULUS)
+    }
+}
+
+impl std::fmt::Display for Search {
+    fn fmt(&self, f: &mut std::fmt::Formatter) -> std::fmt::Result {
+        match self {
+            Search::Checking(count) => write!(f, "Checking {count}"),
+            Search::Halving(low, high) => write!(f, "Halving {low} {high}"),
+            Search::AllUp => write!(f, "AllUp"),
+            Search::Down(place) => write!(f, "Down {place}"),
+        }
+    }
+}
+
+/// Takes arguments from the input in turn.
+struct Input<'a> {
+    bytes: &'a [u8],
+    at: usize,
+}
+
+impl<'a> Input<'a> {
+    fn take(&mut self, length: usize) -> Result<&'a [u8], Malformed> {
+        let taken = self
+            .bytes
+            .get(self.at..self.at + length)
+            .ok_or(Malformed(self.at))?;
+        self.at += length;
+        Ok(taken)
+    }
+
+    fn byte(&mut self) -> Result<u8, Malformed> {
+        Ok(self.take(1)?[0])
+    }
+
+    fn word(&mut self) -> Result<u16, Malformed> {
+        let field = self.take(2)?;
+        Ok(u16::from_le_bytes([field[0], field[1]]))
+    }
+
+    fn string(&mut self) -> Result<&'a [u8], Malformed> {
+        let length = self.word()?;
+        self.take(usize::from(length))
+    }
+
+    fn labels(&mut self, into: &mut Vec<u16>) -> Result<(), Malformed> {
+        let count = self.word()?;
+        let bytes = self.take(2 * usize::from(count))?;
+        into.clear();
+        into.extend(
+            bytes
+                .chunks_exact(2)
+                .map(|pair| u16::from_le_bytes([pair[0], pair[1]])),
+        );
+        Ok(())
+    }
+
+    fn search(&mut self) -> Result<Search, Malformed> {
+        let at = self.at;
+        let (kind, a, b) = (self.byte()?, self.word()?, self.word()?);
+        match (kind, a, b) {
+            (0, count, 0) => Ok(Search::Checking(count)),
+            (1, low, high) => Ok(Search::Halving(low, high)),
+            (2, 0, 0) => Ok(Search::AllUp),
+            (3, place, 0) => Ok(Search::Down(place)),
+            _ => Err(Malformed(at)),
+        }
+    }
+
+    fn plant(&mut self) -> Result<Plant, Malformed> {
+        let mut plant = Plant::EMPTY;
+        plant.switches = self.byte()?;
+        plant.links = self.word()?;
+        plant.start = self.byte()?;
+        let at = self.at;
+        let given = usize::from(self.word()?);
+        for place in plant.link.get_mut(..given).ok_or(Malformed(at))? {
+            *place = Link {
+                first: self.byte()?,
+                second: self.byte()?,
+                tag: self.word()?,
+            };
+        }
+        Ok(plant)
+    }
+}
+
+/// Answers cases in turn, with memory that is used again.
+#[derive(Default)]
+pub struct Answerer {
+    labels: Vec<u16>,
+    bytes: Vec<u8>,
+    places: Vec<u16>,
+}
+
+/// The call of a case, and its refusal if it was refused.
+pub type Outcome = (u8, Option<Refusal>);
+
+impl Answerer {
+    /// Answers the case at `at` of the input on a line of the output.
+    /// Returns the call, its refusal and where the next case begins.
+    pub fn answer(
+        &mut self,
+        input: &[u8],
+        at: usize,
+        output: &mut Vec<u8>,
+    ) -> Result<(Outcome, usize), Malformed> {
+        let mut input = Input { bytes: input, at };
+        let call = input.byte()?;
+        let refusal = self.line(call, &mut input, output)?;
+        Ok(((call, refusal), input.at))
+    }
+
+    fn line(
+        &mut self,
+        call: u8,
+        input: &mut Input,
+        output: &mut Vec<u8>,
+    ) -> Result<Option<Refusal>, Malformed> {
+        // The buffer's checksum ends the line of a call that was lent one.
+        let mut lent = None;
+        let refusal = {
+            let mut put = |part: std::fmt::Arguments| {
+                // Writing to a vector does not fail.
+                let _ = output.write_fmt(part);
+            };
+            match self.call(call, input, &mut put, &mut lent)? {
+                Ok(()) => None,
+                Err(refusal) => {
+                    put(format_args!("refused {}", refusal.number()));
+                    Some(refusal)
+                }
+            }
+        };
+        if let Some(sum) = lent {
+            let _ = write!(output, " {sum}");
+        }
+        output.push(b'\n');
+        Ok(refusal)
+    }
+
+    fn call(
+        &mut self,
+        call: u8,
+        input: &mut Input,
+        put: &mut dyn FnMut(std::fmt::Arguments),
+        lent: &mut Option<Sum>,
+    ) -> Result<Result<(), Refusal>, Malformed> {
+        let called_at = input.at - 1;
+        let returned = |fate| match fate {
+            Fate::Ended(_) => "returned",
+            Fate::Lost => "lost",
+        };
+        let labels = &mut self.labels;
+        Ok(match call {
+            1 => calls::read(input.string()?).map(|plant| {
+                let links = plant.records().iter().flat_map(|link| {
+                    [
+                        u32::from(link.first),
+                        u32::from(link.second),
+                        u32::from(link.tag),
+                    ]
+                });
+                put(format_args!(
+                    "{} {} {} {}",
+                    plant.switches,
+                    plant.links,
+                    plant.start,
+                    Sum::of(links)
+                ))
+            }),
+            2 => {
+                let plant = input.plant()?;
+                let places = usize::from(input.word()?);
+                self.bytes.clear();
+                self.bytes.extend((0..places).map(prefilled));
+                let answer = calls::write(&plant, &mut self.bytes);
+                *lent = Some(Sum::of(self.bytes.iter().map(|byte| u32::from(*byte))));
+                answer.map(|length| put(format_args!("{length}")))
+            }
+            3 => calls::summary(input.string()?).map(|sum| {
+                put(format_args!(
+                    "{} {} {} {} {}",
+                    sum.switches, sum.links, sum.bridges, sum.rules, sum.hops
+                ))
+            }),
+            4 => calls::bridges(input.string()?).map(|(count, flags)| {
+                let flags = flags[..count].iter().map(|flag| u32::from(*flag));
+                put(format_args!("{}", Sum::of(flags)))
+            }),
+            5 => calls::rules(input.string()?).map(|page| {
+                let numbers = page.rules().iter().flat_map(|rule| {
+                    [
+                        u32::from(rule.from),
+                        u32::from(rule.label),
+                        u32::from(rule.to),
+                    ]
+                });
+                put(format_args!("{}", Sum::of(numbers)))
+            }),
+            6 => {
+                let listing = input.string()?;
+                let places = usize::from(input.word()?);
+                self.places.clear();
+                self.places
+                    .extend((0..places).map(|place| u16::from(prefilled(place))));
+                let answer = calls::trail(listing, &mut self.places);
+                *lent = Some(Sum::of(self.places.iter().map(|label| u32::from(*label))));
+                answer.map(|hops| put(format_args!("{hops}")))
+            }
+            7 => {
+                let (listing, switch) = (input.string()?, input.byte()?);
+                input.labels(labels)?;
+                let states = input.string()?;
+                calls::run(listing, switch, labels, states).map(|fate| {
+                    put(format_args!(
+                        "{}",
+                        match fate {
+                            Fate::Ended(_) => "ended",
+                            Fate::Lost => "lost",
+                        }
+                    ))
+                })
+            }
+            8 => {
+                let (listing, switch) = (input.string()?, input.byte()?);
+                input.labels(labels)?;
+                let states = input.string()?;
+                calls::full_check(listing, switch, labels, states)
+                    .map(|fate| put(format_args!("{}", returned(fate))))
+            }
+            9 => {
+                let (listing, switch) = (input.string()?, input.byte()?);
+                input.labels(labels)?;
+                calls::order(listing, switch, labels).map(|order| {
+                    let links = order.links().iter().map(|link| u32::from(*link));
+                    put(format_args!("{}", Sum::of(links)))
+                })
+            }
+            10 => {
+                let (listing, switch) = (input.string()?, input.byte()?);
+                input.labels(labels)?;
+                let search = input.search()?;
+                calls::outward(listing, switch, labels, search).map(|(one, two)| {
+                    let outward = one.iter().chain(two).map(|label| u32::from(*label));
+                    put(format_args!("{}", Sum::of(outward)))
+                })
+            }
+            11 => {
+                let (listing, switch) = (input.string()?, input.byte()?);
+                input.labels(labels)?;
+                let (states, search) = (input.string()?, input.search()?);
+                calls::run_probe(listing, switch, labels, states, search)
+                    .map(|fate| put(format_args!("{}", returned(fate))))
+            }
+            12 => {
+                let (listing, switch) = (input.string()?, input.byte()?);
+                input.labels(labels)?;
+                let search = input.search()?;
+                calls::link_named(listing, switch, labels, search).map(|named| match named {
+                    calls::Named::Link(link) => put(format_args!("link {link}")),
+                    calls::Named::None => put(format_args!("none")),
+                    calls::Named::Open => put(format_args!("open")),
+                })
+            }
+            13 => calls::new_search(input.string()?, input.byte()?)
+                .map(|search| put(format_args!("{search}"))),
+            14 => input.search()?.ask().map(|m| put(format_args!("{m}"))),
+            15 => {
+                let (search, outcome) = (input.search()?, input.byte()?);
+                search
+                    .give(outcome != 0)
+                    .map(|search| put(format_args!("{search}")))
+            }
+            16 => {
+                let (listing, switch) = (input.string()?, input.byte()?);
+                calls::perform(listing, switch, input.string()?)
+                    .map(|(search, probes)| put(format_args!("{search} {probes}")))
+            }
+            17 => calls::quantity(input.word()?, input.byte()?)
+                .map(|number| put(format_args!("{number}"))),
+            _ => return Err(Malformed(called_at)),
+        })
+    }
+}
+
+/// Builds the bytes of one case.
+#[derive(Clone, Debug, Default)]
+pub struct Case {
+    pub bytes: Vec<u8>,
+}
+
+impl Case {
+    pub fn new(call: u8) -> Case {
+        Case { bytes: vec![call] }
+    }
+
+    pub fn byte(mut self, number: u8) -> Case {
+        self.bytes.push(number);
+        self
+    }
+
+    /// A number of two bytes. Larger ones do not occur.
+    pub fn word(mut self, number: usize) -> Case {
+        self.bytes.extend((number as u16).to_le_bytes());
+        self
+    }
+
+    pub fn string(self, string: &[u8]) -> Case {
+        let mut case = self.word(string.len());
+        case.bytes.extend(string);
+        case
+    }
+
+    pub fn labels(self, labels: &[u16]) -> Case {
+        labels.iter().fold(self.word(labels.len()), |case, label| {
+            case.word(usize::from(*label))
+        })
+    }
+
+    pub fn search(self, search: Search) -> Case {
+        let (kind, a, b) = match search {
+            Search::Checking(count) => (0, count, 0),
+            Search::Halving(low, high) => (1, low, high),
+            Search::AllUp => (2, 0, 0),
+            Search::Down(place) => (3, place, 0),
+        };
+        self.byte(kind).word(usize::from(a)).word(usize::from(b))
+    }
+
+    /// A plant value of which only the first `given` link places are told.
+    pub fn plant(self, plant: &Plant, given: usize) -> Case {
+        let head = self
+            .byte(plant.switches)
+            .word(usize::from(plant.links))
+            .byte(plant.start)
+            .word(given);
+        plant.link[..given].iter().fold(head, |case, link| {
+            case.byte(link.first)
+                .byte(link.second)
+                .word(usize::from(link.tag))
+        })
+    }
+}

@@ -1,0 +1,973 @@
+//! The marked cases of document 01, and checks of every call against plain
+//! restatements of the definitions on small plants drawn by chance.
+
+use crate::calls::{self, Named};
+use crate::cases::{prefilled, Answerer, Case, Sum};
+use crate::listing;
+use crate::make::{self, Chance, Sketch};
+use crate::net::Net;
+use crate::packet::{self, Fate, Order};
+use crate::plant::{Link, Plant, Refusal};
+use crate::search::{quantity, Search, ALLOWANCE};
+use crate::trail::{distances, Trail};
+
+fn number<T>(answer: Result<T, Refusal>) -> u8 {
+    answer.map_or_else(Refusal::number, |_| 0)
+}
+
+fn trail_vec(listing: &[u8]) -> Vec<u16> {
+    Trail::new(&calls::net(listing).unwrap()).to_vec()
+}
+
+const ONE_LINK: &[u8] = &[0x03, 0x02, 0x01, 0x00, 0x02, 0x01];
+const TRIANGLE: &[u8] = &[3, 3, 3, 0, 2, 1, 3, 1, 2, 3, 2, 0];
+const PARALLEL: &[u8] = &[3, 2, 3, 0, 2, 1, 0, 0];
+const TAILED: &[u8] = &[3, 4, 4, 0, 2, 1, 3, 1, 2, 3, 2, 0, 3, 0, 3];
+
+#[test]
+fn marked_refusals() {
+    let cases: &[(&[u8], u8)] = &[
+        (&[], 1),
+        (&[0x00], 0),
+        (&[0x08], 2),
+        (&[0x01], 3),
+        (&[0x01, 0x01], 4),
+        (&[0x01, 0x00], 5),
+        (&[0x01, 0x41], 5),
+        (&[0x01, 0x40], 9),
+        (&[0x00, 0x00], 8),
+        (&[0x02, 0x01, 0x00, 0x00], 7),
+        (&[0x03, 0x02, 0x01, 0x00, 0x00], 7),
+        // The lowest number of a part goes first.
+        (&[0x05, 0x01], 3),
+        (&[0x05, 0x00, 0x00], 4),
+        (&[0x03, 0x02, 0x01, 0x00, 0x03, 0x02, 0x02], 6),
+        // An earlier part goes before a later one.
+        (&[0x03, 0x02, 0x02, 0x00, 0x03, 0x01, 0x01, 0x08], 7),
+        // Half a field.
+        (&[0x02, 0x05], 3),
+    ];
+    for (listing, refusal) in cases {
+        assert_eq!(number(calls::summary(listing)), *refusal, "{listing:02x?}");
+    }
+    assert_eq!(number(calls::read(&[0x01, 0x40])), 0);
+}
+
+#[test]
+fn marked_plans() {
+    let cases: &[(&[u8], &[u16], usize)] = &[
+        (&[0x00], &[], 0),
+        (ONE_LINK, &[0, 1], 2),
+        (TRIANGLE, &[0, 2, 4], 3),
+        (PARALLEL, &[0, 3, 0, 5], 3),
+        (TAILED, &[0, 2, 4, 6, 7], 5),
+    ];
+    for (listing, trail, rules) in cases {
+        assert_eq!(trail_vec(listing), *trail);
+        assert_eq!(calls::rules(listing).unwrap().count, *rules);
+    }
+}
+
+#[test]
+fn marked_buffers() {
+    let mut three = [9; 3];
+    assert_eq!(
+        calls::trail(PARALLEL, &mut three),
+        Err(Refusal::TrailBufferShort)
+    );
+    assert_eq!(three, [9; 3]);
+    let mut four = [9; 4];
+    assert_eq!(calls::trail(PARALLEL, &mut four), Ok(4));
+    assert_eq!(four, [0, 3, 0, 5]);
+    let mut six = [9; 6];
+    assert_eq!(calls::trail(PARALLEL, &mut six), Ok(4));
+    assert_eq!(six, [0, 3, 0, 5, 9, 9]);
+}
+
+#[test]
+fn marked_probes() {
+    // One link takes one probe, three take at most three.
+    for calls in [[0, 1], [1, 0], [2, 0]] {
+        assert_eq!(calls::perform(ONE_LINK, 0, &calls).unwrap().1, 1);
+    }
+    assert_eq!(calls::perform(ONE_LINK, 0, &[2]), Ok((Search::Down(1), 1)));
+    for first in [1, 2] {
+        for second in [1, 2] {
+            for third in [1, 2] {
+                let list = [first, second, third, 1, 2];
+                let (state, probes) = calls::perform(PARALLEL, 1, &list).unwrap();
+                assert!(matches!(state, Search::AllUp | Search::Down(_)));
+                assert!(probes <= 3);
+            }
+        }
+    }
+}
+
+#[test]
+fn marked_quantities() {
+    assert_eq!(quantity(5, 10), Ok(6));
+    assert_eq!(quantity(5, 0), Ok(5));
+    assert_eq!(quantity(5, 101), Err(Refusal::SpareAbove));
+}
+
+#[test]
+fn table_one_plant() {
+    // Source document 003, Table I, with s1 as switch 0.
+    let sketch = Sketch {
+        switches: 7,
+        pairs: vec![
+            (0, 4),
+            (4, 1),
+            (1, 2),
+            (2, 5),
+            (5, 6),
+            (6, 3),
+            (3, 2),
+            (5, 4),
+            (1, 0),
+        ],
+    };
+    let listing = make::listing_of(&sketch.plain());
+    let sum = calls::summary(&listing).unwrap();
+    assert_eq!((sum.links, sum.bridges, sum.rules), (9, 0, 9));
+}
+
+#[test]
+fn printed() {
+    let text = "plant 4 4 1 5 5\nrule 0 0 1\nrule 1 2 2\nrule 2 4 0\nrule 0 6 3\n\
+                rule 3 7 0\ntrail 0 2 4 6 7\n";
+    assert_eq!(calls::print(TAILED), text);
+    assert_eq!(calls::print(&[0x00]), "plant 1 0 0 0 0\ntrail\n");
+    assert_eq!(calls::print(&[0x01, 0x40]), "refused 9\n");
+}
+
+#[test]
+fn allowance_rule() {
+    assert_eq!(ALLOWANCE.len(), 257);
+    assert_eq!(ALLOWANCE[0], 0);
+    for (number, k) in ALLOWANCE.iter().enumerate().skip(1) {
+        assert!(1 << k >= number);
+        assert!(*k == 0 || 1 << (k - 1) < number);
+    }
+}
+
+#[test]
+fn quantity_rule() {
+    for rules in (0..=u16::MAX).step_by(7).chain([u16::MAX]) {
+        for percent in 0..=100 {
+            // The spare is the least number not below the exact one.
+            let spare = u64::from(quantity(rules, percent).unwrap()) - u64::from(rules);
+            let exact = u64::from(rules) * u64::from(percent);
+            assert!(spare * 100 >= exact);
+            assert!(spare == 0 || (spare - 1) * 100 < exact);
+        }
+    }
+    for percent in 101..=255 {
+        assert_eq!(quantity(0, percent), Err(Refusal::SpareAbove));
+    }
+}
+
+/// The definitions restated with no regard to speed.
+struct Plain {
+    switches: usize,
+    start: usize,
+    links: Vec<(usize, usize)>,
+}
+
+impl Plain {
+    fn new(plant: &Plant) -> Plain {
+        Plain {
+            switches: usize::from(plant.switches),
+            start: usize::from(plant.start),
+            links: plant
+                .records()
+                .iter()
+                .map(|link| (usize::from(link.first), usize::from(link.second)))
+                .collect(),
+        }
+    }
+
+    fn from(&self, label: usize) -> usize {
+        let (first, second) = self.links[label / 2];
+        [first, second][label % 2]
+    }
+
+    fn to(&self, label: usize) -> usize {
+        self.from(label ^ 1)
+    }
+
+    fn labels(&self) -> std::ops::Range<usize> {
+        0..2 * self.links.len()
+    }
+
+    /// Whether two switches are joined by the links that may be taken.
+    fn are_joined(&self, one: usize, two: usize, may: impl Fn(usize) -> bool) -> bool {
+        let mut joined = vec![false; self.switches];
+        joined[one] = true;
+        for _ in 0..self.switches {
+            for (link, (first, second)) in self.links.iter().enumerate() {
+                if may(link) && (joined[*first] || joined[*second]) {
+                    joined[*first] = true;
+                    joined[*second] = true;
+                }
+            }
+        }
+        joined[two]
+    }
+
+    fn is_whole(&self) -> bool {
+        (0..self.switches).all(|switch| self.are_joined(self.start, switch, |_| true))
+    }
+
+    fn is_bridge(&self, link: usize) -> bool {
+        let (first, second) = self.links[link];
+        !self.are_joined(first, second, |other| other != link)
+    }
+
+    /// The order of the visit, and which links are entered.
+    fn visit(&self) -> (Vec<usize>, Vec<bool>) {
+        fn go(plain: &Plain, at: usize, order: &mut Vec<usize>, entered: &mut [bool]) {
+            order.push(at);
+            for (link, (first, second)) in plain.links.iter().enumerate() {
+                let other = if *first == at {
+                    *second
+                } else if *second == at {
+                    *first
+                } else {
+                    continue;
+                };
+                if !order.contains(&other) {
+                    entered[link] = true;
+                    go(plain, other, order, entered);
+                }
+            }
+        }
+        let mut order = Vec::new();
+        let mut entered = vec![false; self.links.len()];
+        go(self, self.start, &mut order, &mut entered);
+        (order, entered)
+    }
+
+    fn used(&self) -> Vec<bool> {
+        let (order, entered) = self.visit();
+        let seen = |switch: usize| order.iter().position(|other| *other == switch);
+        self.labels()
+            .map(|label| {
+                let onward = seen(self.from(label)) < seen(self.to(label));
+                self.is_bridge(label / 2) || onward == entered[label / 2]
+            })
+            .collect()
+    }
+
+    /// Fewest hops over arcs in use: by lengthening walks hop by hop.
+    fn distance(&self, used: &[bool], one: usize, two: usize) -> usize {
+        let mut ends = vec![false; self.switches];
+        ends[one] = true;
+        for hops in 0..self.switches {
+            if ends[two] {
+                return hops;
+            }
+            let mut next = ends.clone();
+            for label in self.labels() {
+                if used[label] && ends[self.from(label)] {
+                    next[self.to(label)] = true;
+                }
+            }
+            ends = next;
+        }
+        panic!("not reached over arcs in use");
+    }
+
+    fn trail(&self) -> Vec<u16> {
+        let used = self.used();
+        let distance: Vec<Vec<usize>> = (0..self.switches)
+            .map(|one| {
+                (0..self.switches)
+                    .map(|two| self.distance(&used, one, two))
+                    .collect()
+            })
+            .collect();
+        let mut crossed = vec![false; used.len()];
+        let mut trail = Vec::new();
+        let mut at = self.start;
+        let mut cross = |at: &mut usize, crossed: &mut Vec<bool>, label: usize| {
+            assert_eq!(*at, self.from(label));
+            crossed[label] = true;
+            trail.push(label as u16);
+            *at = self.to(label);
+        };
+        loop {
+            let nearest = self
+                .labels()
+                .filter(|label| used[*label] && !crossed[*label])
+                .min_by_key(|label| (distance[at][self.from(*label)], *label));
+            let goal = nearest.map_or(self.start, |label| self.from(label));
+            while at != goal {
+                let hop = self
+                    .labels()
+                    .find(|label| {
+                        used[*label]
+                            && self.from(*label) == at
+                            && distance[self.to(*label)][goal] < distance[at][goal]
+                    })
+                    .unwrap();
+                cross(&mut at, &mut crossed, hop);
+            }
+            match nearest {
+                Some(label) => {
+                    assert!(!crossed[label]);
+                    cross(&mut at, &mut crossed, label);
+                }
+                None => return trail,
+            }
+        }
+    }
+
+    /// The ring from a switch, and the links by first crossing in it.
+    fn ring(&self, trail: &[u16], switch: usize) -> (Vec<u16>, Vec<usize>) {
+        let mut ring = trail.to_vec();
+        while ring
+            .first()
+            .is_some_and(|label| self.from(usize::from(*label)) != switch)
+        {
+            ring.rotate_left(1);
+        }
+        let mut order = Vec::new();
+        for label in &ring {
+            let link = usize::from(label / 2);
+            if !order.contains(&link) {
+                order.push(link);
+            }
+        }
+        (ring, order)
+    }
+}
+
+/// Small plants by chance, and a few large ones.
+fn plants(seed: u64, small: usize, large: usize) -> Vec<Plant> {
+    let mut chance = Chance::new(seed);
+    let mut plants: Vec<Plant> = (0..small)
+        .map(|_| {
+            let (switches, links) = chance.of(&[(4, 6), (8, 14), (12, 24)]);
+            make::joined(&mut chance, switches, links).mixed(&mut chance)
+        })
+        .collect();
+    plants.extend((0..large).map(|_| {
+        make::joined(&mut chance, Plant::MAX_SWITCHES, Plant::MAX_LINKS).mixed(&mut chance)
+    }));
+    plants
+}
+
+#[test]
+fn bridges_and_rules() {
+    for plant in plants(1, 1500, 20) {
+        let plain = Plain::new(&plant);
+        let net = Net::new(plant).unwrap();
+        let links = plain.links.len();
+        let bridges: Vec<bool> = (0..links).map(|link| plain.is_bridge(link)).collect();
+        assert_eq!(net.bridge[..links], bridges);
+        assert_eq!(net.bridges, bridges.iter().filter(|flag| **flag).count());
+        let used = plain.used();
+        assert_eq!(net.used[..2 * links], used);
+        let page = net.page();
+        assert_eq!(page.count, links + net.bridges);
+        let shown: Vec<(usize, usize, usize)> = page
+            .rules()
+            .iter()
+            .map(|rule| {
+                (
+                    usize::from(rule.from),
+                    usize::from(rule.label),
+                    usize::from(rule.to),
+                )
+            })
+            .collect();
+        let wanted: Vec<(usize, usize, usize)> = plain
+            .labels()
+            .filter(|label| used[*label])
+            .map(|label| (plain.from(label), label, plain.to(label)))
+            .collect();
+        assert_eq!(shown, wanted);
+        assert!(page.rule[page.count..]
+            .iter()
+            .all(|rule| *rule == Default::default()));
+    }
+}
+
+#[test]
+fn disconnected() {
+    let mut chance = Chance::new(2);
+    for _ in 0..500 {
+        let mut plant = make::exact(&mut chance, 6, 8).mixed(&mut chance);
+        // Some links left out.
+        for place in (0..8).rev() {
+            if chance.percent(30) {
+                plant.link.copy_within(place + 1.., place);
+                plant.link[Plant::MAX_LINKS - 1] = Link::default();
+                plant.links -= 1;
+            }
+        }
+        let whole = Plain::new(&plant).is_whole();
+        assert_eq!(Net::new(plant.clone()).is_ok(), whole);
+        let listing = make::listing_of(&plant);
+        assert_eq!(calls::read(&listing), Ok(plant));
+        assert_eq!(number(calls::summary(&listing)), if whole { 0 } else { 9 });
+    }
+}
+
+#[test]
+fn distances_and_trail() {
+    for plant in plants(3, 800, 12) {
+        let plain = Plain::new(&plant);
+        let net = Net::new(plant).unwrap();
+        let used = plain.used();
+        let table = distances(&net);
+        for (one, row) in table.iter().enumerate().take(plain.switches) {
+            for (two, hops) in row.iter().enumerate().take(plain.switches) {
+                assert_eq!(usize::from(*hops), plain.distance(&used, one, two));
+            }
+        }
+        let trail = Trail::new(&net).to_vec();
+        assert_eq!(trail, plain.trail());
+        assert_eq!(trail.len(), Trail::new(&net).hops);
+        assert!(trail.len() <= Plant::MAX_HOPS);
+        assert!(Trail::new(&net).is(&trail));
+        // A closed walk from the start over exactly the arcs in use.
+        let mut at = plain.start;
+        let mut crossed = vec![false; used.len()];
+        for label in trail {
+            assert_eq!(plain.from(usize::from(label)), at);
+            crossed[usize::from(label)] = true;
+            at = plain.to(usize::from(label));
+        }
+        assert_eq!(at, plain.start);
+        assert_eq!(crossed, used);
+    }
+}
+
+#[test]
+fn trail_that_differs() {
+    let mut chance = Chance::new(4);
+    for plant in plants(4, 300, 3) {
+        let net = Net::new(plant).unwrap();
+        let trail = Trail::new(&net);
+        let right = trail.to_vec();
+        let mut longer = right.clone();
+        longer.push(0);
+        assert!(!trail.is(&longer));
+        if !right.is_empty() {
+            assert!(!trail.is(&right[1..]));
+            assert!(!trail.is(&right[..right.len() - 1]));
+            let mut changed = right.clone();
+            changed[chance.below(right.len())] ^= 1;
+            assert!(!trail.is(&changed));
+        }
+    }
+}
+
+/// The fate of a packet by the packet rule, with rules for the arcs given.
+fn plain_run(
+    plain: &Plain,
+    rules: &[bool],
+    switch: usize,
+    labels: &[u16],
+    states: &[u8],
+) -> Option<usize> {
+    let mut at = switch;
+    for label in labels {
+        let label = usize::from(*label);
+        let rule = label < rules.len() && rules[label] && plain.from(label) == at;
+        if !rule || states[label / 2] == 0 {
+            return None;
+        }
+        at = plain.to(label);
+    }
+    Some(at)
+}
+
+#[test]
+fn packets() {
+    let mut chance = Chance::new(5);
+    for plant in plants(5, 500, 0) {
+        let plain = Plain::new(&plant);
+        let listing = make::listing_of(&plant);
+        let used = plain.used();
+        let links = plain.links.len();
+        for _ in 0..10 {
+            let mut states = vec![1; links + 1];
+            if links > 0 && chance.percent(50) {
+                states[chance.below(links)] = 0;
+            }
+            let switch = chance.below(plain.switches);
+            // A walk that strays now and then.
+            let mut at = switch;
+            let mut labels = Vec::new();
+            for _ in 0..chance.below(8) {
+                let out: Vec<usize> = plain
+                    .labels()
+                    .filter(|label| plain.from(*label) == at && used[*label])
+                    .collect();
+                let label = if out.is_empty() || chance.percent(8) {
+                    chance.below(2 * links + 2)
+                } else {
+                    chance.of(&out)
+                };
+                labels.push(label as u16);
+                if label < 2 * links {
+                    at = plain.to(label);
+                }
+            }
+            let wanted = plain_run(&plain, &used, switch, &labels, &states);
+            assert_eq!(
+                calls::run(&listing, switch as u8, &labels, &states).unwrap(),
+                wanted.map_or(Fate::Lost, Fate::Ended)
+            );
+        }
+    }
+}
+
+#[test]
+fn probes_and_first_broken_link() {
+    let mut chance = Chance::new(6);
+    for plant in plants(6, 500, 4) {
+        let plain = Plain::new(&plant);
+        let listing = make::listing_of(&plant);
+        let net = Net::new(plant).unwrap();
+        let trail = Trail::new(&net).to_vec();
+        let links = plain.links.len();
+        let switch = chance.below(plain.switches);
+        let (ring, order) = plain.ring(&trail, switch);
+        assert_eq!(order.len(), links);
+        let shown = calls::order(&listing, switch as u8, &trail).unwrap();
+        let shown: Vec<usize> = shown.links().iter().copied().map(usize::from).collect();
+        assert_eq!(shown, order);
+
+        for broken in 0..4 {
+            let mut states = vec![3; links];
+            for _ in 0..broken.min(links) {
+                states[chance.below(links)] = 0;
+            }
+            let first = order.iter().position(|link| states[*link] == 0);
+            let whole = calls::full_check(&listing, switch as u8, &trail, &states).unwrap();
+            let home = Fate::Ended(switch);
+            let fate = |is_home| if is_home { home } else { Fate::Lost };
+            assert_eq!(whole, fate(first.is_none()));
+
+            // Probe m is home if none of the first m links is broken.
+            let place = packet::place(&net, &trail, switch);
+            let in_order = Order::new(&net, &trail, place);
+            for m in 1..=links {
+                let (one, two) = packet::outward(&net, &trail, place, &in_order, m);
+                let outward = [one, two].concat();
+                let mut labels = outward.clone();
+                let mut rules = vec![true; 2 * links];
+                if m == links {
+                    assert_eq!(outward, ring);
+                    rules = plain.used();
+                } else {
+                    let crossing = ring
+                        .iter()
+                        .position(|label| usize::from(label / 2) == order[m - 1])
+                        .unwrap();
+                    assert_eq!(outward, ring[..=crossing]);
+                    labels.extend(outward.iter().rev().map(|label| label ^ 1));
+                }
+                assert!(one.is_empty() || one[0] == trail[place]);
+                let by_rule = plain_run(&plain, &rules, switch, &labels, &states);
+                let run = packet::run_probe(&net, &trail, switch, &in_order, m, &states);
+                assert_eq!(run, by_rule.map_or(Fate::Lost, Fate::Ended));
+                assert_eq!(run, fate(first.is_none_or(|first| first >= m)));
+            }
+
+            // A search with true fates names the first broken link.
+            let mut state = calls::new_search(&listing, switch as u8).unwrap();
+            let mut list = Vec::new();
+            while let Ok(m) = state.ask() {
+                assert!((1..=links).contains(&usize::from(m)));
+                assert_eq!(
+                    calls::link_named(&listing, switch as u8, &trail, state),
+                    Ok(Named::Open)
+                );
+                let (one, two) = calls::outward(&listing, switch as u8, &trail, state).unwrap();
+                let wanted = packet::outward(&net, &trail, place, &in_order, usize::from(m));
+                assert_eq!((one, two), wanted);
+                let run = calls::run_probe(&listing, switch as u8, &trail, &states, state).unwrap();
+                state = state.give(run == home).unwrap();
+                list.extend([0, if run == home { 1 } else { 2 }]);
+            }
+            let named = calls::link_named(&listing, switch as u8, &trail, state).unwrap();
+            match first {
+                None => {
+                    assert_eq!(state, Search::AllUp);
+                    assert_eq!(named, Named::None);
+                }
+                Some(first) => {
+                    assert_eq!(state, Search::Down(first as u16 + 1));
+                    assert_eq!(named, Named::Link(order[first] as u16));
+                }
+            }
+            let probes = list.len() / 2;
+            assert!(probes <= 1 + usize::from(ALLOWANCE[links]));
+            // Calls after its end are refused and change nothing.
+            list.extend([0, 1, 2]);
+            assert_eq!(
+                calls::perform(&listing, switch as u8, &list),
+                Ok((state, probes))
+            );
+        }
+    }
+}
+
+#[test]
+fn every_search_ends_in_time() {
+    for (links, allowance) in ALLOWANCE.iter().enumerate().skip(1) {
+        for first in 0..=links {
+            let mut state = Search::new(links as u16);
+            let mut probes = 0;
+            while let Ok(m) = state.ask() {
+                state = state.give(usize::from(m) <= first).unwrap();
+                assert!(state.check_for(links as u16).is_ok());
+                probes += 1;
+            }
+            assert!(probes <= 1 + allowance);
+            let end = if first == links {
+                Search::AllUp
+            } else {
+                Search::Down(first as u16 + 1)
+            };
+            assert_eq!(state, end);
+        }
+    }
+}
+
+#[test]
+fn search_states() {
+    let bad = [
+        Search::Checking(0),
+        Search::Checking(257),
+        Search::Down(0),
+        Search::Down(257),
+        Search::Halving(0, 2),
+        Search::Halving(2, 2),
+        Search::Halving(3, 2),
+        Search::Halving(1, 257),
+        Search::Halving(65535, 65535),
+    ];
+    for state in bad {
+        assert_eq!(state.ask(), Err(Refusal::BadSearch));
+        assert_eq!(state.give(true), Err(Refusal::BadSearch));
+        assert_eq!(state.check_for(256), Err(Refusal::BadSearch));
+    }
+    for state in [Search::AllUp, Search::Down(1), Search::Down(256)] {
+        assert_eq!(state.ask(), Err(Refusal::SearchEnded));
+        assert_eq!(state.give(false), Err(Refusal::SearchEnded));
+    }
+    for state in [
+        Search::Checking(3),
+        Search::Checking(5),
+        Search::Halving(1, 5),
+        Search::Down(5),
+    ] {
+        assert_eq!(state.check_for(4), Err(Refusal::BadSearch));
+    }
+    assert_eq!(Search::Checking(1).give(false), Ok(Search::Down(1)));
+    assert_eq!(Search::Checking(3).give(false), Ok(Search::Halving(1, 3)));
+    assert_eq!(Search::Halving(1, 3).ask(), Ok(2));
+    assert_eq!(Search::Halving(1, 3).give(true), Ok(Search::Down(3)));
+    assert_eq!(Search::Halving(1, 3).give(false), Ok(Search::Halving(1, 2)));
+}
+
+#[test]
+fn refusals_in_order() {
+    let trail = trail_vec(TRIANGLE);
+    let wrong = [0, 2, 5];
+    let (few, enough) = ([1, 1], [1, 1, 1]);
+    let (bad, ended) = (Search::Checking(2), Search::Down(1));
+    let probe = |listing: &[u8], switch, trail: &[u16], states: &[u8], state| {
+        number(calls::run_probe(listing, switch, trail, states, state))
+    };
+    assert_eq!(probe(&[1, 64], 64, &wrong, &few, bad), 9);
+    assert_eq!(probe(TRIANGLE, 3, &wrong, &few, bad), 11);
+    assert_eq!(probe(TRIANGLE, 2, &wrong, &few, bad), 12);
+    assert_eq!(probe(TRIANGLE, 2, &trail, &few, bad), 13);
+    assert_eq!(probe(TRIANGLE, 2, &trail, &enough, bad), 14);
+    assert_eq!(probe(TRIANGLE, 2, &trail, &enough, ended), 15);
+    let go = Search::Checking(3);
+    assert_eq!(probe(TRIANGLE, 2, &trail, &enough, go), 0);
+    assert_eq!(number(calls::run(TRIANGLE, 3, &[], &few)), 11);
+    assert_eq!(number(calls::run(TRIANGLE, 0, &[], &few)), 13);
+    assert_eq!(number(calls::full_check(TRIANGLE, 3, &wrong, &few)), 11);
+    assert_eq!(number(calls::full_check(TRIANGLE, 0, &wrong, &few)), 12);
+    assert_eq!(number(calls::full_check(TRIANGLE, 0, &trail, &few)), 13);
+    assert_eq!(number(calls::order(TRIANGLE, 3, &wrong)), 11);
+    assert_eq!(number(calls::order(TRIANGLE, 0, &wrong)), 12);
+    assert_eq!(number(calls::outward(TRIANGLE, 0, &wrong, bad)), 12);
+    assert_eq!(number(calls::outward(TRIANGLE, 0, &trail, bad)), 14);
+    assert_eq!(number(calls::outward(TRIANGLE, 0, &trail, ended)), 15);
+    assert_eq!(number(calls::link_named(TRIANGLE, 0, &trail, bad)), 14);
+    assert_eq!(number(calls::new_search(TRIANGLE, 3)), 11);
+    assert_eq!(number(calls::perform(TRIANGLE, 3, &[])), 11);
+    // No link, no trail, no probe.
+    assert_eq!(calls::new_search(&[0], 0), Ok(Search::AllUp));
+    assert_eq!(calls::full_check(&[0], 0, &[], &[]), Ok(Fate::Ended(0)));
+    assert_eq!(probe(&[0], 0, &[], &[], Search::AllUp), 15);
+    assert_eq!(probe(&[0], 0, &[], &[], Search::Checking(0)), 14);
+}
+
+/// The reader restated: of each part, the set of refusals that hold.
+fn plain_read(bytes: &[u8]) -> Result<Plant, u8> {
+    let mut plant = Plant::EMPTY;
+    let mut rest = bytes;
+    let mut before = [0, 0];
+    let mut part = 0;
+    loop {
+        if part > usize::from(plant.links) {
+            return if rest.is_empty() { Ok(plant) } else { Err(8) };
+        }
+        let Some((map, fields)) = rest.split_first() else {
+            return Err(1);
+        };
+        if *map >= 8 {
+            return Err(2);
+        }
+        let widths = if part == 0 { [1, 2, 1] } else { [1, 1, 2] };
+        let absent = if part == 0 {
+            [1, 0, 0]
+        } else {
+            [before[0], before[1], 0]
+        };
+        let wanted: Vec<usize> = (0..3).filter(|bit| map & 1 << bit != 0).collect();
+        let length = wanted.iter().map(|bit| widths[*bit]).sum();
+        if fields.len() < length {
+            return Err(3);
+        }
+        let (mut fields, after) = fields.split_at(length);
+        let mut values: [usize; 3] = absent;
+        let mut holds = Vec::new();
+        for bit in wanted {
+            let (field, next) = fields.split_at(widths[bit]);
+            fields = next;
+            values[bit] = field
+                .iter()
+                .rev()
+                .fold(0, |sum, byte| 256 * sum + usize::from(*byte));
+            if values[bit] == absent[bit] {
+                holds.push(4);
+            }
+        }
+        if part == 0 {
+            let [switches, links, start] = values;
+            if switches == 0 || switches > 64 || links > 256 || start >= switches {
+                holds.push(5);
+            }
+            plant.switches = switches as u8;
+            plant.links = links as u16;
+            plant.start = start as u8;
+        } else {
+            let [first, second, tag] = values;
+            if first.max(second) >= usize::from(plant.switches) {
+                holds.push(6);
+            }
+            if first == second {
+                holds.push(7);
+            }
+            plant.link[part - 1] = Link {
+                first: first as u8,
+                second: second as u8,
+                tag: tag as u16,
+            };
+            before = [first, second];
+        }
+        if let Some(least) = holds.iter().min() {
+            return Err(*least);
+        }
+        rest = after;
+        part += 1;
+    }
+}
+
+#[test]
+fn reading() {
+    let mut chance = Chance::new(7);
+    let mut seen = [0; 9];
+    for round in 0..60_000 {
+        let (switches, links) = chance.of(&[(3, 4), (6, 9), (12, 20)]);
+        let plant = make::joined(&mut chance, switches, links).mixed(&mut chance);
+        let bytes = if round % 3 == 0 {
+            make::noise(&mut chance)
+        } else {
+            make::damaged(&mut chance, &plant)
+        };
+        let answer = listing::read(&bytes).map_err(Refusal::number);
+        assert_eq!(answer, plain_read(&bytes), "{bytes:02x?}");
+        seen[usize::from(answer.as_ref().err().copied().unwrap_or(0))] += 1;
+        // What is read can be written, and gives the same bytes.
+        if let Ok(plant) = answer {
+            assert_eq!(make::listing_of(&plant), bytes);
+        }
+    }
+    assert!(seen.iter().all(|count| *count > 50), "{seen:?}");
+    // Every listing of at most two bytes.
+    assert_eq!(listing::read(&[]).map_err(Refusal::number), plain_read(&[]));
+    for word in 0..=u16::MAX {
+        let bytes = word.to_le_bytes();
+        for bytes in [&bytes[..1], &bytes] {
+            let answer = listing::read(bytes).map_err(Refusal::number);
+            assert_eq!(answer, plain_read(bytes));
+        }
+    }
+}
+
+#[test]
+fn round_trips() {
+    for plant in plants(8, 2000, 50) {
+        let bytes = make::listing_of(&plant);
+        assert_eq!(listing::read(&bytes), Ok(plant.clone()));
+        let mut buffer = vec![7; bytes.len() + 3];
+        assert_eq!(listing::write(&plant, &mut buffer), Ok(bytes.len()));
+        assert_eq!(buffer[..bytes.len()], bytes);
+        assert_eq!(buffer[bytes.len()..], [7; 3]);
+        let mut short = vec![7; bytes.len() - 1];
+        assert_eq!(
+            listing::write(&plant, &mut short),
+            Err(Refusal::ListingBufferShort)
+        );
+        assert!(short.iter().all(|byte| *byte == 7));
+    }
+    let longest = make::listing_of(&make::longest_listing());
+    assert_eq!(longest.len(), 1285);
+    assert_eq!(longest.len(), Plant::MAX_LISTING);
+}
+
+#[test]
+fn writer_refusals() {
+    let triangle = listing::read(TRIANGLE).unwrap();
+    let try_plant = |change: &dyn Fn(&mut Plant)| {
+        let mut plant = triangle.clone();
+        change(&mut plant);
+        number(listing::write(&plant, &mut [0; 5]))
+    };
+    assert_eq!(try_plant(&|_| ()), 16);
+    assert_eq!(try_plant(&|plant| plant.switches = 0), 5);
+    assert_eq!(try_plant(&|plant| plant.switches = 65), 5);
+    assert_eq!(try_plant(&|plant| plant.links = 257), 5);
+    assert_eq!(try_plant(&|plant| plant.links = 2), 5);
+    assert_eq!(try_plant(&|plant| plant.links = 4), 7);
+    assert_eq!(try_plant(&|plant| plant.start = 3), 5);
+    assert_eq!(try_plant(&|plant| plant.link[255].tag = 1), 5);
+    assert_eq!(try_plant(&|plant| plant.link[2].second = 3), 6);
+    assert_eq!(
+        try_plant(&|plant| {
+            plant.link[1].second = plant.link[1].first;
+            plant.link[2].second = 3;
+        }),
+        7
+    );
+    assert_eq!(
+        try_plant(&|plant| {
+            plant.link[0].second = 9;
+            plant.link[3].second = 1;
+        }),
+        5
+    );
+}
+
+#[test]
+fn longest_trail() {
+    let back = Plant::MAX_LINKS - (Plant::MAX_SWITCHES - 1);
+    let plant = make::long(Plant::MAX_SWITCHES, back).plain();
+    let net = Net::new(plant).unwrap();
+    assert_eq!(Trail::new(&net).hops, back * Plant::MAX_SWITCHES);
+}
+
+fn line(case: &Case) -> String {
+    let mut output = Vec::new();
+    let ((call, _), end) = Answerer::default()
+        .answer(&case.bytes, 0, &mut output)
+        .unwrap();
+    assert_eq!(call, case.bytes[0]);
+    assert_eq!(end, case.bytes.len());
+    String::from_utf8(output).unwrap()
+}
+
+#[test]
+fn case_lines() {
+    assert_eq!(Sum::of([]).to_string(), "0:0");
+    assert_eq!(Sum::of([1, 2]).to_string(), "2:65");
+    let trail = [0, 2, 4];
+    let sum = |numbers: &[u32]| Sum::of(numbers.iter().copied()).to_string();
+    let on = |call| Case::new(call).string(TRIANGLE);
+    let at = |call| on(call).byte(1).labels(&trail);
+    let plant = listing::read(TRIANGLE).unwrap();
+    let wide: Vec<u32> = (0..14).map(|place| u32::from(prefilled(place))).collect();
+    let mut written = wide.clone();
+    for (place, byte) in written.iter_mut().zip(TRIANGLE) {
+        *place = u32::from(*byte);
+    }
+    let cases = [
+        (
+            on(1),
+            format!("3 3 0 {}", sum(&[0, 1, 0, 1, 2, 0, 2, 0, 0])),
+        ),
+        (
+            Case::new(2).plant(&plant, 3).word(14),
+            format!("12 {}", sum(&written)),
+        ),
+        (
+            Case::new(2).plant(&plant, 2).word(14),
+            format!("refused 7 {}", sum(&wide)),
+        ),
+        (
+            Case::new(2).plant(&plant, 3).word(11),
+            format!("refused 16 {}", sum(&wide[..11])),
+        ),
+        (on(3), "3 3 0 3 3".to_string()),
+        (on(4), sum(&[0, 0, 0])),
+        (on(5), sum(&[0, 0, 1, 1, 2, 2, 2, 4, 0])),
+        (
+            on(6).word(5),
+            format!("3 {}", sum(&[0, 2, 4, wide[3], wide[4]])),
+        ),
+        (on(6).word(2), format!("refused 10 {}", sum(&wide[..2]))),
+        (
+            on(7).byte(1).labels(&[2, 4]).string(&[1; 3]),
+            "ended".into(),
+        ),
+        (on(7).byte(0).labels(&[2]).string(&[1; 3]), "lost".into()),
+        (at(8).string(&[1, 2, 255]), "returned".into()),
+        (at(8).string(&[0, 1, 1]), "lost".into()),
+        (at(9), sum(&[1, 2, 0])),
+        (at(10).search(Search::Checking(3)), sum(&[2, 4, 0])),
+        (at(10).search(Search::Halving(1, 3)), sum(&[2, 4])),
+        (
+            at(11).string(&[0, 1, 1]).search(Search::Halving(1, 3)),
+            "returned".into(),
+        ),
+        (
+            at(11).string(&[1, 1, 0]).search(Search::Halving(1, 3)),
+            "lost".into(),
+        ),
+        (at(12).search(Search::Down(3)), "link 0".into()),
+        (at(12).search(Search::AllUp), "none".into()),
+        (at(12).search(Search::Halving(2, 3)), "open".into()),
+        (at(12).search(Search::Down(4)), "refused 14".into()),
+        (on(13).byte(2), "Checking 3".into()),
+        (Case::new(13).string(&[0]).byte(0), "AllUp".into()),
+        (Case::new(14).search(Search::Halving(1, 4)), "2".into()),
+        (
+            Case::new(15).search(Search::Checking(9)).byte(0),
+            "Halving 1 9".into(),
+        ),
+        (
+            Case::new(15).search(Search::Checking(9)).byte(7),
+            "AllUp".into(),
+        ),
+        (on(16).byte(0).string(&[0, 2, 1, 1]), "Down 3 2".into()),
+        (on(16).byte(0).string(&[]), "Checking 3 0".into()),
+        (Case::new(17).word(5).byte(10), "6".into()),
+        (Case::new(17).word(5).byte(101), "refused 17".into()),
+    ];
+    for (case, answer) in cases {
+        assert_eq!(line(&case), answer + "\n", "{:?}", case.bytes);
+    }
+}

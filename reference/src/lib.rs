@@ -1,0 +1,24 @@
+//! Second implementation of the network planner, made from document 01 alone.
+//!
+//! - [`plant`]: plant values, their limits and the refusals;
+//! - [`listing`]: the listing's reader and writer;
+//! - [`net`]: depth-first visit, bridges, arcs in use, rule page;
+//! - [`trail`]: distances and the trail;
+//! - [`packet`]: packet runs, place, ring, order of links, probes;
+//! - [`search`]: the search, its allowance, the order quantity;
+//! - [`calls`]: every call with its refusals in checking order;
+//! - [`cases`]: the case format and its answers;
+//! - [`make`]: generator of plants and damaged listings.
+
+pub mod calls;
+pub mod cases;
+pub mod listing;
+pub mod make;
+pub mod net;
+pub mod packet;
+pub mod plant;
+pub mod search;
+pub mod trail;
+
+#[cfg(test)]
+mod checks;

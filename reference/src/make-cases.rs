@@ -1,0 +1,973 @@
+//! Writes cases and their answers to two files.
+//!
+//! `make-cases OUT_DIR [SEED] [COUNT]` writes `cases.in` and `cases.expected`
+//! and prints to standard error how often each call and refusal occurs.
+
+use reference::calls;
+use reference::cases::{Answerer, Case, NAMES};
+use reference::make::{self, Chance, Sketch};
+use reference::net::Net;
+use reference::plant::{Link, Plant};
+use reference::search::Search;
+use reference::trail::Trail;
+use std::fs::File;
+use std::io::{self, BufWriter, Write};
+use std::path::Path;
+use std::process::ExitCode;
+
+const SEED: u64 = 1;
+const COUNT: usize = 18_000;
+
+const SWITCHES: usize = Plant::MAX_SWITCHES;
+const LINKS: usize = Plant::MAX_LINKS;
+
+/// The longest trail that is lent in a case drawn by chance.
+const LENT: usize = 300;
+
+/// Writes cases, answers and the counts of both.
+struct Out {
+    cases: BufWriter<File>,
+    answers: BufWriter<File>,
+    answerer: Answerer,
+    line: Vec<u8>,
+    most: usize,
+    count: usize,
+    sizes: [usize; 2],
+    /// Answers by call and refusal, 0 for none.
+    table: [[usize; 18]; 18],
+}
+
+impl Out {
+    fn full(&self) -> bool {
+        self.count >= self.most
+    }
+
+    fn put(&mut self, case: Case) -> io::Result<()> {
+        if self.full() {
+            return Ok(());
+        }
+        self.line.clear();
+        let ((call, refusal), end) = self
+            .answerer
+            .answer(&case.bytes, 0, &mut self.line)
+            .map_err(|malformed| io::Error::other(format!("malformed at {}", malformed.0)))?;
+        if end != case.bytes.len() {
+            return Err(io::Error::other("a case with bytes to spare"));
+        }
+        self.cases.write_all(&case.bytes)?;
+        self.answers.write_all(&self.line)?;
+        self.count += 1;
+        self.sizes[0] += case.bytes.len();
+        self.sizes[1] += self.line.len();
+        self.table[usize::from(call)]
+            [refusal.map_or(0, |refusal| usize::from(refusal.number()))] += 1;
+        Ok(())
+    }
+}
+
+/// A listing with the plant that was meant and that plant's trail.
+struct Subject {
+    listing: Vec<u8>,
+    plant: Plant,
+    trail: Vec<u16>,
+}
+
+impl Subject {
+    fn new(plant: Plant) -> Subject {
+        Subject {
+            listing: make::listing_of(&plant),
+            trail: trail_of(&plant),
+            plant,
+        }
+    }
+
+    fn links(&self) -> usize {
+        usize::from(self.plant.links)
+    }
+}
+
+fn trail_of(plant: &Plant) -> Vec<u16> {
+    Net::new(plant.clone()).map_or(Vec::new(), |net| Trail::new(&net).to_vec())
+}
+
+/// The most switches and links of a plant drawn by chance.
+fn limits(chance: &mut Chance) -> (usize, usize) {
+    match chance.weighed(&[41, 35, 18, 6]) {
+        0 => (5, 8),
+        1 => (12, 24),
+        2 => (32, 80),
+        _ => (SWITCHES, LINKS),
+    }
+}
+
+/// A subject for a call: most often sound, else apart or damaged.
+fn subject(chance: &mut Chance, sound: usize) -> Subject {
+    let (switches, links) = limits(chance);
+    let mut subject = Subject::new(make::joined(chance, switches, links).mixed(chance));
+    if !chance.percent(sound) {
+        if chance.percent(25) {
+            let plant = make::apart(chance, switches, links).mixed(chance);
+            subject = Subject::new(plant);
+        } else {
+            subject.listing = make::damaged(chance, &subject.plant);
+        }
+    }
+    subject
+}
+
+/// A subject whose trail is not too long to be lent.
+fn lending(chance: &mut Chance, sound: usize) -> Subject {
+    loop {
+        let subject = subject(chance, sound);
+        if subject.trail.len() <= LENT {
+            return subject;
+        }
+    }
+}
+
+fn switch(chance: &mut Chance, plant: &Plant) -> u8 {
+    let count = usize::from(plant.switches);
+    if chance.percent(93) {
+        chance.below(count) as u8
+    } else {
+        let above = chance.within(count, 255);
+        chance.of(&[count, count, count + 1, 255, above]) as u8
+    }
+}
+
+/// A trail to lend: most often the right one.
+fn lent(chance: &mut Chance, subject: &Subject) -> Vec<u16> {
+    let mut trail = subject.trail.clone();
+    if chance.percent(85) {
+        return trail;
+    }
+    match chance.below(9) {
+        0 | 1 => {
+            if let Some(last) = trail.len().checked_sub(1) {
+                let any = chance.below(last + 1);
+                let at = chance.of(&[0, last, any]);
+                trail[at] ^= chance.of(&[1, 2, 1, 256]);
+            }
+        }
+        2 => {
+            trail.pop();
+        }
+        3 => trail.push(0),
+        4 => trail.push(chance.below(2 * subject.links() + 2) as u16),
+        5 => trail.clear(),
+        6 => trail.truncate(chance.below(trail.len() + 1)),
+        7 => {
+            let turn = trail.len().min(1);
+            trail.rotate_left(turn);
+        }
+        _ => {
+            let mut plant = subject.plant.clone();
+            plant.start = (plant.start + 1) % plant.switches;
+            trail = trail_of(&plant);
+        }
+    }
+    trail
+}
+
+/// Link states: most often enough of them.
+fn states(chance: &mut Chance, links: usize) -> Vec<u8> {
+    let mut states: Vec<u8> = (0..links)
+        .map(|_| {
+            if chance.percent(80) {
+                1
+            } else {
+                chance.within(1, 255) as u8
+            }
+        })
+        .collect();
+    if links > 0 {
+        match chance.below(10) {
+            0..=2 => {}
+            3..=6 => states[chance.below(links)] = 0,
+            7 => {
+                for _ in 0..chance.within(2, 4) {
+                    states[chance.below(links)] = 0;
+                }
+            }
+            8 => {
+                let broken = chance.of(&[5, 20, 50, 90]);
+                for state in &mut states {
+                    if chance.percent(broken) {
+                        *state = 0;
+                    }
+                }
+            }
+            _ => states.fill(0),
+        }
+        if chance.percent(9) {
+            let short = chance.below(links);
+            states.truncate(chance.of(&[links - 1, short, 0]));
+            return states;
+        }
+    }
+    if chance.percent(15) {
+        for _ in 0..chance.within(1, 3) {
+            states.push(chance.of(&[0, 1]));
+        }
+    }
+    states
+}
+
+/// A search state that a plant with so many links can have.
+fn right(chance: &mut Chance, links: usize, ended: usize) -> Search {
+    let links = links as u16;
+    if links == 0 {
+        return Search::AllUp;
+    }
+    if chance.percent(ended) {
+        return if chance.percent(25) {
+            Search::AllUp
+        } else {
+            let any = chance.within(1, usize::from(links)) as u16;
+            Search::Down(chance.of(&[1, links, any]))
+        };
+    }
+    if links == 1 || chance.percent(20) {
+        return Search::Checking(links);
+    }
+    if chance.percent(50) {
+        // By the search's own steps.
+        let mut state = Search::Halving(1, links);
+        for _ in 0..chance.below(8) {
+            match state.give(chance.percent(50)) {
+                Ok(next @ Search::Halving(..)) => state = next,
+                _ => break,
+            }
+        }
+        return state;
+    }
+    let high = chance.within(2, usize::from(links));
+    let low = chance.within(1, high - 1);
+    Search::Halving(low as u16, high as u16)
+}
+
+/// A search state that no plant, or not this plant, can have.
+fn wrong(chance: &mut Chance, links: usize) -> Search {
+    let past = chance.of(&[LINKS + 1, LINKS + 2, 511, 512, 0x8000, 0xffff]) as u16;
+    let any = chance.below(LINKS + 1) as u16;
+    let links = links as u16;
+    match chance.below(14) {
+        0 => Search::Checking(0),
+        1 => Search::Checking(past),
+        2 => Search::Checking(links + 1),
+        3 => Search::Checking(links.saturating_sub(1)),
+        4 => Search::Checking(any),
+        5 => Search::Down(0),
+        6 => Search::Down(past),
+        7 => Search::Down(links + 1),
+        8 => Search::Halving(0, links),
+        9 => Search::Halving(links, links),
+        10 => Search::Halving(links, links.saturating_sub(1)),
+        11 => Search::Halving(1, links + 1),
+        12 => Search::Halving(chance.of(&[1, any, past]), past),
+        _ => Search::Halving(past, any),
+    }
+}
+
+fn search(chance: &mut Chance, links: usize, ended: usize) -> Search {
+    if chance.percent(88) {
+        right(chance, links, ended)
+    } else {
+        wrong(chance, links)
+    }
+}
+
+/// Labels for a packet that is no probe.
+fn labels(chance: &mut Chance, subject: &Subject) -> (u8, Vec<u16>) {
+    let plant = &subject.plant;
+    let mut at = switch(chance, plant);
+    let begin = at;
+    let mut labels = Vec::new();
+    let Ok(net) = Net::new(plant.clone()) else {
+        return (begin, labels);
+    };
+    // A walk over arcs in use, at times over any arcs.
+    let any = chance.percent(15);
+    let most = chance.of(&[0, 1, 3, 8, 20, 40]);
+    for _ in 0..chance.below(most + 1) {
+        let out: Vec<u16> = (0..2 * plant.links)
+            .filter(|label| {
+                net.ends(*label).0 == usize::from(at) && (any || net.used[usize::from(*label)])
+            })
+            .collect();
+        if out.is_empty() {
+            break;
+        }
+        let label = chance.of(&out);
+        labels.push(label);
+        at = net.ends(label).1 as u8;
+    }
+    if chance.percent(10) && subject.trail.len() <= LENT {
+        labels = subject.trail.clone();
+        let from = if chance.percent(60) {
+            plant.start
+        } else {
+            begin
+        };
+        return (from, labels);
+    }
+    if chance.percent(20) {
+        let any = chance.word();
+        let after = 2 * plant.links;
+        let wild = chance.of(&[after, after + 1, 2 * LINKS as u16, 0xffff, any]);
+        if labels.is_empty() || chance.percent(50) {
+            labels.push(wild);
+        } else {
+            let place = chance.below(labels.len());
+            labels[place] = if chance.percent(70) {
+                labels[place] ^ 1
+            } else {
+                wild
+            };
+        }
+    }
+    (begin, labels)
+}
+
+/// A plant value to be written: most often sound.
+fn written(chance: &mut Chance) -> Case {
+    let (switches, links) = limits(chance);
+    let mut plant = make::joined(chance, switches, links).mixed(chance);
+    if chance.percent(10) {
+        plant = make::apart(chance, switches, links).mixed(chance);
+    }
+    let mut given = usize::from(plant.links);
+    let length = make::listing_of(&plant).len();
+    if chance.percent(45) {
+        for _ in 0..chance.of(&[1, 1, 1, 2, 3]) {
+            spoil(chance, &mut plant, &mut given);
+        }
+    } else if chance.percent(10) {
+        given = (given + chance.below(3)).min(LINKS);
+    }
+    let spare = chance.below(30);
+    let short = chance.below(length + 1);
+    let places = chance.of(&[
+        length,
+        length,
+        length + 1,
+        length - 1,
+        length - 1,
+        length + spare,
+        length + spare,
+        short,
+        0,
+    ]);
+    Case::new(2).plant(&plant, given).word(places)
+}
+
+/// Makes a plant value unsound, if not always.
+fn spoil(chance: &mut Chance, plant: &mut Plant, given: &mut usize) {
+    let links = usize::from(plant.links).min(LINKS);
+    match chance.below(10) {
+        0 => plant.switches = chance.of(&[0, 65, 128, 255]),
+        1 => plant.start = chance.of(&[plant.switches, 64, 255]),
+        2 => plant.links = chance.of(&[257, 258, 512, 0x8000, 0xffff]),
+        3 | 4 => {
+            // A place past the last link is not zero.
+            if links < LINKS {
+                let place = (links + chance.of(&[0, 0, 1, 5])).min(LINKS - 1);
+                match chance.below(3) {
+                    0 => plant.link[place].first = 1,
+                    1 => plant.link[place].second = 1,
+                    _ => plant.link[place].tag = chance.of(&[1, 256]),
+                }
+                *given = (*given).max(place + 1);
+            }
+        }
+        // A place short of the last link is all zero.
+        5 => {
+            if links > 0 {
+                let place = chance.below(links);
+                plant.link[place] = Link::default();
+            }
+        }
+        6 | 7 => {
+            if links > 0 {
+                let place = chance.below(links);
+                let end = chance.of(&[plant.switches, 64, 255]);
+                if chance.percent(50) {
+                    plant.link[place].first = end;
+                } else {
+                    plant.link[place].second = end;
+                }
+            }
+        }
+        8 => {
+            if links > 0 {
+                let place = chance.below(links);
+                plant.link[place].first = plant.link[place].second;
+            }
+        }
+        // More links than are told.
+        _ => {
+            if links < LINKS {
+                plant.links = links as u16 + 1;
+            }
+        }
+    }
+}
+
+/// A list of calls: 0 asks, 1 gives home, any other gives lost.
+fn call_list(chance: &mut Chance) -> Vec<u8> {
+    let most = chance.of(&[0, 2, 6, 12, 12, 30]);
+    let home = chance.of(&[0, 30, 50, 80]);
+    let asks = chance.of(&[0, 30, 60]);
+    let mut list: Vec<u8> = (0..chance.below(most + 1))
+        .map(|_| {
+            if chance.percent(asks) {
+                0
+            } else if chance.percent(home) {
+                1
+            } else {
+                chance.of(&[2, 2, 2, 3, 128, 255])
+            }
+        })
+        .collect();
+    // Else a search that is home at once is the most frequent.
+    if chance.percent(70) {
+        if let Some(first) = list.iter_mut().find(|call| **call == 1) {
+            *first = 2;
+        }
+    }
+    list
+}
+
+/// A list of calls with true fates, for a search that comes to its end.
+fn true_list(chance: &mut Chance, subject: &Subject) -> Vec<u8> {
+    let links = subject.links();
+    let mut list = Vec::new();
+    let first = chance.below(links + 1);
+    let mut state = Search::new(links as u16);
+    while let Ok(m) = state.ask() {
+        if chance.percent(40) {
+            list.push(0);
+        }
+        // The first broken link is at place first + 1; none is, if first is E.
+        let home = usize::from(m) <= first;
+        list.push(if home { 1 } else { chance.of(&[2, 255]) });
+        match state.give(home) {
+            Ok(next) => state = next,
+            Err(_) => break,
+        }
+    }
+    for _ in 0..chance.below(3) {
+        list.push(chance.of(&[0, 1, 2]));
+    }
+    list
+}
+
+fn trail_places(chance: &mut Chance, hops: usize) -> usize {
+    let short = chance.below(hops + 1);
+    let places = chance.of(&[
+        hops,
+        hops,
+        hops + 1,
+        hops + 2,
+        hops.saturating_sub(1),
+        hops.saturating_sub(1),
+        hops.saturating_sub(2),
+        hops + 10,
+        short,
+        0,
+    ]);
+    places.min(Plant::MAX_HOPS)
+}
+
+/// One case of a call, drawn by chance.
+fn drawn(chance: &mut Chance, call: u8) -> Case {
+    let case = Case::new(call);
+    match call {
+        1 => {
+            let subject = subject(chance, 30);
+            case.string(&subject.listing)
+        }
+        2 => written(chance),
+        3..=5 => case.string(&subject(chance, 78).listing),
+        6 => {
+            let subject = subject(chance, 78);
+            let places = trail_places(chance, subject.trail.len());
+            case.string(&subject.listing).word(places)
+        }
+        7 => {
+            let subject = subject(chance, 85);
+            let (begin, labels) = labels(chance, &subject);
+            let states = states(chance, subject.links());
+            case.string(&subject.listing)
+                .byte(begin)
+                .labels(&labels)
+                .string(&states)
+        }
+        8..=12 => {
+            let subject = lending(chance, 85);
+            let begin = switch(chance, &subject.plant);
+            let trail = lent(chance, &subject);
+            let mut case = case.string(&subject.listing).byte(begin).labels(&trail);
+            if call == 8 || call == 11 {
+                case = case.string(&states(chance, subject.links()));
+            }
+            if call >= 10 {
+                let ended = if call == 12 { 65 } else { 10 };
+                case = case.search(search(chance, subject.links(), ended));
+            }
+            case
+        }
+        13 => {
+            let subject = subject(chance, 80);
+            let begin = switch(chance, &subject.plant);
+            case.string(&subject.listing).byte(begin)
+        }
+        14 | 15 => {
+            let links = chance.below(LINKS + 1);
+            let state = if chance.percent(75) {
+                right(chance, links, 15)
+            } else {
+                wrong(chance, links)
+            };
+            let case = case.search(state);
+            if call == 14 {
+                case
+            } else {
+                case.byte(chance.of(&[0, 0, 0, 1, 1, 2, 255]))
+            }
+        }
+        16 => {
+            let subject = subject(chance, 85);
+            let begin = switch(chance, &subject.plant);
+            let list = if chance.percent(60) {
+                true_list(chance, &subject)
+            } else {
+                call_list(chance)
+            };
+            case.string(&subject.listing).byte(begin).string(&list)
+        }
+        _ => {
+            let rules = if chance.percent(50) {
+                usize::from(chance.word())
+            } else {
+                chance.below(600)
+            };
+            let percent = if chance.percent(80) {
+                chance.below(101)
+            } else {
+                chance.within(101, 255)
+            };
+            case.word(rules).byte(percent as u8)
+        }
+    }
+}
+
+/// The listings that document 01 names, with their triangle and the like.
+fn named_listings() -> Vec<Vec<u8>> {
+    let table_one = Sketch {
+        switches: 7,
+        pairs: vec![
+            (0, 4),
+            (4, 1),
+            (1, 2),
+            (2, 5),
+            (5, 6),
+            (6, 3),
+            (3, 2),
+            (5, 4),
+            (1, 0),
+        ],
+    };
+    let mut listings: Vec<Vec<u8>> = [
+        &[][..],
+        &[0x00],
+        &[0x08],
+        &[0x01],
+        &[0x01, 0x01],
+        &[0x01, 0x00],
+        &[0x01, 0x41],
+        &[0x01, 0x40],
+        &[0x00, 0x00],
+        &[0x03, 0x02, 0x01, 0x00, 0x00],
+        &[0x02, 0x01, 0x00, 0x00],
+        &[0x03, 0x02, 0x01, 0x00, 0x02, 0x01],
+        &[3, 3, 3, 0, 2, 1, 3, 1, 2, 3, 2, 0],
+        &[3, 2, 3, 0, 2, 1, 0, 0],
+        &[3, 4, 4, 0, 2, 1, 3, 1, 2, 3, 2, 0, 3, 0, 3],
+        // The lowest number of a part goes first.
+        &[0x05, 0x01],
+        &[0x05, 0x00, 0x00],
+        &[0x02, 0x00],
+        &[0x02, 0x00, 0x00],
+        &[0x04, 0x00],
+        &[0x04, 0x01],
+        &[0x09],
+        &[0x07, 0x02, 0x01, 0x00, 0x01],
+        &[3, 2, 1, 0, 1],
+        &[3, 2, 1, 0, 1, 0],
+        &[3, 2, 1, 0, 5, 0, 1],
+        &[3, 2, 1, 0, 5, 1, 1],
+        &[3, 2, 1, 0, 5, 1, 0, 0],
+        &[3, 2, 1, 0, 3, 2, 2],
+        &[3, 2, 1, 0, 3, 1, 1],
+        &[3, 2, 2, 0, 3, 1, 1, 8],
+        &[3, 2, 2, 0, 2, 2, 8],
+        &[3, 2, 2, 0, 2, 1, 2, 1],
+        &[3, 2, 2, 0, 2, 1, 2, 0],
+        &[3, 65, 1, 0, 8],
+        &[3, 2, 1, 0, 2, 1, 8],
+        &[3, 3, 1, 0, 2, 1, 8],
+    ]
+    .iter()
+    .map(|listing| listing.to_vec())
+    .collect();
+    listings.push(make::listing_of(&table_one.plain()));
+    listings
+}
+
+/// The cases that do not wait for chance.
+fn fixed(chance: &mut Chance, out: &mut Out) -> io::Result<()> {
+    // The listings of document 01.
+    for listing in named_listings() {
+        for call in [1, 3, 4, 5] {
+            out.put(Case::new(call).string(&listing))?;
+        }
+        let hops = calls::summary(&listing).map_or(1, |sum| sum.hops);
+        for places in hops.saturating_sub(1)..=hops + 1 {
+            out.put(Case::new(6).string(&listing).word(places))?;
+        }
+        for begin in 0..3 {
+            out.put(Case::new(13).string(&listing).byte(begin))?;
+        }
+    }
+    // One byte.
+    for byte in 0..=255 {
+        out.put(Case::new(1).string(&[byte]))?;
+    }
+    // One field of each width, over its values.
+    for byte in 0..=255 {
+        out.put(Case::new(1).string(&[1, byte]))?;
+        out.put(Case::new(1).string(&[5, 64, byte]))?;
+    }
+    for links in [0, 1, 255, 256, 257, 511, 512, 0x100, 0x8000, 0xff00, 0xffff] {
+        let [low, high] = u16::to_le_bytes(links);
+        out.put(Case::new(1).string(&[2, low, high]))?;
+        out.put(Case::new(1).string(&[3, 2, low, high]))?;
+    }
+    for tag in [
+        0, 1, 127, 128, 255, 256, 257, 0x1234, 0x8000, 0xff00, 0xffff,
+    ] {
+        let [low, high] = u16::to_le_bytes(tag);
+        out.put(Case::new(1).string(&[3, 2, 1, 0, 6, 1, low, high]))?;
+    }
+
+    // Every number of switches: a tree and a ring.
+    for switches in 1..=SWITCHES {
+        for sketch in [make::tree(chance, switches), make::cycle(switches)] {
+            let subject = Subject::new(sketch.mixed(chance));
+            let places = trail_places(chance, subject.trail.len());
+            out.put(Case::new(3).string(&subject.listing))?;
+            out.put(Case::new(6).string(&subject.listing).word(places))?;
+        }
+    }
+    // Every number of links, the calls without a lent trail in turn.
+    for links in 0..=LINKS {
+        let most = SWITCHES.min(links + 1);
+        let switches = if links == 0 {
+            1
+        } else {
+            chance.within(2, most)
+        };
+        let plant = make::exact(chance, switches, links).mixed(chance);
+        let subject = Subject::new(plant);
+        let call = [3, 6, 5, 16, 1, 7, 4, 13][links % 8];
+        out.put(about(chance, call, &subject))?;
+    }
+    // The limits: 64 switches with 256 links.
+    let subject = Subject::new(make::exact(chance, SWITCHES, LINKS).mixed(chance));
+    for call in [1, 3, 4, 5, 6, 7, 13, 16] {
+        out.put(about(chance, call, &subject))?;
+    }
+    let length = subject.listing.len();
+    for places in [length - 1, length, Plant::MAX_LISTING, length + 100] {
+        out.put(Case::new(2).plant(&subject.plant, LINKS).word(places))?;
+    }
+    // The longest listing: every field given.
+    let longest = make::longest_listing();
+    let listing = make::listing_of(&longest);
+    for call in [1, 3] {
+        out.put(Case::new(call).string(&listing))?;
+    }
+    for places in [listing.len() - 1, listing.len(), listing.len() + 1] {
+        out.put(Case::new(2).plant(&longest, LINKS).word(places))?;
+    }
+
+    // The longest trails.
+    let long = Subject::new(make::long(SWITCHES, LINKS - (SWITCHES - 1)).plain());
+    let hops = long.trail.len();
+    for places in [hops - 1, hops, hops + 1, Plant::MAX_HOPS] {
+        out.put(Case::new(6).string(&long.listing).word(places))?;
+    }
+    for call in [3, 4, 5, 13, 16] {
+        out.put(about(chance, call, &long))?;
+    }
+    out.put(
+        Case::new(11)
+            .string(&long.listing)
+            .byte(40)
+            .labels(&long.trail)
+            .string(&[1; LINKS])
+            .search(Search::Halving(1, LINKS as u16)),
+    )?;
+    out.put(
+        Case::new(7)
+            .string(&long.listing)
+            .byte(0)
+            .labels(&long.trail)
+            .string(&[1; LINKS]),
+    )?;
+    // Long trails, lent: every call that is lent one.
+    for (switches, back) in [(20, 20), (31, 33), (64, 12)] {
+        let subject = Subject::new(make::long(switches, back).mixed(chance));
+        for call in 8..=12 {
+            out.put(about(chance, call, &subject))?;
+        }
+    }
+    // Dense plants, lent.
+    for (switches, links) in [(10, 60), (20, 100), (64, 200)] {
+        let subject = Subject::new(make::exact(chance, switches, links).mixed(chance));
+        for call in 8..=12 {
+            out.put(about(chance, call, &subject))?;
+        }
+    }
+
+    // Every count and place that a search can have, and some past them.
+    for number in (0..=LINKS as u16 + 2).chain([511, 512, 0x8000, 0xff00, 0xffff]) {
+        for state in [Search::Checking(number), Search::Down(number)] {
+            out.put(Case::new(14).search(state))?;
+        }
+        for outcome in [0, 1] {
+            out.put(Case::new(15).search(Search::Checking(number)).byte(outcome))?;
+        }
+    }
+    for outcome in [0, 1, 2, 255] {
+        out.put(Case::new(15).search(Search::AllUp).byte(outcome))?;
+        out.put(Case::new(15).search(Search::Down(9)).byte(outcome))?;
+    }
+    out.put(Case::new(14).search(Search::AllUp))?;
+    for high in 0..=9 {
+        for low in 0..=9 {
+            let state = Search::Halving(low, high);
+            out.put(Case::new(14).search(state))?;
+            for outcome in [0, 1] {
+                out.put(Case::new(15).search(state).byte(outcome))?;
+            }
+        }
+    }
+    // Every first broken link, for some numbers of links.
+    for links in [1, 2, 3, 4, 5, 7, 8, 9] {
+        let subject = Subject::new(make::exact(chance, links.clamp(2, 4), links).mixed(chance));
+        for first in 0..=links {
+            let mut list = Vec::new();
+            let mut state = Search::new(links as u16);
+            while let Ok(m) = state.ask() {
+                let home = usize::from(m) <= first;
+                list.extend([0, if home { 1 } else { 2 }]);
+                state = state.give(home).unwrap_or(state);
+            }
+            let begin = chance.below(usize::from(subject.plant.switches)) as u8;
+            out.put(
+                Case::new(16)
+                    .string(&subject.listing)
+                    .byte(begin)
+                    .string(&list),
+            )?;
+        }
+    }
+
+    // Order quantities.
+    for rules in [
+        0, 1, 2, 3, 5, 7, 10, 20, 50, 99, 100, 101, 199, 200, 255, 256, 257, 319, 512, 1000,
+        0x7fff, 0x8000, 0xfffe, 0xffff,
+    ] {
+        for percent in [0, 1, 2, 3, 10, 33, 50, 67, 99, 100, 101, 102, 128, 255] {
+            out.put(Case::new(17).word(rules).byte(percent))?;
+        }
+    }
+
+    // Several refusals at once, so that their order shows: of the writer,
+    // a self-link and an end outside, at times a place past the last link.
+    for _ in 0..100 {
+        let mut plant = make::exact(chance, 4, 6).mixed(chance);
+        let (one, other) = (chance.below(6), chance.below(6));
+        plant.link[one].second = plant.link[one].first;
+        plant.link[other].first = chance.of(&[4, 5, 64, 255]);
+        let mut given = 6;
+        if chance.percent(20) {
+            given = chance.within(7, 9);
+            plant.link[given - 1].tag = 1;
+        }
+        let places = chance.of(&[0, 10, 40]);
+        out.put(Case::new(2).plant(&plant, given).word(places))?;
+    }
+    // Of the calls with a lent trail, any of 9 and 11 to 15.
+    for _ in 0..200 {
+        let plant = make::joined(chance, 5, 8).mixed(chance);
+        let subject = Subject::new(plant);
+        let bad = |chance: &mut Chance| chance.percent(60);
+        let mut listing = subject.listing.clone();
+        if chance.percent(15) {
+            listing = make::listing_of(&make::apart(chance, 5, 8).mixed(chance));
+        }
+        let begin = if bad(chance) {
+            subject.plant.switches
+        } else {
+            0
+        };
+        let mut trail = subject.trail.clone();
+        if bad(chance) {
+            trail.push(0);
+        }
+        let mut states = vec![1; subject.links()];
+        if bad(chance) {
+            states.pop();
+        }
+        let state = if bad(chance) {
+            wrong(chance, subject.links())
+        } else {
+            right(chance, subject.links(), 50)
+        };
+        let call = chance.within(7, 12) as u8;
+        let mut case = Case::new(call).string(&listing).byte(begin).labels(&trail);
+        if call == 7 || call == 8 || call == 11 {
+            case = case.string(&states);
+        }
+        if call >= 10 {
+            case = case.search(state);
+        }
+        out.put(case)?;
+    }
+    Ok(())
+}
+
+/// A case of a call about a sound subject, with sound arguments.
+fn about(chance: &mut Chance, call: u8, subject: &Subject) -> Case {
+    let links = subject.links();
+    let begin = chance.below(usize::from(subject.plant.switches)) as u8;
+    let case = Case::new(call).string(&subject.listing);
+    let mut up = vec![1; links];
+    if links > 0 && chance.percent(50) {
+        up[chance.below(links)] = 0;
+    }
+    match call {
+        1..=5 => case,
+        6 => case.word(subject.trail.len()),
+        7 => {
+            let (begin, labels) = labels(chance, subject);
+            case.byte(begin).labels(&labels).string(&up)
+        }
+        8 => case.byte(begin).labels(&subject.trail).string(&up),
+        9 => case.byte(begin).labels(&subject.trail),
+        10 => case
+            .byte(begin)
+            .labels(&subject.trail)
+            .search(right(chance, links, 0)),
+        11 => case
+            .byte(begin)
+            .labels(&subject.trail)
+            .string(&up)
+            .search(right(chance, links, 0)),
+        12 => case
+            .byte(begin)
+            .labels(&subject.trail)
+            .search(right(chance, links, 90)),
+        13 => case.byte(begin),
+        _ => case.byte(begin).string(&true_list(chance, subject)),
+    }
+}
+
+/// How often each call is drawn, from call 1.
+const WEIGHTS: [usize; 17] = [14, 9, 7, 5, 5, 9, 9, 7, 6, 8, 9, 7, 4, 2, 3, 6, 2];
+
+fn make(folder: &Path, seed: u64, most: usize) -> io::Result<Out> {
+    std::fs::create_dir_all(folder)?;
+    let mut out = Out {
+        cases: BufWriter::new(File::create(folder.join("cases.in"))?),
+        answers: BufWriter::new(File::create(folder.join("cases.expected"))?),
+        answerer: Answerer::default(),
+        line: Vec::new(),
+        most,
+        count: 0,
+        sizes: [0; 2],
+        table: [[0; 18]; 18],
+    };
+    let mut chance = Chance::new(seed);
+    fixed(&mut chance, &mut out)?;
+    while !out.full() {
+        let call = 1 + chance.weighed(&WEIGHTS) as u8;
+        let case = drawn(&mut chance, call);
+        out.put(case)?;
+    }
+    out.cases.flush()?;
+    out.answers.flush()?;
+    Ok(out)
+}
+
+/// Prints how often each call and each refusal occurs.
+fn report(out: &Out) {
+    eprint!("{:>2} {:<11}{:>7}{:>7}", "", "call", "cases", "taken");
+    for refusal in 1..=17 {
+        eprint!("{refusal:>6}");
+    }
+    eprintln!();
+    let line = |number: &str, name: &str, row: &[usize; 18]| {
+        let cases: usize = row.iter().sum();
+        eprint!("{number:>2} {name:<11}{cases:>7}{:>7}", row[0]);
+        for count in &row[1..] {
+            eprint!("{count:>6}");
+        }
+        eprintln!();
+    };
+    let mut all = [0; 18];
+    for (call, row) in out.table.iter().enumerate().skip(1) {
+        line(&call.to_string(), NAMES[call], row);
+        for (sum, count) in all.iter_mut().zip(row) {
+            *sum += count;
+        }
+    }
+    line("", "all", &all);
+    eprintln!(
+        "{} cases, {} bytes of cases, {} bytes of answers, {} bytes",
+        out.count,
+        out.sizes[0],
+        out.sizes[1],
+        out.sizes[0] + out.sizes[1]
+    );
+}
+
+fn main() -> ExitCode {
+    let arguments: Vec<String> = std::env::args().skip(1).collect();
+    let number = |place: usize, usual: u64| match arguments.get(place) {
+        None => Some(usual),
+        Some(text) => text.parse().ok(),
+    };
+    let (Some(folder), Some(seed), Some(count), true) = (
+        arguments.first(),
+        number(1, SEED),
+        number(2, COUNT as u64),
+        arguments.len() <= 3,
+    ) else {
+        eprintln!("make-cases OUT_DIR [SEED] [COUNT]");
+        return ExitCode::FAILURE;
+    };
+    match make(Path::new(folder), seed, count as usize) {
+        Ok(out) => {
+            report(&out);
+            ExitCode::SUCCESS
+        }
+        Err(error) => {
+            eprintln!("{error}");
+            ExitCode::FAILURE
+        }
+    }
+}

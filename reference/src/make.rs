@@ -1,0 +1,515 @@
+//! Generator of plants and of damaged listings.
+
+use crate::listing;
+use crate::plant::{Link, Plant};
+
+/// A small generator of pseudo-random numbers with a fixed course for each
+/// seed.
+pub struct Chance(u64);
+
+impl Chance {
+    pub fn new(seed: u64) -> Chance {
+        Chance(seed)
+    }
+
+    pub fn draw(&mut self) -> u64 {
+        self.0 = self.0.wrapping_add(0x9e37_79b9_7f4a_7c15);
+        let mut mixed = self.0;
+        mixed = (mixed ^ mixed >> 30).wrapping_mul(0xbf58_476d_1ce4_e5b9);
+        mixed = (mixed ^ mixed >> 27).wrapping_mul(0x94d0_49bb_1331_11eb);
+        mixed ^ mixed >> 31
+    }
+
+    /// A number below `bound`, which is not 0.
+    pub fn below(&mut self, bound: usize) -> usize {
+        ((u128::from(self.draw()) * bound as u128) >> 64) as usize
+    }
+
+    /// A number from `least` to `most`.
+    pub fn within(&mut self, least: usize, most: usize) -> usize {
+        least + self.below(most - least + 1)
+    }
+
+    /// True so many times in a hundred.
+    pub fn percent(&mut self, times: usize) -> bool {
+        self.below(100) < times
+    }
+
+    pub fn byte(&mut self) -> u8 {
+        self.below(256) as u8
+    }
+
+    pub fn word(&mut self) -> u16 {
+        self.below(1 << 16) as u16
+    }
+
+    pub fn of<T: Copy>(&mut self, choices: &[T]) -> T {
+        choices[self.below(choices.len())]
+    }
+
+    /// A place in weights, each as likely as its weight says.
+    pub fn weighed(&mut self, weights: &[usize]) -> usize {
+        let mut left = self.below(weights.iter().sum());
+        weights
+            .iter()
+            .position(|weight| {
+                let here = left < *weight;
+                left = left.saturating_sub(*weight);
+                here
+            })
+            .unwrap_or(0)
+    }
+
+    pub fn shuffle<T>(&mut self, list: &mut [T]) {
+        for last in (1..list.len()).rev() {
+            let other = self.below(last + 1);
+            list.swap(last, other);
+        }
+    }
+}
+
+/// A plant in the making: pairs of switches.
+#[derive(Clone, Debug, Default)]
+pub struct Sketch {
+    pub switches: usize,
+    pub pairs: Vec<(usize, usize)>,
+}
+
+pub fn path(switches: usize) -> Sketch {
+    Sketch {
+        switches,
+        pairs: (1..switches).map(|switch| (switch - 1, switch)).collect(),
+    }
+}
+
+pub fn star(switches: usize) -> Sketch {
+    Sketch {
+        switches,
+        pairs: (1..switches).map(|switch| (0, switch)).collect(),
+    }
+}
+
+pub fn tree(chance: &mut Chance, switches: usize) -> Sketch {
+    Sketch {
+        switches,
+        pairs: (1..switches)
+            .map(|switch| (chance.below(switch), switch))
+            .collect(),
+    }
+}
+
+/// A ring; of two switches, two parallel links; of one, no link.
+pub fn cycle(switches: usize) -> Sketch {
+    let mut sketch = path(switches);
+    if switches > 1 {
+        sketch.pairs.push((switches - 1, 0));
+    }
+    sketch
+}
+
+/// A path and so many links from its last switch back to its first. Its
+/// trail goes round once for each of them.
+pub fn long(switches: usize, back: usize) -> Sketch {
+    let mut sketch = path(switches);
+    for _ in 0..back {
+        sketch.pairs.push((switches - 1, 0));
+    }
+    sketch
+}
+
+impl Sketch {
+    /// Adds random links between different switches.
+    fn extend(mut self, chance: &mut Chance, links: usize) -> Sketch {
+        for _ in 0..links {
+            let one = chance.below(self.switches);
+            let other = (one + 1 + chance.below(self.switches - 1)) % self.switches;
+            self.pairs.push((one, other));
+        }
+        self
+    }
+
+    /// Adds another sketch's switches and links, without joining them.
+    fn beside(mut self, other: &Sketch) -> Sketch {
+        let shift = self.switches;
+        self.switches += other.switches;
+        self.pairs.extend(
+            other
+                .pairs
+                .iter()
+                .map(|(one, two)| (one + shift, two + shift)),
+        );
+        self
+    }
+
+    /// The plant as it stands: start 0, tags 0.
+    pub fn plain(&self) -> Plant {
+        let mut plant = Plant::EMPTY;
+        plant.switches = self.switches as u8;
+        plant.links = self.pairs.len() as u16;
+        for (place, (one, two)) in plant.link.iter_mut().zip(&self.pairs) {
+            *place = Link {
+                first: *one as u8,
+                second: *two as u8,
+                tag: 0,
+            };
+        }
+        plant
+    }
+
+    /// The plant with switches renamed, links in another order, ends turned,
+    /// some start and some tags; each of these now and then left out.
+    pub fn mixed(&self, chance: &mut Chance) -> Plant {
+        let mut names: Vec<usize> = (0..self.switches).collect();
+        if chance.percent(70) {
+            chance.shuffle(&mut names);
+        }
+        let mut sketch = self.clone();
+        if chance.percent(60) {
+            chance.shuffle(&mut sketch.pairs);
+        }
+        let turn = chance.of(&[0, 0, 50, 50, 100]);
+        for pair in &mut sketch.pairs {
+            *pair = (names[pair.0], names[pair.1]);
+            if chance.percent(turn) {
+                *pair = (pair.1, pair.0);
+            }
+        }
+        let mut plant = sketch.plain();
+        if chance.percent(70) {
+            plant.start = chance.below(self.switches) as u8;
+        }
+        let tagged = chance.of(&[0, 0, 30, 100]);
+        let links = usize::from(plant.links);
+        for place in &mut plant.link[..links] {
+            if chance.percent(tagged) {
+                place.tag = match chance.below(3) {
+                    0 => chance.below(256) as u16,
+                    1 => (chance.below(256) << 8) as u16,
+                    _ => chance.word(),
+                };
+            }
+        }
+        plant
+    }
+}
+
+/// A joined sketch of some kind with at most so many switches and links.
+pub fn joined(chance: &mut Chance, switches: usize, links: usize) -> Sketch {
+    // Any kind below has a spanning tree and at most one link more.
+    let most = switches.min(links).max(1);
+    let size = chance.within(1, most);
+    let small = chance.within(1, size);
+    let room = |sketch: &Sketch| links - sketch.pairs.len();
+    match chance.below(13) {
+        0 => tree(chance, size),
+        1 => path(size),
+        2 => star(size),
+        3 => cycle(size),
+        // A ring with tails.
+        4 | 5 => {
+            let mut sketch = cycle(small);
+            while sketch.switches < size {
+                let at = chance.below(sketch.switches);
+                sketch.pairs.push((at, sketch.switches));
+                sketch.switches += 1;
+            }
+            sketch
+        }
+        // Two rings joined by one cable: one link more than a ring.
+        6 | 7 if size >= 2 && size < links => {
+            let first = chance.within(1, size - 1);
+            let mut sketch = cycle(first).beside(&cycle(size - first));
+            let one = chance.below(first);
+            let other = first + chance.below(size - first);
+            sketch.pairs.push((one, other));
+            sketch
+        }
+        // A few links more than a tree.
+        8 | 9 if size >= 2 => {
+            let sketch = tree(chance, size);
+            let more = chance.below(room(&sketch).min(5) + 1);
+            sketch.extend(chance, more)
+        }
+        // Any number of links more than a tree.
+        10 if size >= 2 => {
+            let sketch = tree(chance, size);
+            let more = chance.below(room(&sketch) + 1);
+            sketch.extend(chance, more)
+        }
+        // Parallel links.
+        11 => {
+            let mut sketch = tree(chance, size);
+            let base = sketch.pairs.clone();
+            for pair in base {
+                if room(&sketch) > 0 && chance.percent(50) {
+                    sketch.pairs.push(pair);
+                }
+            }
+            sketch
+        }
+        // Long ways round.
+        _ => {
+            let size = small.max(2).min(most);
+            let back = if size >= 2 {
+                chance.below((links - (size - 1)).min(12) + 1)
+            } else {
+                0
+            };
+            long(size, back)
+        }
+    }
+}
+
+/// A joined sketch with exactly so many switches and links.
+pub fn exact(chance: &mut Chance, switches: usize, links: usize) -> Sketch {
+    let sketch = tree(chance, switches);
+    let more = links - sketch.pairs.len();
+    sketch.extend(chance, more)
+}
+
+/// A sketch in which some switch is not joined to the others.
+pub fn apart(chance: &mut Chance, switches: usize, links: usize) -> Sketch {
+    let one = joined(chance, (switches / 2).max(1), links / 2);
+    let other = joined(chance, (switches / 2).max(1), links / 2);
+    match chance.below(3) {
+        0 => one.beside(&other),
+        1 => one.beside(&path(1)),
+        _ => path(1).beside(&one),
+    }
+}
+
+/// A listing in the making: values with fields forced to be present.
+#[derive(Clone, Debug)]
+struct Loose {
+    header: ([u16; 3], u8),
+    records: Vec<([u16; 3], u8)>,
+}
+
+impl Loose {
+    fn new(plant: &Plant) -> Loose {
+        Loose {
+            header: (
+                [
+                    u16::from(plant.switches),
+                    plant.links,
+                    u16::from(plant.start),
+                ],
+                0,
+            ),
+            records: plant
+                .records()
+                .iter()
+                .map(|link| ([u16::from(link.first), u16::from(link.second), link.tag], 0))
+                .collect(),
+        }
+    }
+
+    /// The bytes, and where each part begins.
+    fn bytes(&self) -> (Vec<u8>, Vec<usize>) {
+        let mut bytes = Vec::new();
+        let mut begins = Vec::new();
+        let mut part = |(values, forced): ([u16; 3], u8), absent: [u16; 3], wide: usize| {
+            begins.push(bytes.len());
+            let map = bytes.len();
+            bytes.push(forced);
+            for bit in 0..3 {
+                if values[bit] != absent[bit] || forced >> bit & 1 == 1 {
+                    bytes[map] |= 1 << bit;
+                    let [low, high] = values[bit].to_le_bytes();
+                    bytes.push(low);
+                    if bit == wide {
+                        bytes.push(high);
+                    }
+                }
+            }
+        };
+        part(self.header, [1, 0, 0], 1);
+        let mut before = [0, 0];
+        for record in &self.records {
+            part(*record, [before[0], before[1], 0], 2);
+            before = [record.0[0], record.0[1]];
+        }
+        (bytes, begins)
+    }
+
+    fn needless(&mut self, chance: &mut Chance) {
+        let place = chance.below(self.records.len() + 1);
+        let (natural, forced) = match place {
+            0 => ([1, 0, 0], &mut self.header),
+            1 => ([0, 0, 0], &mut self.records[0]),
+            _ => {
+                let before = self.records[place - 2].0;
+                ([before[0], before[1], 0], &mut self.records[place - 1])
+            }
+        };
+        let absent: Vec<usize> = (0..3)
+            .filter(|bit| forced.0[*bit] == natural[*bit])
+            .collect();
+        if absent.is_empty() {
+            forced.0[2] = 0;
+            forced.1 |= 4;
+        } else {
+            forced.1 |= 1 << chance.of(&absent);
+        }
+    }
+
+    fn bad_header(&mut self, chance: &mut Chance) {
+        let values = &mut self.header.0;
+        match chance.below(5) {
+            0 => values[0] = 0,
+            1 => values[0] = chance.of(&[65, 66, 127, 128, 200, 255]),
+            2 => values[1] = chance.of(&[257, 258, 300, 511, 512, 1000, 0x8001, 0xffff]),
+            3 => values[2] = values[0],
+            _ => values[2] = (values[0] + chance.below(150) as u16).min(255),
+        }
+    }
+
+    fn bad_end(&mut self, chance: &mut Chance) {
+        if self.records.is_empty() {
+            self.header.0[1] = 1;
+            self.records.push(([0, 1, 0], 0));
+        }
+        let switches = usize::from(self.header.0[0]).min(255);
+        let place = chance.below(self.records.len());
+        let above = chance.within(switches, 255);
+        let end = chance.of(&[switches, switches, 255, above]) as u16;
+        let values = &mut self.records[place].0;
+        match chance.below(3) {
+            0 => values[0] = end,
+            1 => values[1] = end,
+            _ => (values[0], values[1]) = (end, end),
+        }
+    }
+
+    fn self_link(&mut self, chance: &mut Chance) {
+        if self.records.is_empty() {
+            self.header.0[1] = 1;
+            self.records.push(([0, 0, 0], 0));
+        }
+        let place = chance.below(self.records.len());
+        let values = &mut self.records[place].0;
+        if chance.percent(50) {
+            values[0] = values[1];
+        } else {
+            values[1] = values[0];
+        }
+    }
+}
+
+/// A listing of the plant damaged in some way, at times in several. Few of
+/// them are sound after all.
+pub fn damaged(chance: &mut Chance, plant: &Plant) -> Vec<u8> {
+    let mut loose = Loose::new(plant);
+    let kind = chance.below(16);
+    match kind {
+        0 | 1 => loose.needless(chance),
+        2 => loose.bad_header(chance),
+        3 => loose.bad_end(chance),
+        4 => loose.self_link(chance),
+        5 | 6 => {
+            for _ in 0..chance.within(2, 3) {
+                match chance.below(4) {
+                    0 => loose.needless(chance),
+                    1 => loose.bad_header(chance),
+                    2 => loose.bad_end(chance),
+                    _ => loose.self_link(chance),
+                }
+            }
+        }
+        7 => {
+            // Another link count than there are records.
+            let count = &mut loose.header.0[1];
+            *count = if chance.percent(50) {
+                (*count + 1).min(Plant::MAX_LINKS as u16)
+            } else {
+                count.saturating_sub(1)
+            };
+        }
+        _ => {}
+    }
+    let (mut bytes, begins) = loose.bytes();
+    let kind = if kind < 5 {
+        16
+    } else if kind < 8 {
+        chance.within(8, 23)
+    } else {
+        kind
+    };
+    let part = chance.below(begins.len());
+    let begin = begins[part];
+    let end = begins.get(part + 1).copied().unwrap_or(bytes.len());
+    match kind {
+        // Cut before a part.
+        8 => bytes.truncate(begin),
+        // An undefined bit.
+        9 => bytes[begin] |= 8 << chance.below(5),
+        // Cut within a part.
+        10 => bytes.truncate(chance.within(begin + 1, (end - 1).max(begin + 1))),
+        // Bytes after the last record.
+        11 => {
+            for _ in 0..chance.within(1, 4) {
+                bytes.push(chance.of(&[0, 0, 1, 2, 3, 255]));
+            }
+        }
+        // One byte changed, left out or put in.
+        12 => {
+            let at = chance.below(bytes.len());
+            bytes[at] = small(chance);
+        }
+        13 => {
+            bytes.remove(chance.below(bytes.len()));
+        }
+        14 => bytes.insert(chance.below(bytes.len() + 1), small(chance)),
+        // No listing at all.
+        15 => bytes = noise(chance),
+        _ => {}
+    }
+    bytes
+}
+
+/// A byte that is more often small than not.
+fn small(chance: &mut Chance) -> u8 {
+    match chance.below(4) {
+        0 => chance.below(4) as u8,
+        1 => chance.below(8) as u8,
+        2 => chance.below(70) as u8,
+        _ => chance.byte(),
+    }
+}
+
+/// Some bytes, more often small than not.
+pub fn noise(chance: &mut Chance) -> Vec<u8> {
+    let most = chance.of(&[2, 4, 8, 16, 40]);
+    (0..chance.below(most + 1))
+        .map(|_| {
+            if chance.percent(60) {
+                chance.below(4) as u8
+            } else {
+                small(chance)
+            }
+        })
+        .collect()
+}
+
+/// The plant with the longest listing: every field is given.
+pub fn longest_listing() -> Plant {
+    let mut plant = Plant::EMPTY;
+    plant.switches = Plant::MAX_SWITCHES as u8;
+    plant.links = Plant::MAX_LINKS as u16;
+    plant.start = plant.switches - 1;
+    let ring = Plant::MAX_SWITCHES - 1;
+    for (number, place) in plant.link.iter_mut().enumerate() {
+        let first = 1 + number % ring;
+        *place = Link {
+            first: first as u8,
+            second: ((first + 1 + number / ring) % Plant::MAX_SWITCHES) as u8,
+            tag: 0x0101 + number as u16,
+        };
+    }
+    plant
+}
+
+/// The listing of a plant that the writer accepts.
+pub fn listing_of(plant: &Plant) -> Vec<u8> {
+    listing::write_vec(plant).expect("a plant that can be written")
+}

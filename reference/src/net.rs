@@ -1,0 +1,192 @@
+//! Depth-first visit, bridges, arcs in use and the rule page.
+
+use crate::plant::{Answer, Plant, Refusal};
+
+/// A rule: the sending switch passes the label's packet to the receiver.
+#[derive(Clone, Copy, Debug, Default, PartialEq, Eq)]
+pub struct Rule {
+    pub from: u8,
+    pub label: u16,
+    pub to: u8,
+}
+
+/// The rule page, by rising label, with zeros past its count.
+#[derive(Clone, Debug, PartialEq, Eq)]
+pub struct Page {
+    pub count: usize,
+    pub rule: [Rule; Plant::MAX_RULES],
+}
+
+impl Page {
+    pub fn rules(&self) -> &[Rule] {
+        &self.rule[..self.count]
+    }
+}
+
+/// A plant whose switches are all reached from the start, with its bridges
+/// and its arcs in use.
+#[derive(Clone, Debug)]
+pub struct Net {
+    pub plant: Plant,
+    pub bridge: [bool; Plant::MAX_LINKS],
+    pub bridges: usize,
+    pub used: [bool; Plant::MAX_ARCS],
+}
+
+/// The links at each switch by rising number.
+struct Joins {
+    at: [u16; Plant::MAX_SWITCHES + 1],
+    join: [Join; Plant::MAX_ARCS],
+}
+
+#[derive(Clone, Copy, Default)]
+struct Join {
+    link: u16,
+    other: u8,
+}
+
+impl Joins {
+    fn new(plant: &Plant) -> Joins {
+        let mut at = [0; Plant::MAX_SWITCHES + 1];
+        for link in plant.records() {
+            at[usize::from(link.first) + 1] += 1;
+            at[usize::from(link.second) + 1] += 1;
+        }
+        for switch in 0..Plant::MAX_SWITCHES {
+            at[switch + 1] += at[switch];
+        }
+        let mut free = at;
+        let mut join = [Join::default(); Plant::MAX_ARCS];
+        for (number, link) in plant.records().iter().enumerate() {
+            for (end, other) in [(link.first, link.second), (link.second, link.first)] {
+                let place = &mut free[usize::from(end)];
+                join[usize::from(*place)] = Join {
+                    link: number as u16,
+                    other,
+                };
+                *place += 1;
+            }
+        }
+        Joins { at, join }
+    }
+}
+
+/// The state of the depth-first visit.
+struct Visit<'a> {
+    joins: &'a Joins,
+    visited: u8,
+    /// Number of each switch from 1 in the order of the visit, 0 before.
+    number: [u8; Plant::MAX_SWITCHES],
+    /// Least number reached from the switch's part of the visit by one link
+    /// that was not entered.
+    low: [u8; Plant::MAX_SWITCHES],
+    entered: [bool; Plant::MAX_LINKS],
+    bridge: [bool; Plant::MAX_LINKS],
+}
+
+impl Visit<'_> {
+    fn enter(&mut self, switch: usize, by: Option<u16>) {
+        self.visited += 1;
+        let number = self.visited;
+        let mut low = number;
+        self.number[switch] = number;
+        for place in self.joins.at[switch]..self.joins.at[switch + 1] {
+            let Join { link, other } = self.joins.join[usize::from(place)];
+            let other = usize::from(other);
+            if Some(link) == by {
+                continue;
+            }
+            if self.number[other] == 0 {
+                self.entered[usize::from(link)] = true;
+                self.enter(other, Some(link));
+                self.bridge[usize::from(link)] = self.low[other] > number;
+                low = low.min(self.low[other]);
+            } else {
+                low = low.min(self.number[other]);
+            }
+        }
+        self.low[switch] = low;
+    }
+}
+
+impl Net {
+    /// Visits the plant from its start; refusal 9.
+    pub fn new(plant: Plant) -> Answer<Net> {
+        let joins = Joins::new(&plant);
+        let mut visit = Visit {
+            joins: &joins,
+            visited: 0,
+            number: [0; Plant::MAX_SWITCHES],
+            low: [0; Plant::MAX_SWITCHES],
+            entered: [false; Plant::MAX_LINKS],
+            bridge: [false; Plant::MAX_LINKS],
+        };
+        visit.enter(usize::from(plant.start), None);
+        if visit.visited != plant.switches {
+            return Err(Refusal::NotReached);
+        }
+        let mut used = [false; Plant::MAX_ARCS];
+        let mut bridges = 0;
+        for (number, link) in plant.records().iter().enumerate() {
+            if visit.bridge[number] {
+                used[2 * number] = true;
+                used[2 * number + 1] = true;
+                bridges += 1;
+            } else {
+                let onward =
+                    visit.number[usize::from(link.first)] < visit.number[usize::from(link.second)];
+                let forth = onward == visit.entered[number];
+                used[2 * number + usize::from(!forth)] = true;
+            }
+        }
+        let bridge = visit.bridge;
+        Ok(Net {
+            plant,
+            bridge,
+            bridges,
+            used,
+        })
+    }
+
+    pub fn links(&self) -> usize {
+        usize::from(self.plant.links)
+    }
+
+    /// The number of arcs in use.
+    pub fn rule_count(&self) -> usize {
+        self.links() + self.bridges
+    }
+
+    /// The switches that a label's arc leaves and reaches.
+    pub fn ends(&self, label: u16) -> (usize, usize) {
+        let link = self.plant.link[usize::from(label / 2)];
+        let (first, second) = (usize::from(link.first), usize::from(link.second));
+        if label & 1 == 0 {
+            (first, second)
+        } else {
+            (second, first)
+        }
+    }
+
+    /// The labels of the arcs in use, rising.
+    pub fn used_labels(&self) -> impl Iterator<Item = u16> + '_ {
+        (0..2 * self.plant.links).filter(|label| self.used[usize::from(*label)])
+    }
+
+    pub fn page(&self) -> Page {
+        let mut page = Page {
+            count: 0,
+            rule: [Rule::default(); Plant::MAX_RULES],
+        };
+        for label in self.used_labels() {
+            let (from, to) = self.ends(label);
+            page.rule[page.count] = Rule {
+                from: from as u8,
+                label,
+                to: to as u8,
+            };
+            page.count += 1;
+        }
+        page
+    }
+}

@@ -1,0 +1,136 @@
+//! Packet runs, place, ring, order of links and probes.
+
+use crate::net::Net;
+use crate::plant::Plant;
+
+/// What becomes of a packet.
+#[derive(Clone, Copy, Debug, PartialEq, Eq)]
+pub enum Fate {
+    /// Its list was empty at this switch.
+    Ended(usize),
+    Lost,
+}
+
+/// Whose rules a packet runs under.
+#[derive(Clone, Copy, Debug, PartialEq, Eq)]
+pub enum Under {
+    /// The rule page: arcs in use alone.
+    Page,
+    /// The probes' rules: both arcs of every link.
+    BothArcs,
+}
+
+/// Runs a packet from a switch: states are those of the links in turn, and
+/// there is one for each link.
+pub fn run(
+    net: &Net,
+    under: Under,
+    switch: usize,
+    labels: impl IntoIterator<Item = u16>,
+    states: &[u8],
+) -> Fate {
+    let mut at = switch;
+    for label in labels {
+        let link = usize::from(label / 2);
+        if link >= net.links() || (under == Under::Page && !net.used[usize::from(label)]) {
+            return Fate::Lost;
+        }
+        let (from, to) = net.ends(label);
+        if from != at || states[link] == 0 {
+            return Fate::Lost;
+        }
+        at = to;
+    }
+    Fate::Ended(at)
+}
+
+/// The first hop of the trail that leaves the switch, 0 if there is none.
+pub fn place(net: &Net, trail: &[u16], switch: usize) -> usize {
+    trail
+        .iter()
+        .position(|label| net.ends(*label).0 == switch)
+        .unwrap_or(0)
+}
+
+/// The ring from a place: the trail from there to its end, then its front.
+pub fn ring(trail: &[u16], place: usize) -> (&[u16], &[u16]) {
+    let (front, rest) = trail.split_at(place);
+    (rest, front)
+}
+
+/// The links by first crossing from a place.
+pub struct Order {
+    pub count: usize,
+    pub link: [u16; Plant::MAX_LINKS],
+    /// For each place in the order, the labels of the ring up to and with
+    /// the first crossing of that link.
+    pub reach: [u16; Plant::MAX_LINKS],
+}
+
+impl Order {
+    pub fn new(net: &Net, trail: &[u16], place: usize) -> Order {
+        let mut order = Order {
+            count: 0,
+            link: [0; Plant::MAX_LINKS],
+            reach: [0; Plant::MAX_LINKS],
+        };
+        let mut crossed = [false; Plant::MAX_LINKS];
+        let (rest, front) = ring(trail, place);
+        for (hop, label) in rest.iter().chain(front).enumerate() {
+            let link = usize::from(label / 2);
+            if !crossed[link] {
+                crossed[link] = true;
+                order.link[order.count] = link as u16;
+                order.reach[order.count] = hop as u16 + 1;
+                order.count += 1;
+                if order.count == net.links() {
+                    break;
+                }
+            }
+        }
+        order
+    }
+
+    pub fn links(&self) -> &[u16] {
+        &self.link[..self.count]
+    }
+}
+
+/// The outward labels of probe m, 1 to E, in at most two stretches: up to
+/// the first crossing of the m-th link, or the whole ring for m = E.
+pub fn outward<'t>(
+    net: &Net,
+    trail: &'t [u16],
+    place: usize,
+    order: &Order,
+    m: usize,
+) -> (&'t [u16], &'t [u16]) {
+    let (rest, front) = ring(trail, place);
+    if m == net.links() {
+        return (rest, front);
+    }
+    let reach = usize::from(order.reach[m - 1]);
+    if reach <= rest.len() {
+        (&rest[..reach], &[])
+    } else {
+        (rest, &front[..reach - rest.len()])
+    }
+}
+
+/// Runs probe m, 1 to E, from a switch and its place.
+pub fn run_probe(
+    net: &Net,
+    trail: &[u16],
+    switch: usize,
+    order: &Order,
+    m: usize,
+    states: &[u8],
+) -> Fate {
+    let (one, two) = outward(net, trail, place(net, trail, switch), order, m);
+    let out = one.iter().chain(two).copied();
+    if m == net.links() {
+        return run(net, Under::Page, switch, out, states);
+    }
+    let back = out.clone().rev().map(|label| label ^ 1);
+    run(net, Under::BothArcs, switch, out.chain(back), states)
+}
