@@ -1,14 +1,32 @@
--- The starred cases of document 01: each row has what the definitions answer, and what document 01 says. One computed test over all rows. Assumes nothing.
--- Bytes are in decimal: 65 is hexadecimal 41.
+-- The starred cases of document 01 and those beside them: each row has what the definitions answer, and what document 01 says. One computed test over all rows. Assumes nothing.
+-- Bytes are in decimal; the most switches are hexadecimal 40.
 use mathlib.Core.Path.{_≡_, refl}
 use mathlib.Core.List.{List, [], _∷_, _++_, map}
-use Prim.Native.Nat.{ℕ}
+use Prim.Native.Nat.{ℕ, _+_}
+use lib.ListN.{take, replicate}
 use Rattle.plant.specs.declared.Link.{Link}
 use Rattle.plant.specs.declared.Plant.{Plant}
-use Rattle.plant.specs.Links.{plantWith}
+use Rattle.plant.specs.Links.{plantWith, live}
 use Rattle.plant.specs.Refusals.{Answer, given, refused, _>>=_}
 use Rattle.listing.specs.Part.{taken, valueOf, repeats, mapMissing, mapUndefined, fieldMissing, fieldRedundant, fieldValues, afterPart, part}
 use Rattle.listing.specs.Listing.{valueOutOfRange, endOutOfRange, selfLink, soundLink, bytesRemain, judgedHeader, header, judged, link, links, withLinks, finish, afterHeader, decode, linksOf}
+use Rattle.model.specs.Limits.{maxSwitches}
+use Rattle.lists.specs.Count.{count}
+use Rattle.lists.specs.Least.{leastFrom}
+use Rattle.lists.specs.Numbers.{every}
+use Rattle.walks.specs.Visit.{scan, visit}
+use Rattle.walks.specs.Arcs.{tail, head}
+use Rattle.walks.specs.Graph.{arcs, others, visitFrom, visited, connected, bridge, entered, earlier, used}
+use Rattle.routes.specs.Distance.{sources, within, dist, hop}
+use Rattle.routes.specs.Trail.{near, nearest, mostHops, goal, next, trailFrom, trail}
+use Rattle.table.specs.Rules.{tableWith, rulesBelow, tableOf}
+use Rattle.search.specs.Search.{newSearch, give}
+use Rattle.search.specs.Calls.{begun}
+use Rattle.search.specs.Cases.{rows as searches}
+use Rattle.quantity.specs.Quantity.{orderQuantity}
+use Rattle.quantity.specs.Cases.{rows as quantities}
+use Rattle.planner.specs.Planning.{notConnected, joined, planning}
+use Rattle.planner.specs.Calls.{tabling, placesShort, laying, laidOut, trailing, trailedBy}
 
 pub record Row : Type 0 where
   pub got : Answer (List ℕ)
@@ -40,7 +58,7 @@ reading =
     ∷ reads (1 ∷ []) (refused 3)
     ∷ reads (1 ∷ 1 ∷ []) (refused 4)
     ∷ reads (1 ∷ 0 ∷ []) (refused 5)
-    ∷ reads (1 ∷ 65 ∷ []) (refused 5)
+    ∷ reads (1 ∷ (maxSwitches + 1) ∷ []) (refused 5)
     ∷ reads (3 ∷ 2 ∷ 1 ∷ 0 ∷ 0 ∷ []) (refused 7)
     ∷ reads (0 ∷ 0 ∷ []) (refused 8)
     ∷ reads twoSwitches (given (2 ∷ 1 ∷ 0 ∷ 0 ∷ 1 ∷ 0 ∷ []))
@@ -48,11 +66,38 @@ reading =
     ∷ reads threeParallel (given (2 ∷ 3 ∷ 0 ∷ 0 ∷ 1 ∷ 0 ∷ 0 ∷ 1 ∷ 0 ∷ 0 ∷ 1 ∷ 0 ∷ []))
     ∷ []
 
+-- ---- planning: 9, the number of rules, and the trail in a buffer of so many places
+
+abbrev tables : List ℕ → Answer (List ℕ) → Row
+tables s a = record { got = tabling s >>= λ t. given (t .count ∷ []); said = a }
+
+abbrev trails : List ℕ → ℕ → Answer (List ℕ) → Row
+trails s places a = record { got = trailing s (replicate places 0) >>= λ n. given (take n (trailedBy (planning s) (replicate places 0))); said = a }
+
+abbrev planned : List Row
+planned =
+    tables (1 ∷ maxSwitches ∷ []) (refused 9)
+    ∷ tables (0 ∷ []) (given (0 ∷ []))
+    ∷ trails (0 ∷ []) 0 (given [])
+    ∷ tables twoSwitches (given (2 ∷ []))
+    ∷ trails twoSwitches 2 (given (0 ∷ 1 ∷ []))
+    ∷ tables triangle (given (3 ∷ []))
+    ∷ trails triangle 3 (given (0 ∷ 2 ∷ 4 ∷ []))
+    ∷ tables threeParallel (given (3 ∷ []))
+    ∷ trails threeParallel 3 (refused 10)
+    ∷ trails threeParallel 4 (given (0 ∷ 3 ∷ 0 ∷ 5 ∷ []))
+    ∷ []
+
+-- ---- the search and the order quantity
+
+abbrev as-row : Answer (List ℕ) × Answer (List ℕ) → Row
+as-row r = record { got = r .0; said = r .1 }
+
 -- ---- the table, and the test
 
 abbrev table : List Row
-table = reading
+table = reading ++ planned ++ map as-row searches ++ map as-row quantities
 
 as-said : map (λ r. r .got) table ≡ map (λ r. r .said) table
-unfolding plantWith taken valueOf repeats mapMissing mapUndefined fieldMissing fieldRedundant fieldValues afterPart part valueOutOfRange endOutOfRange selfLink soundLink bytesRemain judgedHeader header judged link links withLinks finish afterHeader decode
+unfolding plantWith taken valueOf repeats mapMissing mapUndefined fieldMissing fieldRedundant fieldValues afterPart part valueOutOfRange endOutOfRange selfLink soundLink bytesRemain judgedHeader header judged link links withLinks finish afterHeader decode trail trailFrom mostHops next goal nearest near hop dist within sources leastFrom count used bridge entered earlier visited visitFrom arcs others visit scan tail head live every connected notConnected joined planning rulesBelow tableWith tableOf tabling placesShort laying laidOut trailing begun newSearch give orderQuantity
 as-said = refl
