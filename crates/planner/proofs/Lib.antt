@@ -3,3 +3,4 @@ pub mod Plans
 pub mod Again
 pub mod Tabling
 pub mod Trailing
+pub mod Bridging

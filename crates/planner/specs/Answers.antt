@@ -3,6 +3,8 @@ use mathlib.Core.Path.{_≡_}
 use mathlib.Core.List.{[]}
 use Prim.Native.Nat.{ℕ}
 use Rattle.plant.specs.Refusals.{Answer, given, refused, _>>=_, numberOf}
+use Rattle.plant.specs.declared.Plant.{Plant}
+use Rattle.model.specs.Limits.{maxLinks}
 use Rattle.model.specs.Sound.{Sound}
 use Rattle.walks.specs.Graph.{Connected}
 use Rattle.listing.specs.declared.Decoded.{Decoded}
@@ -10,6 +12,9 @@ use Rattle.listing.specs.declared.Verdict.the-variants as verdict
 use Rattle.listing.specs.Answers.{verdictAnswer}
 use Rattle.table.specs.declared.Table.{Table}
 use Rattle.table.specs.Rules.{tableWith}
+use Rattle.graph.specs.Flags.{Flags}
+use Rattle.planner.specs.Calls.{bridgeIn}
+use Rattle.planner.specs.declared.Bridged.{Bridged}
 use Rattle.planner.specs.declared.Tabled.{Tabled}
 use Rattle.planner.specs.declared.Numbers.{Numbers}
 use Rattle.planner.specs.declared.Summary.{Summary}
@@ -36,6 +41,13 @@ tablePart (refused n) = tableWith []
 pub record Tables (a : Answer Table) (r : Tabled) : Type 0 where
   pub answer : tableAnswer r ≡ a
   pub table : r .table ≡ tablePart a
+
+-- ---- the bridges
+
+-- the verdict of planning, and a flag for each link place
+pub record Bridges (a : Answer Plant) (r : Bridged) : Type 0 where
+  pub answer : verdictAnswer (r .verdict) ≡ (a >>= λ p. given tt)
+  pub flags : Flags maxLinks (bridgeIn a) (r .flags)
 
 -- ---- the numbers of a plant, and the trail
 

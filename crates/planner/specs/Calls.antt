@@ -9,7 +9,7 @@ use Rattle.plant.specs.declared.Plant.{Plant}
 use Rattle.plant.specs.Refusals.{Answer, given, refused, refuse, _>>=_}
 use Rattle.listing.specs.Listing.{decode}
 use Rattle.listing.specs.Writing.{soundPlant, bufferShort}
-use Rattle.walks.specs.Graph.{liveLinks, bridges, arcsUsed}
+use Rattle.walks.specs.Graph.{bridge, liveLinks, bridges, arcsUsed}
 use Rattle.routes.specs.Plants.{trailOf}
 use Rattle.trail.specs.Filled.{filledWith}
 use Rattle.table.specs.declared.Table.{Table}
@@ -37,6 +37,13 @@ rereading p b = soundPlant p >>= λ _. refuse 16 (bufferShort p b) (given p)
 
 unfoldable pub tabling : List ℕ → Answer Table
 tabling s = planning s >>= λ p. given (tableOf p)
+
+-- ---- the bridges: 1 to 9
+
+-- is link l a bridge of the plant? At a refusal none is
+abbrev pub bridgeIn : Answer Plant → ℕ → Bool
+bridgeIn (given p) l = bridge p l
+bridgeIn (refused n) l = false
 
 -- ---- the numbers of a plant: 1 to 9
 

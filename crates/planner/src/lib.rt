@@ -12,12 +12,18 @@ ghost use Rattle.listing.specs.Writing.{bufferAfter};
 ghost use Rattle.listing.specs.Answers.{Reads, writeAnswer};
 ghost use Rattle.planner.specs.Planning.{planning};
 ghost use Rattle.planner.specs.Calls.{rewriting, overlaid, rereading, tabling, numbersOf, summing, laying, laidOut, trailing, trailedBy};
-ghost use Rattle.planner.specs.Answers.{Ready, Tables, summaryAnswer, trailAnswer};
+ghost use Rattle.planner.specs.Answers.{Ready, Tables, Bridges, summaryAnswer, trailAnswer};
 
 // The forwarding table of a listing. At a refusal it has no rule.
 pub struct Tabled {
     pub verdict: Verdict,
     pub table: Table,
+}
+
+// A flag for each link place of a listing: is it a bridge? At a refusal none is set.
+pub struct Bridged {
+    pub verdict: Verdict,
+    pub flags: [bool; Plant::MAX_LINKS],
 }
 
 // Switches, links, bridges, rules and hops of a plant.
@@ -105,6 +111,30 @@ pub fn forwarding_table(listing: &[u8]) -> Tabled
             Tabled {
                 verdict: Verdict::Refused(k),
                 table,
+            }
+        }
+    }
+}
+
+// The bridges of a listing: refusals 1 to 9.
+pub fn find_bridges(listing: &[u8]) -> Bridged
+    ensures { λ r. ⌜ Bridges (planning (now (listing .entry))) r ⌝ }
+{
+    let d = plan(listing);
+    let v = d.verdict;
+    match v {
+        Verdict::Sound => {
+            let flags = graph::bridges(d.plant);
+            Bridged {
+                verdict: Verdict::Sound,
+                flags,
+            }
+        }
+        Verdict::Refused(k) => {
+            let flags = [false; Plant::MAX_LINKS];
+            Bridged {
+                verdict: Verdict::Refused(k),
+                flags,
             }
         }
     }
