@@ -4,7 +4,8 @@ use mathlib.Core.Bool.{Bool, true, false}
 use mathlib.Core.List.{List, [], _∷_, _++_, append-assoc, append-nil}
 use Prim.Native.Nat.{ℕ, zero, suc, _+_, _-_, _≤_, _<_}
 use native.Mathlib.Omega.{arith}
-use borrow.Author.Tests.{lt-ltb, le-ltb}
+use borrow.Author.Tests.{ltb-true, ltb-false, lt-ltb, le-ltb}
+use lib.Dec.{ltb}
 use lib.ListN.{length, drop, set, replicate, length-append, length-drop}
 use lib.Seq.{set-at}
 use Rattle.plant.specs.declared.Link.{Link}
@@ -33,6 +34,15 @@ put p ls l h =
     let e : set (ls ++ replicate (maxLinks - length ls) zeroLink) (length ls) l ≡ (ls ++ (l ∷ [])) ++ replicate (maxLinks - length (ls ++ (l ∷ []))) zeroLink =
     rw (k, set-at ls zeroLink (replicate (maxLinks - (length ls + 1)) zeroLink) l (length ls) refl, length-append ls (l ∷ []), append-assoc ls (l ∷ [])) refl in
     ap (λ (ks : List Link). record { switches = p .switches; count = p .count; start = p .start; links = ks }) e
+
+-- bytes remain from a place on that is below the length
+pub remain-from : (s : List ℕ) (at : ℕ) → ltb at (length s) ≡ bytesRemain (drop at s)
+unfolding bytesRemain
+remain-from s at = rw (length-drop at s) (by-test (ltb at (length s)) refl)
+  where
+    by-test : (b : Bool) → ltb at (length s) ≡ b → b ≡ ltb 0 (length s - at)
+    by-test true e = sym (lt-ltb 0 (length s - at) (omega (arith, ltb-true at (length s) e)))
+    by-test false e = sym (le-ltb 0 (length s - at) (omega (arith, ltb-false at (length s) e)))
 
 module _ (s : List ℕ) (from : ℕ) (h : Plant) where
   -- the links that are left, after those of ls
@@ -89,13 +99,13 @@ module _ (s : List ℕ) (from : ℕ) (h : Plant) where
         ap (λ (ks : List Link). finish h ks (drop at s)) (sym (append-nil (r .have))) ∙ (rw k at (r .left))
 
     -- 8
-    pub read-remains : at < length s → refused 8 ≡ afterHeader h (drop from s)
-    unfolding finish bytesRemain
-    read-remains b = rw (length-drop at s, lt-ltb 0 (length s - at) (omega arith)) at done
+    pub read-remains : bytesRemain (drop at s) ≡ true → refused 8 ≡ afterHeader h (drop from s)
+    unfolding finish
+    read-remains b = rw b at done
 
-    pub read-all : length s ≤ at → given p ≡ afterHeader h (drop from s)
-    unfolding finish bytesRemain
-    read-all b = rw (r .is) (rw (length-drop at s, le-ltb 0 (length s - at) (omega arith)) at done)
+    pub read-all : bytesRemain (drop at s) ≡ false → given p ≡ afterHeader h (drop from s)
+    unfolding finish
+    read-all b = rw (r .is) (rw b at done)
 
 -- a refused reading, and one that is not
 pub reads-as : (a b : Answer Plant) (r : Decoded) → a ≡ b → Reads a r → Reads b r

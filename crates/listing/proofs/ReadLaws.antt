@@ -82,14 +82,14 @@ module _ (s : List ℕ) (r : Header) where
   unfolding plantWith
   header-few a b c next t e f = header-given t (drop next s) (plantWith maxLinks a b c) (sym e ∙ ap (headerAnswer s) f) .3 .few-links
 
-  pub decode-header : (a b c next : ℕ) → headerAnswer s r ≡ header (drop 0 s) → r ≡ header-is.Values a b c next
-      → afterHeader (plantWith maxLinks a b c) (drop next s) ≡ decode s
+  pub decode-header : (a b c next at : ℕ) → headerAnswer s r ≡ header (drop at s) → r ≡ header-is.Values a b c next
+      → afterHeader (plantWith maxLinks a b c) (drop next s) ≡ decode (drop at s)
   unfolding decode
-  decode-header a b c next e f = rw (sym e ∙ ap (headerAnswer s) f) refl
+  decode-header a b c next at e f = rw (sym e ∙ ap (headerAnswer s) f) refl
 
-  pub decode-refused : (k : Refusal) → headerAnswer s r ≡ header (drop 0 s) → r ≡ header-is.Refused k → refused (numberOf k) ≡ decode s
+  pub decode-refused : (k : Refusal) (at : ℕ) → headerAnswer s r ≡ header (drop at s) → r ≡ header-is.Refused k → refused (numberOf k) ≡ decode (drop at s)
   unfolding decode
-  decode-refused k e f = rw (sym e ∙ ap (headerAnswer s) f) refl
+  decode-refused k at e f = rw (sym e ∙ ap (headerAnswer s) f) refl
 
 module _ (s : List ℕ) (at : ℕ) (r : Part) where
   pub header-values : (a b c next : ℕ) → partAnswer s r ≡ part headerFields (drop at s) → r ≡ part-is.Fields a b c next

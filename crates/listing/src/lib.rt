@@ -14,7 +14,7 @@ ghost use Rattle.lists.specs.Members.{all};
 ghost use Rattle.plant.specs.Links.{zeroLink, plantWith};
 ghost use Rattle.plant.specs.Refusals.{given, refused, refuse, numberOf};
 ghost use Rattle.model.specs.Limits.{maxLinks};
-ghost use Rattle.listing.specs.Listing.{valueOutOfRange, linkOf, soundLink, judged, header, link, afterHeader, decode, linksOf, headerBytes, linkBytes, linksBytes, encode};
+ghost use Rattle.listing.specs.Listing.{valueOutOfRange, bytesRemain, linkOf, soundLink, judged, header, link, afterHeader, decode, linksOf, headerBytes, linkBytes, linksBytes, encode};
 ghost use Rattle.listing.specs.Writing.{isZero, soundLinks, soundPlant, written, bufferAfter};
 ghost use Rattle.listing.specs.Answers.{fieldsOf, Proper, Fits, partAnswer, headerAnswer, recordAnswer, verdictAnswer, Reads, writeAnswer};
 
@@ -296,6 +296,13 @@ pub fn refused_reading(k: Refusal) -> Decoded
     }
 }
 
+// Do bytes remain from `at` on?
+pub fn bytes_remain(s: &[u8], at: usize) -> bool
+    ensures { λ r. ⌜ r ≡ bytesRemain (drop at (now (s .entry))) ⌝ }
+{
+    at < s.len()
+}
+
 // The links that follow a header with these values, from `from` to the end of the listing.
 fn read_links(s: &[u8], from: usize, switches: u8, count: u16, start: u8) -> Decoded
     requires { ⌜ count ≤ maxLinks ⌝ }
@@ -319,7 +326,7 @@ fn read_links(s: &[u8], from: usize, switches: u8, count: u16, start: u8) -> Dec
         }
         i += 1;
     }
-    if at < s.len() {
+    if bytes_remain(s, at) {
         return refused_reading(Refusal::BytesRemain);
     }
     Decoded {
@@ -328,18 +335,12 @@ fn read_links(s: &[u8], from: usize, switches: u8, count: u16, start: u8) -> Dec
     }
 }
 
-// The plant of a listing, or why there is none: refusals 1 to 8.
-pub fn read(listing: &[u8]) -> Decoded
-    ensures { λ r. ⌜ Reads (decode (now (listing .entry))) r ⌝ }
+// The plant of the listing that begins at `at`, or why there is none: refusals 1 to 8.
+pub fn read_from(s: &[u8], at: usize) -> Decoded
+    ensures { λ r. ⌜ Reads (decode (drop at (now (s .entry)))) r ⌝ }
 {
-    match read_header(listing, 0) {
-        Header::Values(switches, count, start, next) => read_links(
-            listing,
-            next,
-            switches,
-            count,
-            start,
-        ),
+    match read_header(s, at) {
+        Header::Values(switches, count, start, next) => read_links(s, next, switches, count, start),
         Header::Refused(k) => refused_reading(k),
     }
 }

@@ -51,7 +51,7 @@ pub fn plan(listing: &[u8]) -> Decoded
     ensures { λ r. ⌜ Reads (planning (now (listing .entry))) r ⌝ }
     ensures { λ r. ⌜ Ready r ⌝ }
 {
-    let d = listing::read(listing);
+    let d = reading::read(listing);
     let v = d.verdict;
     match v {
         Verdict::Sound => {
@@ -69,7 +69,7 @@ pub fn rewrite(listing: &[u8], buffer: &mut [u8]) -> Written
     ensures { λ r. ⌜ writeAnswer r ≡ rewriting (now (listing .entry)) (now (buffer .entry)) ⌝ }
     ensures { λ _. ⌜ now (buffer .exit) ≡ overlaid (now (listing .entry)) (now (buffer .entry)) (rewriting (now (listing .entry)) (now (buffer .entry))) ⌝ }
 {
-    let d = listing::read(listing);
+    let d = reading::read(listing);
     let v = d.verdict;
     match v {
         Verdict::Sound => {
@@ -86,7 +86,7 @@ pub fn reread(p: Plant, buffer: &mut [u8]) -> Decoded
     ensures { λ _. ⌜ now (buffer .exit) ≡ bufferAfter p (now (buffer .entry)) ⌝ }
 {
     match listing::write(p, buffer) {
-        Written::Length(n) => listing::read(&buffer[..n]),
+        Written::Length(n) => reading::read(&buffer[..n]),
         Written::Refused(k) => listing::refused_reading(k),
     }
 }

@@ -1,5 +1,5 @@
 -- `listing::read_links` meets its contract: after each link, what is left of the listing gives what the whole gives. Assumes nothing.
-use mathlib.Core.Path.{refl, _∙_}
+use mathlib.Core.Path.{refl, sym, _∙_}
 use Prim.Native.Nat.{_-_}
 use native.Mathlib.Omega.{arith}
 use borrow.Author.Needs.{needs}
@@ -65,20 +65,25 @@ loop-again c =
     let k = c .before .before .before .before .before in
     read-one _ (k .before .before .before .before .args .from) _ _ _ _ _ (k .loop .inv) _ (c .before .before .before .read-link .ensures) (c .before .before .before .before .loop-test .taken) _ _ (k .before .before .before .before .pre) (c .before .l .given .1)
 
+bytes-remain-requires : tie.Need-bytes-remain-requires Inv-loop μ-loop
+bytes-remain-requires c κs = tt
+
 refused-reading-requires-2 : tie.Need-refused-reading-requires-2 Inv-loop μ-loop
 refused-reading-requires-2 c κs = tt
 
 returns-2 : tie.Need-returns-2 Inv-loop μ-loop
 unfolding plantWith
 returns-2 c =
-    let k = c .before .before .before in
-    reads-as _ _ _ (read-remains _ (k .before .before .before .before .args .from) _ _ _ _ _ (k .loop .inv) (c .before .before .loop-test .left) (c .before .if1 .taken)) (c .refused-reading2 .ensures)
+    let b = c .before .before in
+    let k = b .before .before in
+    reads-as _ _ _ (read-remains _ (k .before .before .before .before .args .from) _ _ _ _ _ (k .loop .inv) (b .before .loop-test .left) (sym (b .bytes-remain .ensures) ∙ c .before .if1 .taken)) (c .refused-reading2 .ensures)
 
 returns-3 : tie.Need-returns-3 Inv-loop μ-loop
 unfolding plantWith
 returns-3 c =
-    let k = c .before .before in
-    reads-given _ _ refl (read-all _ (k .before .before .before .before .args .from) _ _ _ _ _ (k .loop .inv) (c .before .loop-test .left) (c .if1 .left))
+    let b = c .before in
+    let k = b .before .before in
+    reads-given _ _ refl (read-all _ (k .before .before .before .before .args .from) _ _ _ _ _ (k .loop .inv) (b .before .loop-test .left) (sym (b .bytes-remain .ensures) ∙ c .if1 .left))
 
 pub read-links-spec : {M : Type 1} → statement M
 read-links-spec =
@@ -99,6 +104,7 @@ read-links-spec =
     add-i
     loop-less
     loop-again
+    bytes-remain-requires
     refused-reading-requires-2
     returns-2
     returns-3)
