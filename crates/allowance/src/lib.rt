@@ -2,10 +2,10 @@
 ghost use mathlib.Core.Path.{_≡_};
 ghost use Rattle.allowance.specs.Allowance.{allowance, clipped};
 
-mod table;
+mod entries;
 
+use entries::ALLOWANCES;
 use plant::Plant;
-use table::ALLOWANCES;
 
 // A number of links that a plant can have; a larger one counts as the most.
 fn clip(links: u16) -> usize

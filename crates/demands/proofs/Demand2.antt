@@ -1,0 +1,40 @@
+-- Demand 2 holds: the round trips of the listing and of the calls, and the trail. Assumes nothing.
+use mathlib.Core.Path.{_≡_, refl, sym, ap, _∙_}
+use mathlib.Core.List.{List}
+use Prim.Native.Nat.{ℕ, _≤_}
+use borrow.Author.Tests.{le-ltb}
+use lib.ListN.{length}
+use Rattle.plant.specs.declared.Plant.{Plant}
+use Rattle.plant.specs.Refusals.{given}
+use Rattle.model.specs.Sound.{Sound}
+use Rattle.listing.specs.Listing.{decode, encode}
+use Rattle.listing.specs.Writing.{bufferShort}
+use Rattle.listing.proofs.RoundTrip.{read-write, write-read}
+use Rattle.listing.proofs.WriteRoundTrip.{sound-given, sound-written, buffer-written}
+use Rattle.routes.specs.Plants.{trailOf}
+use Rattle.trail.proofs.Trails.{trail-is, trail-by-legs}
+use Rattle.planner.specs.Calls.{rewriting, overlaid, rereading}
+use Rattle.planner.proofs.Plans.{plan-ready}
+use Rattle.planner.proofs.Trailing.{lay-enough, laid-enough, trail-given, left-given}
+use Rattle.demands.specs.Demands.{Demand2}
+
+rewritten : (s b : List ℕ) (p : Plant) → decode s ≡ given p → length s ≤ length b → rewriting s b ≡ given (length s)
+unfolding rewriting
+rewritten s b p e h = rw (e, le-ltb (length b) (length s) h)
+
+reread : (p : Plant) (b : List ℕ) → Sound p → length (encode p) ≤ length b → rereading p b ≡ given p
+unfolding rereading bufferShort
+reread p b ok h = rw (sound-given p ok, le-ltb (length b) (length (encode p)) h)
+
+pub demand-2 : Demand2
+demand-2 = record {
+  read-write = read-write;
+  write-read = write-read;
+  rewrite = λ s b p _ e h. let r = rewritten s b p e h in (r, ap (overlaid s b) r);
+  reread = λ p b ok h. (reread p b ok h, buffer-written p b (length (encode p)) (sound-written p b ok h));
+  trail = λ s p b e. let r = plan-ready s p b e in (trail-is p (r .0) (r .1), trail-by-legs p (r .0) (r .1));
+  laid = λ s b p e h. (
+    sym (lay-enough p b h (length (trailOf p)) refl ∙ trail-given s p e b),
+    sym (laid-enough p b h ∙ left-given s p e b),
+  );
+}

@@ -1,0 +1,29 @@
+-- Demand 3 holds of every listing that is read as a connected plant. Assumes nothing.
+use mathlib.Core.Path.{_≡_, sym, ap, _∙_}
+use mathlib.Core.List.{List}
+use Prim.Native.Nat.{ℕ}
+use Rattle.plant.specs.declared.Plant.{Plant}
+use Rattle.plant.specs.Refusals.{given}
+use Rattle.listing.specs.Field.{Bytes}
+use Rattle.walks.specs.Graph.{liveLinks}
+use Rattle.walks.specs.Live.{all-live}
+use Rattle.search.specs.Search.{newSearch}
+use Rattle.table.specs.Rules.{tableOf}
+use Rattle.planner.specs.Planning.{planning}
+use Rattle.planner.specs.Calls.{tabling}
+use Rattle.planner.proofs.Plans.{plan-ready}
+use Rattle.demands.specs.Demands.{Demand3}
+use Rattle.demands.proofs.Calling.{switch-in, begin-within, begin-given}
+use Rattle.demands.proofs.RulePages.{rule-page}
+use Rattle.demands.proofs.Searching.{searches}
+
+pub demand-3 : (s : List ℕ) → Bytes s → (p : Plant) → planning s ≡ given p → Demand3 s p
+unfolding tabling tableOf
+demand-3 s b p e =
+    let r = plan-ready s p b e in
+    record {
+      page = rw e;
+      rules = rule-page p (r .0) (r .1);
+      begins = λ x h. sym (begin-within p x (switch-in p x .1 h) (newSearch (liveLinks p)) (ap newSearch (all-live p)) ∙ begin-given s x p e);
+      searches = λ x h. searches p (r .0) (r .1) x h;
+    }

@@ -1,0 +1,56 @@
+-- What demand 3 says of the rule page. Assumes a sound connected plant.
+use mathlib.Core.Path.{_≡_, refl, sym, ap, _∙_, subst}
+use mathlib.Core.Logic.{_↔_}
+use mathlib.Core.List.{List, [], _∷_, map}
+use Prim.Native.Nat.{ℕ, _+_, _*_, _/_}
+use native.Mathlib.Omega.{arith}
+use lib.Dec.{T}
+use lib.ListN.{length}
+use Rattle.lists.specs.Members.{In, Distinct}
+use Rattle.lists.specs.Numbers.{range, in-range, keep, keep-in, in-keep}
+use Rattle.plant.specs.declared.Plant.{Plant}
+use Rattle.model.specs.Sound.{Sound}
+use Rattle.walks.specs.Graph.{Connected, used, liveLinks, bridges}
+use Rattle.walks.specs.Live.{live-below}
+use Rattle.walks.specs.Orientation.{used-arc}
+use Rattle.walks.specs.Counting.{arcs-in-use}
+use Rattle.walks.specs.Fewest.{fewest}
+use Rattle.walks.specs.Valid.{sound-valid}
+use Rattle.trail.proofs.Trails.{trail-is}
+use Rattle.table.specs.Rules.{ruleOf, rulesBelow, rulesOf}
+use Rattle.table.proofs.Rules.{rules-count}
+use Rattle.demands.specs.Demands.{ruleLabels, RulePage}
+use Rattle.demands.proofs.Lists.{range-distinct, keep-distinct}
+
+module _ (p : Plant) where
+  label-rule : (ls : List ℕ) → map (λ r. r .label) (map (ruleOf p) ls) ≡ ls
+  label-rule [] = refl
+  label-rule (a ∷ ls) = ap (λ (l : List ℕ). a ∷ l) (label-rule ls)
+
+  -- the labels are those of the arcs in use, by rising number
+  labels-are : ruleLabels p ≡ keep (used p) (range 0 (2 * p .count))
+  unfolding rulesBelow
+  labels-are = label-rule (keep (used p) (range 0 (2 * p .count)))
+
+  own-rules : rulesOf p ≡ map (ruleOf p) (ruleLabels p)
+  unfolding rulesBelow
+  own-rules = ap (map (ruleOf p)) (sym labels-are)
+
+  labels-used : (a : ℕ) → In a (ruleLabels p) ↔ T (used p a)
+  labels-used a = rw labels-are (
+    λ h. keep-in (used p) a (range 0 (2 * p .count)) h .1,
+    λ t. in-keep (used p) a (range 0 (2 * p .count)) (in-range a 0 (2 * p .count) (omega arith) (omega (arith, live-below p (a / 2) (used-arc p a t)))) t,
+  )
+
+  module _ (ok : Sound p) (con : Connected p) where
+    pub rule-page : RulePage p
+    rule-page = record {
+      of-arcs = own-rules;
+      crossed = λ a. (λ h. trail-is p ok con .exactly a .1 (labels-used a .0 h), λ h. labels-used a .1 (trail-is p ok con .exactly a .0 h));
+      once = subst Distinct (sym labels-are) (keep-distinct (used p) (range 0 (2 * p .count)) (range-distinct 0 (2 * p .count)));
+      number = number;
+      fewest = λ w c h. omega (arith, number, fewest p (sound-valid p ok) w c h);
+    }
+      where
+        number : length (rulesOf p) ≡ liveLinks p + bridges p
+        number = rules-count p ∙ arcs-in-use p (sound-valid p ok) con

@@ -1,0 +1,116 @@
+-- What demand 3 says of a list of calls to a search. Assumes a sound connected plant and one of its switches.
+use mathlib.Core.Path.{_≡_, refl, sym, _∙_}
+use mathlib.Core.Logic.{_⊎_, inl, inr, _↔_}
+use mathlib.Core.Bool.{Bool, true, false}
+use mathlib.Core.List.{List, []}
+use Prim.Native.Nat.{ℕ, _+_, _≤_, _<_}
+use native.Mathlib.Omega.{arith}
+use borrow.Author.Tests.{ltb-true, ltb-false, eq-eqb, ne-eqb}
+use lib.Dec.{ltb}
+use Rattle.lists.specs.Tests.{choose, eq?, not-both}
+use Rattle.plant.specs.declared.Plant.{Plant}
+use Rattle.model.specs.Limits.{maxLinks}
+use Rattle.model.specs.Sound.{Sound}
+use Rattle.walks.specs.Arcs.{Valid}
+use Rattle.walks.specs.Graph.{Connected, liveLinks}
+use Rattle.walks.specs.Live.{all-live}
+use Rattle.routes.specs.Plants.{trailOf}
+use Rattle.rings.specs.Trail.{Trail}
+use Rattle.rings.specs.Rules.{upBy}
+use Rattle.rings.specs.Injection.{orderOf, probeRun}
+use Rattle.rings.specs.FirstDown.{firstDown, first-one}
+use Rattle.rings.specs.InjectionLaws.{probe-tells, broken-most, none-broken, first-broken}
+use Rattle.walks.specs.Valid.{sound-valid}
+use Rattle.allowance.specs.Allowance.{allowance, allowance-enough, allowance-least}
+use Rattle.search.specs.declared.Outcome.the-variants.{Returned, Lost}
+use Rattle.search.specs.Search.{ended, next, give}
+use Rattle.search.specs.Calls.{Call, perform, begun}
+use Rattle.search.specs.Limit.{limit}
+use Rattle.search.specs.Sound.{answers-given}
+use Rattle.search.specs.Finds.{Tells, finds}
+use Rattle.trail.proofs.Trails.{trail-is}
+use Rattle.demands.specs.Demands.{MostProbes, NoneBroken, actualOutcome, AllTrue, Says, Searches}
+use Rattle.demands.proofs.Lists.{not-false-true}
+
+-- ---- the most probes
+
+most-probes : (e : ℕ) → MostProbes e (limit e)
+unfolding limit
+most-probes e = record {
+  none = λ q. rw (eq-eqb e 0 q);
+  some = λ h. (allowance e, record { enough = allowance-enough e; least = allowance-least e }, rw (ne-eqb e 0 (λ q. omega arith)));
+}
+
+-- ---- the search
+
+-- what a true outcome is, by a test
+returned-true : (b : Bool) → Returned ≡ choose b Returned Lost → b ≡ true
+returned-true true e = refl
+returned-true false e = let z : _≡_ {A = ℕ} 0 1 = cc in absurd (omega arith)
+
+lost-false : (b : Bool) → Lost ≡ choose b Returned Lost → b ≡ false
+lost-false true e = let z : _≡_ {A = ℕ} 0 1 = cc in absurd (omega arith)
+lost-false false e = refl
+
+module _ (p : Plant) (ok : Sound p) (con : Connected p) (x : ℕ) (x-in : x < p .switches) where
+  valid : Valid p
+  valid = sound-valid p ok
+
+  trail : Trail p (trailOf p)
+  trail = let t = trail-is p ok con in record { closed = t .closed; in-use = λ a. t .exactly a .0; all-used = λ a. t .exactly a .1 }
+
+  pub few-links : liveLinks p ≤ maxLinks
+  few-links = omega (arith, all-live p, ok .few-links)
+
+  module _ (states : List ℕ) where
+    -- the place of the first broken link
+    abbrev pub place : ℕ
+    place = firstDown (upBy states) (orderOf p (trailOf p) x)
+
+    -- probe m returns exactly if it comes after the m-th link
+    pub told : (m : ℕ) → 1 ≤ m → m ≤ liveLinks p → probeRun p (trailOf p) x (upBy states) m .ended ≡ ltb m place
+    told = probe-tells p valid con (trailOf p) trail x x-in (upBy states)
+
+    pub tells : Tells (liveLinks p) place (λ m o. o ≡ actualOutcome p x states m)
+    unfolding actualOutcome
+    tells = record {
+      from-one = first-one (upBy states) (orderOf p (trailOf p) x);
+      to-none = broken-most p valid con (trailOf p) trail x x-in (upBy states);
+      after = λ m h i t. ltb-true m place (sym (told m h i) ∙ returned-true (probeRun p (trailOf p) x (upBy states) m .ended) t);
+      up-to = λ m h i t. ltb-false m place (sym (told m h i) ∙ lost-false (probeRun p (trailOf p) x (upBy states) m .ended) t);
+    }
+
+    none : (place ≡ liveLinks p + 1) ↔ NoneBroken p states
+    none =
+        let b = none-broken p valid con (trailOf p) trail x x-in (upBy states) in
+        (λ e l t d. not-both (upBy states l) (b .0 e l t) d, λ f. b .1 (λ l t. not-false-true (upBy states l) (f l t)))
+
+    found : (NoneBroken p states → ⊥) → place ≤ liveLinks p
+    found f = go (eq? place (liveLinks p + 1))
+      where
+        go : (place ≡ liveLinks p + 1) ⊎ (place ≡ liveLinks p + 1 → ⊥) → place ≤ liveLinks p
+        go (inl e) = absurd (f (none .0 e))
+        go (inr n) = omega (arith, n, tells .to-none)
+
+    says : (cs : List Call) → AllTrue p x states cs → ended (perform (begun (liveLinks p)) cs .state) ≡ true → Says p x states (perform (begun (liveLinks p)) cs .state)
+    says cs t q =
+        let r = finds (liveLinks p) few-links place (λ m o. o ≡ actualOutcome p x states m) tells cs in
+        let u = r .all-up t q in
+        record {
+          all-up = (λ e. none .0 (u .0 e), λ f. u .1 (none .1 f));
+          first-broken = λ f. (place, r .first-down t q (found f), first-broken p valid con (trailOf p) trail x x-in (upBy states) (found f));
+        }
+
+  pub searches : (cs : List Call) → Searches p x cs (perform (begun (liveLinks p)) cs)
+  unfolding give
+  searches cs =
+      let state = perform (begun (liveLinks p)) cs .state in
+      let r = finds (liveLinks p) few-links (place []) (λ m o. o ≡ actualOutcome p x [] m) (tells []) cs in
+      record {
+        limit-is = most-probes (liveLinks p);
+        few = r .few;
+        enough = r .enough;
+        goes-on = r .goes-on;
+        accepts = λ q o. (next state o, answers-given state (next state o) (r .stays-sound .0) q);
+        says = λ states. says states cs;
+      }
