@@ -2,9 +2,9 @@
 ghost use mathlib.Core.Path.{_≡_};
 ghost use Rattle.allowance.specs.Allowance.{allowance, clipped};
 
-mod entries;
+mod ceilings;
 
-use entries::ALLOWANCES;
+use ceilings::ALLOWANCES;
 use plant::Plant;
 
 // A number of links that a plant can have; a larger one counts as the most.
