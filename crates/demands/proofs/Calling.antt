@@ -8,12 +8,12 @@ use borrow.Author.Tests.{leb-false, lt-leb}
 use Rattle.plant.specs.declared.Plant.{Plant}
 use Rattle.plant.specs.Refusals.{given, refused}
 use Rattle.walks.specs.Live.{all-live}
-use Rattle.planner.specs.Planning.{planning}
+use Rattle.planner.specs.Planning.{planning, switchOutOfRange}
 use Rattle.search.specs.declared.Search.{Search}
 use Rattle.search.specs.declared.Progress.{Progress}
 use Rattle.search.specs.Search.{newSearch}
 use Rattle.search.specs.Calls.{Call, perform, begun}
-use Rattle.demands.specs.Calls.{switchOutOfRange, beginningOn, beginning, performingOn, performing}
+use Rattle.demands.specs.Calls.{beginningOn, beginning, performingOn, performing}
 
 module _ (p : Plant) (x : ℕ) where
   pub switch-in : (switchOutOfRange p x ≡ false) ↔ (x < p .switches)

@@ -7,10 +7,10 @@ use Rattle.plant.specs.Refusals.{Answer, given}
 use Rattle.model.specs.Answers.{given-given, refuse-given}
 use Rattle.listing.specs.Field.{Bytes}
 use Rattle.walks.specs.Graph.{liveLinks}
-use Rattle.planner.specs.Planning.{planning}
+use Rattle.planner.specs.Planning.{planning, switchOutOfRange}
 use Rattle.search.specs.declared.Progress.{Progress}
 use Rattle.search.specs.Calls.{Call, perform, begun}
-use Rattle.demands.specs.Calls.{switchOutOfRange, performingOn, performing}
+use Rattle.demands.specs.Calls.{performingOn, performing}
 use Rattle.demands.specs.Demands.{Searches}
 use Rattle.demands.specs.Answers.{Performs}
 use Rattle.demands.proofs.Calling.{switch-in, perform-given}

@@ -6,15 +6,11 @@ use lib.Dec.{leb}
 use Rattle.plant.specs.declared.Plant.{Plant}
 use Rattle.plant.specs.Refusals.{Answer, given, refuse, _>>=_}
 use Rattle.walks.specs.Graph.{liveLinks}
-use Rattle.planner.specs.Planning.{planning}
+use Rattle.planner.specs.Planning.{planning, switchOutOfRange}
 use Rattle.search.specs.declared.Search.{Search}
 use Rattle.search.specs.declared.Progress.{Progress}
 use Rattle.search.specs.Search.{newSearch}
 use Rattle.search.specs.Calls.{Call, perform, begun}
-
--- 11: the injection switch is not below S
-unfoldable pub switchOutOfRange : Plant → ℕ → Bool
-switchOutOfRange p x = leb (p .switches) x
 
 -- ---- a new search over the links of a listing, from an injection switch
 

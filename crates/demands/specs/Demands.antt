@@ -25,7 +25,7 @@ use Rattle.rings.specs.Injection.{orderOf, probeRun}
 use Rattle.rings.specs.FirstDown.{FirstDown}
 use Rattle.trail.specs.Trails.{IsTrail, legsOf}
 use Rattle.table.specs.Rules.{ruleOf, rulesOf, tableWith}
-use Rattle.planner.specs.Planning.{notConnected, planning}
+use Rattle.planner.specs.Planning.{notConnected, planning, switchOutOfRange}
 use Rattle.planner.specs.Calls.{rewriting, overlaid, rereading, tabling, summing, placesShort, trailing, trailedBy}
 use Rattle.quantity.specs.Quantity.{maxSpare, orderQuantity}
 use Rattle.search.specs.declared.Search.{Search}
@@ -36,7 +36,7 @@ use Rattle.search.specs.declared.Progress.{Progress}
 use Rattle.search.specs.Search.{newSearch, sound, ended, ask, give}
 use Rattle.search.specs.Calls.{Call, perform, begun, TrueCalls}
 use Rattle.search.specs.Limit.{limit}
-use Rattle.demands.specs.Calls.{switchOutOfRange, beginning, performing}
+use Rattle.demands.specs.Calls.{beginning, performing}
 
 -- ---- demand 1: a call answers a result, or a refusal exactly under its condition
 

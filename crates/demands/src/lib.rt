@@ -6,8 +6,9 @@ use search::Progress;
 use search::Search;
 ghost use mathlib.Core.Path.{_≡_};
 ghost use Rattle.search.specs.Calls.{callsIn};
-ghost use Rattle.demands.specs.Calls.{switchOutOfRange, beginningOn, beginning, performingOn};
+ghost use Rattle.demands.specs.Calls.{beginningOn, beginning, performingOn};
 ghost use Rattle.demands.specs.Answers.{begunAnswer, performedAnswer, Performs};
+ghost use Rattle.planner.specs.Planning.{switchOutOfRange};
 
 // A new search, or a refusal.
 pub enum Begun {

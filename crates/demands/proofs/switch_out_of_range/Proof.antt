@@ -1,8 +1,8 @@
 -- `demands::switch_out_of_range` meets its contract. Assumes nothing.
 use mathlib.Core.Path.{refl}
-use Rattle.demands.specs.Calls.{switchOutOfRange}
 use Rattle.demands.proofs.switch_out_of_range.Statement.{statement}
 use Rattle.demands.proofs.switch_out_of_range.Tie as tie
+use Rattle.planner.specs.Planning.{switchOutOfRange}
 
 returns : tie.Need-returns
 unfolding switchOutOfRange

@@ -1,0 +1,5 @@
+pub mod Answering
+pub mod Lent
+pub mod Searching
+pub mod Results
+pub mod Meaning

@@ -1,0 +1,90 @@
+-- What each call answers in a plant where nothing is refused, from what the code computes of a lent trail that is the plant's. Assumes nothing.
+use mathlib.Core.Path.{_≡_, refl, sym, ap, _∙_, subst}
+use mathlib.Core.Bool.{Bool, false}
+use mathlib.Core.List.{List}
+use Prim.Native.Nat.{ℕ, _-_, _*_}
+use lib.Dec.{eqb}
+use lib.ListN.{getD}
+use borrow.Author.Tests.{eq-eqb, ne-eqb}
+use Rattle.lists.specs.Tests.{choose}
+use Rattle.plant.specs.declared.Plant.{Plant}
+use Rattle.plant.specs.Refusals.{Answer, given, refused}
+use Rattle.model.specs.Limits.{maxLinks}
+use Rattle.walks.specs.Arcs.{head}
+use Rattle.walks.specs.Graph.{used}
+use Rattle.walks.specs.Live.{all-live}
+use Rattle.routes.specs.Plants.{trailOf}
+use Rattle.rings.specs.Packet.{run}
+use Rattle.rings.specs.Packet as ring
+use Rattle.rings.specs.Rules.{upBy, inTable}
+use Rattle.rings.specs.Order.{nth}
+use Rattle.rings.specs.Injection.{ringOf, orderOf, probeRun}
+use Rattle.listing.specs.declared.Verdict.the-variants as verdict
+use Rattle.graph.specs.Flags.{Flags}
+use Rattle.order.specs.declared.Order.{Order}
+use Rattle.order.specs.declared.Span.{Span}
+use Rattle.order.specs.Order.{listed}
+use Rattle.order.specs.Span.{ringSpan, spanOf}
+use Rattle.order.proofs.Gathering.{listed-nth}
+use Rattle.packet.specs.declared.End.{End}
+use Rattle.packet.specs.Runs.{endOf, injectedAt, goesOn}
+use Rattle.packet.proofs.Probes.{table-run}
+use Rattle.search.specs.declared.Search.{Search}
+use Rattle.search.specs.declared.Search.the-variants.{Down}
+use Rattle.search.specs.declared.Outcome.{Outcome}
+use Rattle.probing.specs.declared.Ordered.{Ordered}
+use Rattle.probing.specs.Conditions.{trailDiffers}
+use Rattle.probing.specs.Calls.{outcomeOf, orderIn, outSpan, link, namedIn}
+use Rattle.probing.specs.Answers.{Orders, orderPart}
+use Rattle.probing.proofs.Answering.{fails}
+use Rattle.probing.proofs.Lent.{trail-same}
+
+-- ---- a packet that is no probe
+
+module _ (p : Plant) (us : List Bool) (states labels : List ℕ) (x : ℕ) (f : Flags (2 * maxLinks) (used p) us) where
+  pub ran-as : (i e : End) (b : Bool) → endOf i ≡ injectedAt x → endOf e ≡ goesOn p us states (endOf i) labels → e .ended ≡ b
+      → given b ≡ given (run (inTable p) (upBy states) (head p) x 0 labels .ended)
+  ran-as i e b new goes q = ap given (sym q ∙ ap (λ (d : ring.End). d .ended) (table-run p us states (f .tells) x (endOf i) (endOf e) labels new goes))
+
+-- ---- an order by another name of its answer
+
+pub orders-as : (a b : Answer Order) (r : Ordered) → a ≡ b → Orders a r → Orders b r
+orders-as a b r e o = subst (λ (c : Answer Order). Orders c r) e o
+
+-- ---- over a lent trail that is the plant's
+
+module _ (p : Plant) (w : List ℕ) (x : ℕ) (same : w ≡ trailOf p) where
+  pub checked : (up : ℕ → Bool) (e : ring.End) (o : Outcome) → o ≡ outcomeOf e → e ≡ run (inTable p) up (head p) x 0 (ringOf p w x)
+      → given o ≡ given (outcomeOf (run (inTable p) up (head p) x 0 (ringOf p (trailOf p) x)))
+  checked up e o f g =
+      ap given (f ∙ ap outcomeOf (g ∙ ap (λ (v : List ℕ). run (inTable p) up (head p) x 0 (ringOf p v x)) same))
+
+  pub probed : (up : ℕ → Bool) (m : ℕ) (e : ring.End) (o : Outcome) → o ≡ outcomeOf e → e ≡ probeRun p w x up m
+      → given o ≡ given (outcomeOf (probeRun p (trailOf p) x up m))
+  probed up m e o f g = ap given (f ∙ ap outcomeOf (g ∙ ap (λ (v : List ℕ). probeRun p v x up m) same))
+
+  pub out-ring : (m : ℕ) (b : Span) → m ≡ p .count → b ≡ ringSpan p w x → b ≡ outSpan p x m
+  unfolding outSpan
+  out-ring m b e f = rw (eq-eqb _ _ (e ∙ sym (all-live p))) (f ∙ ap (λ (v : List ℕ). ringSpan p v x) same)
+
+  pub out-part : (m : ℕ) (b : Span) → (m ≡ p .count → ⊥) → b ≡ spanOf p w x m → b ≡ outSpan p x m
+  unfolding outSpan
+  out-part m b n f = rw (ne-eqb _ _ (λ e. n (e ∙ all-live p))) (f ∙ ap (λ (v : List ℕ). spanOf p v x m) same)
+
+  -- the link at a place in the order
+  pub named-link : (o : Order) (q : Search) (k : ℕ) → o ≡ listed (orderOf p w x) → q ≡ Down k
+      → given (link (getD (o .links) (k - 1) 0)) ≡ given (namedIn (orderOf p (trailOf p) x) q)
+  named-link o q k f e =
+      let l : getD (o .links) (k - 1) 0 ≡ nth (orderOf p (trailOf p) x) k =
+      ap (λ (d : Order). getD (d .links) (k - 1) 0) f ∙ listed-nth (orderOf p w x) k ∙ ap (λ (v : List ℕ). nth (orderOf p v x) k) same
+      in
+      rw e (ap (λ (j : ℕ). given (link j)) l)
+
+pub ordered : (p : Plant) (w : List ℕ) (x : ℕ) (o : Order) → trailDiffers p w ≡ false → o ≡ listed (orderOf p w x)
+    → Orders (orderIn p x w) (record { verdict = verdict.Sound; order = o })
+unfolding orderIn
+ordered p w x o d f =
+    let g : given o ≡ orderIn p x w =
+    fails 12 _ _ _ d (ap given (f ∙ ap (λ (v : List ℕ). listed (orderOf p v x)) (trail-same p w d)))
+    in
+    record { answer = g; order = ap orderPart g }

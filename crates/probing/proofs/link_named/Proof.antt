@@ -1,0 +1,36 @@
+-- The refusals of the plant, then what is answered in it. Assumes nothing.
+use mathlib.Core.Path.{_∙_}
+use Rattle.planner.proofs.Plans.{read-sound, read-refused}
+use Rattle.probing.specs.Calls.{naming}
+use Rattle.probing.proofs.Answering.{after-given, after-refused}
+use borrow.Author.Needs.{needs}
+use Rattle.probing.proofs.link_named.Statement.{statement}
+use Rattle.probing.proofs.link_named.Tie as tie
+
+plan-at-requires : tie.Need-plan-at-requires
+plan-at-requires c κs = search needs
+
+enum-told : tie.Need-enum-told
+enum-told c = search needs
+
+name-in-requires : tie.Need-name-in-requires
+name-in-requires c κs = c .before .before .before .plan-at .ensures .1 (c .before .enum-told .given .1)
+
+enum-known-v : tie.Need-enum-known-v
+enum-known-v c = search needs
+
+returns : tie.Need-returns
+unfolding naming
+returns c =
+    let m = c .before .before in
+    c .name-in .ensures ∙ after-given _ _ _ (read-sound _ _ (m .before .before .plan-at .ensures .0) (m .enum-told .given .1))
+
+returns-2 : tie.Need-returns-2
+unfolding naming
+returns-2 c =
+    let m = c .before in
+    after-refused _ _ _ (read-refused _ _ (m .before .before .plan-at .ensures .0) _ (m .v .given .1))
+
+pub link-named-spec : {M : Type 1} → statement M
+link-named-spec =
+    tie.close (tie.spec plan-at-requires enum-told name-in-requires enum-known-v returns returns-2)

@@ -1,0 +1,54 @@
+-- The link named: refusals 12 and 14, then what the search names. Assumes nothing.
+use mathlib.Core.Path.{sym, _∙_}
+use Rattle.planner.proofs.Trailing.{planned}
+use Rattle.probing.specs.Calls.{nameIn}
+use Rattle.probing.proofs.Answering.{holds, fails}
+use Rattle.probing.proofs.Lent.{trail-same}
+use Rattle.probing.proofs.Searching.{good-here, unsound-live}
+use borrow.Author.Needs.{needs}
+use Rattle.probing.proofs.name_in.Statement.{statement}
+use Rattle.probing.proofs.name_in.Tie as tie
+
+arcs-in-use-requires : tie.Need-arcs-in-use-requires
+arcs-in-use-requires c κs = search needs
+
+differs-requires : tie.Need-differs-requires
+differs-requires c κs = let s = c .before .before in planned (s .args .p) (s .pre .0) _ (s .pre .1) (c .arcs-in-use .ensures)
+
+returns : tie.Need-returns
+unfolding nameIn
+returns c = holds 12 _ _ (sym (c .before .differs .ensures) ∙ c .if1 .taken)
+
+unsound-requires : tie.Need-unsound-requires
+unsound-requires c κs = search needs
+
+returns-2 : tie.Need-returns-2
+unfolding nameIn
+returns-2 c =
+    let d = c .before .before in
+    fails 12 _ _ _ (sym (d .before .differs .ensures) ∙ d .if1 .left) (holds 14 _ _ (unsound-live _ _ _ (sym (c .before .unsound .ensures) ∙ c .if2 .taken)))
+
+name-of-requires : tie.Need-name-of-requires
+name-of-requires c κs =
+    let d = c .before .before in
+    let s = d .before .before .before .before in
+    (s .pre, (trail-same _ _ (sym (d .before .differs .ensures) ∙ d .if1 .left), good-here _ _ (sym (c .before .unsound .ensures) ∙ c .if2 .left)))
+
+returns-3 : tie.Need-returns-3
+unfolding nameIn
+returns-3 c =
+    let b = c .before in
+    let d = b .before .before in
+    fails 12 _ _ _ (sym (d .before .differs .ensures) ∙ d .if1 .left) (fails 14 _ _ _ (unsound-live _ _ _ (sym (b .before .unsound .ensures) ∙ b .if2 .left)) (c .name-of .ensures))
+
+pub name-in-spec : {M : Type 1} → statement M
+name-in-spec =
+    tie.close
+    (tie.spec
+    arcs-in-use-requires
+    differs-requires
+    returns
+    unsound-requires
+    returns-2
+    name-of-requires
+    returns-3)

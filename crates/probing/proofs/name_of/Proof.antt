@@ -1,0 +1,77 @@
+-- What a sound search names. Assumes nothing.
+use mathlib.Core.Path.{subst}
+use native.Mathlib.Omega.{arith}
+use Rattle.search.specs.Sound.{Good}
+use Rattle.probing.proofs.Lent.{lent-arcs}
+use Rattle.probing.proofs.Results.{named-link}
+use borrow.Author.Needs.{needs}
+use Rattle.probing.proofs.name_of.Statement.{statement}
+use Rattle.probing.proofs.name_of.Tie as tie
+
+enum-told : tie.Need-enum-told
+enum-told c = search needs
+
+enum-told-2 : tie.Need-enum-told-2
+enum-told-2 c = search needs
+
+enum-told-3 : tie.Need-enum-told-3
+enum-told-3 c = search needs
+
+enum-known-search : tie.Need-enum-known-search
+enum-known-search c = search needs
+
+order-of-requires : tie.Need-order-of-requires
+order-of-requires c κs =
+    let s = c .before .before .before .before in
+    (s .pre .0 .0, lent-arcs (s .args .p) (s .pre .0 .0) _ (s .pre .0 .1) (s .pre .1 .0))
+
+sub-j : tie.Need-sub-j
+sub-j c =
+    let n = c .before .before in
+    let s = n .before .before .before in
+    omega (arith, subst (Good (s .args .p .count)) (n .search .given .1) (s .pre .1 .1))
+
+cast-j : tie.Need-cast-j
+cast-j c = search needs
+
+mul-t11 : tie.Need-mul-t11
+mul-t11 c = search needs
+
+element-copy-out-t10 : tie.Need-element-copy-out-t10
+element-copy-out-t10 c =
+    let n = c .before .before in
+    let s = n .before .before .before in
+    omega (arith, subst (Good (s .args .p .count)) (n .search .given .1) (s .pre .1 .1), s .pre .0 .0 .few-links)
+
+returns : tie.Need-returns
+returns c = simp (c .enum-told .given .1)
+
+returns-2 : tie.Need-returns-2
+returns-2 c = simp (c .enum-told2 .given .1)
+
+returns-3 : tie.Need-returns-3
+returns-3 c = simp (c .enum-told3 .given .1)
+
+returns-4 : tie.Need-returns-4
+returns-4 c =
+    let n = c .before .before .before in
+    let s = n .before .before .before in
+    named-link (s .args .p) _ _ (s .pre .1 .0) (c .before .order-of .result) _ _ (c .before .order-of .ensures) (n .search .given .1)
+
+pub name-of-spec : {M : Type 1} → statement M
+name-of-spec =
+    tie.close
+    (tie.spec
+    enum-told
+    enum-told-2
+    enum-told-3
+    enum-known-search
+    order-of-requires
+    sub-j
+    cast-j
+    mul-t11
+    element-copy-out-t10
+    returns
+    returns-2
+    returns-3
+    returns-4)

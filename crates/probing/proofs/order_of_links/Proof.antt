@@ -1,0 +1,47 @@
+-- The refusals of the plant, then what is answered in it. Assumes nothing.
+use Rattle.planner.proofs.Plans.{read-sound, read-refused}
+use Rattle.probing.specs.Calls.{ordering}
+use Rattle.probing.proofs.Answering.{after-given, after-refused}
+use Rattle.probing.proofs.Results.{orders-as}
+use borrow.Author.Needs.{needs}
+use Rattle.probing.proofs.order_of_links.Statement.{statement}
+use Rattle.probing.proofs.order_of_links.Tie as tie
+
+plan-at-requires : tie.Need-plan-at-requires
+plan-at-requires c κs = search needs
+
+enum-told : tie.Need-enum-told
+enum-told c = search needs
+
+order-in-requires : tie.Need-order-in-requires
+order-in-requires c κs = c .before .before .before .plan-at .ensures .1 (c .before .enum-told .given .1)
+
+enum-known-v : tie.Need-enum-known-v
+enum-known-v c = search needs
+
+refused-order-requires : tie.Need-refused-order-requires
+refused-order-requires c κs = search needs
+
+returns : tie.Need-returns
+unfolding ordering
+returns c =
+    let m = c .before .before in
+    orders-as _ _ _ (after-given _ _ _ (read-sound _ _ (m .before .before .plan-at .ensures .0) (m .enum-told .given .1))) (c .order-in .ensures)
+
+returns-2 : tie.Need-returns-2
+unfolding ordering
+returns-2 c =
+    let m = c .before .before in
+    orders-as _ _ _ (after-refused _ _ _ (read-refused _ _ (m .before .before .plan-at .ensures .0) _ (m .v .given .1))) (c .refused-order .ensures)
+
+pub order-of-links-spec : {M : Type 1} → statement M
+order-of-links-spec =
+    tie.close
+    (tie.spec
+    plan-at-requires
+    enum-told
+    order-in-requires
+    enum-known-v
+    refused-order-requires
+    returns
+    returns-2)

@@ -1,0 +1,36 @@
+-- The refusals of the plant, then what is answered in it. Assumes nothing.
+use mathlib.Core.Path.{_∙_}
+use Rattle.planner.proofs.Plans.{read-sound, read-refused}
+use Rattle.probing.specs.Calls.{running}
+use Rattle.probing.proofs.Answering.{after-given, after-refused}
+use borrow.Author.Needs.{needs}
+use Rattle.probing.proofs.run.Statement.{statement}
+use Rattle.probing.proofs.run.Tie as tie
+
+plan-at-requires : tie.Need-plan-at-requires
+plan-at-requires c κs = search needs
+
+enum-told : tie.Need-enum-told
+enum-told c = search needs
+
+run-in-requires : tie.Need-run-in-requires
+run-in-requires c κs = c .before .before .before .plan-at .ensures .1 (c .before .enum-told .given .1) .0
+
+enum-known-v : tie.Need-enum-known-v
+enum-known-v c = search needs
+
+returns : tie.Need-returns
+unfolding running
+returns c =
+    let m = c .before .before in
+    c .run-in .ensures ∙ after-given _ _ _ (read-sound _ _ (m .before .before .plan-at .ensures .0) (m .enum-told .given .1))
+
+returns-2 : tie.Need-returns-2
+unfolding running
+returns-2 c =
+    let m = c .before in
+    after-refused _ _ _ (read-refused _ _ (m .before .before .plan-at .ensures .0) _ (m .v .given .1))
+
+pub run-spec : {M : Type 1} → statement M
+run-spec =
+    tie.close (tie.spec plan-at-requires enum-told run-in-requires enum-known-v returns returns-2)

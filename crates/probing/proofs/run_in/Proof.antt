@@ -1,0 +1,56 @@
+-- A run under the forwarding table: refusal 13, then the run. Assumes nothing.
+use mathlib.Core.Path.{sym, _∙_}
+use native.Mathlib.Omega.{arith}
+use Rattle.packet.proofs.Probes.{injected-hops}
+use Rattle.probing.specs.Calls.{runIn}
+use Rattle.probing.proofs.Answering.{holds, fails}
+use Rattle.probing.proofs.Lent.{states-enough, can-run}
+use Rattle.probing.proofs.Results.{ran-as}
+use borrow.Author.Needs.{needs}
+use Rattle.probing.proofs.run_in.Statement.{statement}
+use Rattle.probing.proofs.run_in.Tie as tie
+
+too-few-requires : tie.Need-too-few-requires
+too-few-requires c κs = search needs
+
+returns : tie.Need-returns
+unfolding runIn
+returns c = holds 13 _ _ (sym (c .before .too-few .ensures) ∙ c .if1 .taken)
+
+arcs-in-use-requires : tie.Need-arcs-in-use-requires
+arcs-in-use-requires c κs = search needs
+
+injected-requires : tie.Need-injected-requires
+injected-requires c κs = search needs
+
+run-on-requires : tie.Need-run-on-requires
+run-on-requires c κs =
+    let b = c .before .before in
+    let s = b .before .before .before .before in
+    (can-run (s .args .p) (s .pre) _ _ (c .before .arcs-in-use .ensures) (states-enough _ _ (sym (b .before .too-few .ensures) ∙ b .if1 .left)), omega (arith, injected-hops _ _ (c .injected .ensures)))
+
+returns-2 : tie.Need-returns-2
+unfolding runIn
+returns-2 c =
+    let i = c .before .before in
+    let b = i .before .before in
+    fails 13 _ _ _ (sym (b .before .too-few .ensures) ∙ b .if1 .left) (ran-as _ _ _ _ _ (i .before .arcs-in-use .ensures) (i .injected .result) (c .before .run-on .result) _ (i .injected .ensures) (c .before .run-on .ensures) (c .if2 .taken))
+
+returns-3 : tie.Need-returns-3
+unfolding runIn
+returns-3 c =
+    let i = c .before .before in
+    let b = i .before .before in
+    fails 13 _ _ _ (sym (b .before .too-few .ensures) ∙ b .if1 .left) (ran-as _ _ _ _ _ (i .before .arcs-in-use .ensures) (i .injected .result) (c .before .run-on .result) _ (i .injected .ensures) (c .before .run-on .ensures) (c .if2 .left))
+
+pub run-in-spec : {M : Type 1} → statement M
+run-in-spec =
+    tie.close
+    (tie.spec
+    too-few-requires
+    returns
+    arcs-in-use-requires
+    injected-requires
+    run-on-requires
+    returns-2
+    returns-3)

@@ -1,0 +1,37 @@
+-- The refusals of the plant, then what is answered in it. Assumes nothing.
+use mathlib.Core.Path.{_∙_}
+use Rattle.planner.proofs.Plans.{read-sound, read-refused}
+use Rattle.probing.specs.Calls.{probing}
+use Rattle.probing.proofs.Answering.{after-given, after-refused}
+use borrow.Author.Needs.{needs}
+use Rattle.probing.proofs.run_probe.Statement.{statement}
+use Rattle.probing.proofs.run_probe.Tie as tie
+
+plan-at-requires : tie.Need-plan-at-requires
+plan-at-requires c κs = search needs
+
+enum-told : tie.Need-enum-told
+enum-told c = search needs
+
+probe-in-requires : tie.Need-probe-in-requires
+probe-in-requires c κs = c .before .before .before .plan-at .ensures .1 (c .before .enum-told .given .1)
+
+enum-known-v : tie.Need-enum-known-v
+enum-known-v c = search needs
+
+returns : tie.Need-returns
+unfolding probing
+returns c =
+    let m = c .before .before in
+    c .probe-in .ensures ∙ after-given _ _ _ (read-sound _ _ (m .before .before .plan-at .ensures .0) (m .enum-told .given .1))
+
+returns-2 : tie.Need-returns-2
+unfolding probing
+returns-2 c =
+    let m = c .before in
+    after-refused _ _ _ (read-refused _ _ (m .before .before .plan-at .ensures .0) _ (m .v .given .1))
+
+pub run-probe-spec : {M : Type 1} → statement M
+run-probe-spec =
+    tie.close
+    (tie.spec plan-at-requires enum-told probe-in-requires enum-known-v returns returns-2)

@@ -1,0 +1,12 @@
+-- Refusal 13. Assumes nothing.
+use mathlib.Core.Path.{refl}
+use Rattle.probing.specs.Conditions.{statesShort}
+use Rattle.probing.proofs.too_few.Statement.{statement}
+use Rattle.probing.proofs.too_few.Tie as tie
+
+returns : tie.Need-returns
+unfolding statesShort
+returns c = refl
+
+pub too-few-spec : {M : Type 1} → statement M
+too-few-spec = tie.close (tie.spec returns)

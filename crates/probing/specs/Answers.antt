@@ -1,0 +1,54 @@
+-- What each answer of the calls stands for: values, or the number of a refusal.
+use mathlib.Core.Path.{_≡_}
+use mathlib.Core.Bool.{Bool, true, false}
+use mathlib.Core.List.{[]}
+use Rattle.plant.specs.Refusals.{Answer, given, refused, _>>=_, numberOf}
+use Rattle.listing.specs.Answers.{verdictAnswer}
+use Rattle.order.specs.declared.Order.{Order}
+use Rattle.order.specs.declared.Span.{Span}
+use Rattle.order.specs.Order.{listed}
+use Rattle.search.specs.declared.Outcome.{Outcome}
+use Rattle.probing.specs.declared.Ran.{Ran}
+use Rattle.probing.specs.declared.Ran.the-variants as ran-is
+use Rattle.probing.specs.declared.Probed.{Probed}
+use Rattle.probing.specs.declared.Probed.the-variants as probed-is
+use Rattle.probing.specs.declared.Ordered.{Ordered}
+use Rattle.probing.specs.declared.Outward.{Outward}
+use Rattle.probing.specs.declared.Outward.the-variants as outward-is
+use Rattle.probing.specs.declared.Named.{Named}
+use Rattle.probing.specs.declared.Named.the-variants as named-is
+use Rattle.probing.specs.Calls.{Name, link, none, unknown}
+
+-- has the packet ended, or is it lost?
+abbrev pub ranAnswer : Ran → Answer Bool
+ranAnswer ran-is.Ended = given true
+ranAnswer ran-is.Lost = given false
+ranAnswer (ran-is.Refused k) = refused (numberOf k)
+
+abbrev pub probedAnswer : Probed → Answer Outcome
+probedAnswer (probed-is.Outcome o) = given o
+probedAnswer (probed-is.Refused k) = refused (numberOf k)
+
+abbrev pub outwardAnswer : Outward → Answer Span
+outwardAnswer (outward-is.Parts b) = given b
+outwardAnswer (outward-is.Refused k) = refused (numberOf k)
+
+abbrev pub namedAnswer : Named → Answer Name
+namedAnswer (named-is.Link l) = given (link l)
+namedAnswer named-is.AllUp = given none
+namedAnswer named-is.Open = given unknown
+namedAnswer (named-is.Refused k) = refused (numberOf k)
+
+-- ---- the order of links
+
+abbrev pub orderAnswer : Ordered → Answer Order
+orderAnswer r = verdictAnswer (r .verdict) >>= λ _. given (r .order)
+
+-- the order part of the answer: at a refusal the order without links
+abbrev pub orderPart : Answer Order → Order
+orderPart (given o) = o
+orderPart (refused n) = listed []
+
+pub record Orders (a : Answer Order) (r : Ordered) : Type 0 where
+  pub answer : orderAnswer r ≡ a
+  pub order : r .order ≡ orderPart a

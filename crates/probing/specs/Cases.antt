@@ -1,0 +1,148 @@
+-- The calls on the triangle of document 01, whose trail is 0 2 4: each row has what the definitions answer in its plant, and what is expected. Every refusal from 11 on
+-- occurs, and where two conditions hold the lower number is answered. One computed test over all rows. Assumes nothing.
+use mathlib.Core.Path.{_≡_, refl}
+use mathlib.Core.List.{List, [], _∷_, map}
+use Prim.Native.Nat.{ℕ}
+use lib.ListN.{take}
+use Rattle.lists.specs.Count.{bit, count}
+use Rattle.lists.specs.Numbers.{every}
+use Rattle.lists.specs.Least.{leastFrom}
+use Rattle.plant.specs.declared.Plant.{Plant}
+use Rattle.plant.specs.Links.{plantWith, live}
+use Rattle.plant.specs.Refusals.{Answer, given, refused, _>>=_}
+use Rattle.walks.specs.Visit.{scan, visit}
+use Rattle.walks.specs.Arcs.{opposite, tail, head}
+use Rattle.walks.specs.Graph.{arcs, others, visitFrom, visited, connected, bridge, entered, earlier, used, liveLinks}
+use Rattle.routes.specs.Distance.{sources, within, dist, hop}
+use Rattle.routes.specs.Trail.{near, nearest, mostHops, goal, next, trailFrom, trail}
+use Rattle.rings.specs.Packet.{rulesFor}
+use Rattle.rings.specs.Rules.{upBy, inTable, inAll}
+use Rattle.rings.specs.Ring.{readFrom, place, ring}
+use Rattle.rings.specs.Order as orders
+use Rattle.rings.specs.Probe.{outward, probe}
+use Rattle.rings.specs.Injection.{probeRules, ringOf, orderOf, probeOf, probeRun}
+use Rattle.rings.specs.Parts.{out, outStretch, outFront}
+use Rattle.listing.specs.Part.{taken, valueOf, repeats, mapMissing, mapUndefined, fieldMissing, fieldRedundant, fieldValues, afterPart, part}
+use Rattle.listing.specs.Listing as listing
+use Rattle.trail.specs.Filled.{sameList}
+use Rattle.order.specs.Order.{padded, listed}
+use Rattle.order.specs.Span.{ringSpan, spanOf}
+use Rattle.search.specs.declared.Search.{Search}
+use Rattle.search.specs.declared.Search.the-variants.{Checking, Halving, AllUp, Down}
+use Rattle.search.specs.declared.Outcome.{Outcome}
+use Rattle.search.specs.declared.Outcome.the-variants.{Returned, Lost}
+use Rattle.planner.specs.Planning.{notConnected, joined, planning, planningAt, switchOutOfRange}
+use Rattle.probing.specs.Conditions.{trailDiffers, statesShort, searchUnsound, probeWanted}
+use Rattle.probing.specs.Calls.{runIn, checkIn, orderIn, outSpan, outwardIn, probeIn, Name, link, none, unknown, nameIn}
+
+pub record Row : Type 0 where
+  pub got : Plant → Answer (List ℕ)
+  pub said : Answer (List ℕ)
+
+abbrev triangle : List ℕ
+triangle = 3 ∷ 3 ∷ 3 ∷ 0 ∷ 2 ∷ 1 ∷ 3 ∷ 1 ∷ 2 ∷ 3 ∷ 2 ∷ 0 ∷ []
+
+-- the trail, and state bytes: all up, link 0 down, link 1 down, a byte missing, a byte too many
+abbrev whole : List ℕ
+whole = 0 ∷ 2 ∷ 4 ∷ []
+
+abbrev allUp : List ℕ
+allUp = 1 ∷ 1 ∷ 255 ∷ []
+
+abbrev down0 : List ℕ
+down0 = 0 ∷ 1 ∷ 1 ∷ []
+
+abbrev down1 : List ℕ
+down1 = 1 ∷ 0 ∷ 1 ∷ []
+
+abbrev short : List ℕ
+short = 1 ∷ 1 ∷ []
+
+abbrev long : List ℕ
+long = 1 ∷ 1 ∷ 1 ∷ 0 ∷ []
+
+-- ---- the refusals of the plant, with which each call begins
+
+abbrev at : ℕ → Answer (List ℕ) → Row
+at x a = record { got = λ _. planningAt triangle x >>= λ p. given (x ∷ []); said = a }
+
+-- ---- the calls in the plant: 1 if the packet ended or the probe returned, and else 0
+
+abbrev runs : ℕ → List ℕ → List ℕ → Answer (List ℕ) → Row
+runs x labels states a = record { got = λ p. runIn p x labels states >>= λ b. given (bit b ∷ []); said = a }
+
+abbrev home : Outcome → List ℕ
+home Returned = 1 ∷ []
+home Lost = 0 ∷ []
+
+abbrev checks : ℕ → List ℕ → List ℕ → Answer (List ℕ) → Row
+checks x w states a = record { got = λ p. checkIn p x w states >>= λ o. given (home o); said = a }
+
+abbrev lists : ℕ → List ℕ → Answer (List ℕ) → Row
+lists x w a = record { got = λ p. orderIn p x w >>= λ o. given (take (o .count) (o .links)); said = a }
+
+-- the place, and the lengths of the two parts
+abbrev goes : ℕ → List ℕ → Search → Answer (List ℕ) → Row
+goes x w q a = record { got = λ p. outwardIn p x w q >>= λ b. given (b .from ∷ b .len ∷ b .front ∷ []); said = a }
+
+abbrev probes : ℕ → List ℕ → List ℕ → Search → Answer (List ℕ) → Row
+probes x w states q a = record { got = λ p. probeIn p x w states q >>= λ o. given (home o); said = a }
+
+-- the link, or nothing if there is none, or twice 0 if the search has not ended
+abbrev told : Name → List ℕ
+told (link l) = l ∷ []
+told none = []
+told unknown = 0 ∷ 0 ∷ []
+
+abbrev names : ℕ → List ℕ → Search → Answer (List ℕ) → Row
+names x w q a = record { got = λ p. nameIn p x w q >>= λ n. given (told n); said = a }
+
+-- ---- the table, and the test
+
+abbrev table : List Row
+table =
+    at 2 (given (2 ∷ []))
+    ∷ at 3 (refused 11)
+    ∷ runs 0 whole allUp (given (1 ∷ []))
+    ∷ runs 0 whole down1 (given (0 ∷ []))
+    ∷ runs 0 whole long (given (1 ∷ []))
+    ∷ runs 1 [] allUp (given (1 ∷ []))
+    ∷ runs 1 (1 ∷ []) allUp (given (0 ∷ []))
+    ∷ runs 0 (6 ∷ []) allUp (given (0 ∷ []))
+    ∷ runs 0 whole short (refused 13)
+    ∷ checks 1 whole allUp (given (1 ∷ []))
+    ∷ checks 1 whole down0 (given (0 ∷ []))
+    ∷ checks 1 (0 ∷ 2 ∷ []) short (refused 12)
+    ∷ checks 1 (0 ∷ 2 ∷ 4 ∷ 0 ∷ []) allUp (refused 12)
+    ∷ checks 1 whole short (refused 13)
+    ∷ lists 1 whole (given (1 ∷ 2 ∷ 0 ∷ []))
+    ∷ lists 1 [] (refused 12)
+    ∷ goes 1 whole (Checking 3) (given (1 ∷ 2 ∷ 1 ∷ []))
+    ∷ goes 1 whole (Halving 1 3) (given (1 ∷ 2 ∷ 0 ∷ []))
+    ∷ goes 2 whole (Halving 1 3) (given (2 ∷ 1 ∷ 1 ∷ []))
+    ∷ goes 1 [] (Checking 2) (refused 12)
+    ∷ goes 1 whole (Checking 2) (refused 14)
+    ∷ goes 1 whole (Halving 1 4) (refused 14)
+    ∷ goes 1 whole (Halving 2 2) (refused 14)
+    ∷ goes 1 whole (Down 4) (refused 14)
+    ∷ goes 1 whole (Down 3) (refused 15)
+    ∷ goes 1 whole AllUp (refused 15)
+    ∷ probes 1 whole down0 (Halving 1 3) (given (1 ∷ []))
+    ∷ probes 1 whole down1 (Halving 1 3) (given (0 ∷ []))
+    ∷ probes 1 whole down0 (Checking 3) (given (0 ∷ []))
+    ∷ probes 1 [] short AllUp (refused 12)
+    ∷ probes 1 whole short (Checking 0) (refused 13)
+    ∷ probes 1 whole allUp (Checking 0) (refused 14)
+    ∷ probes 1 whole allUp AllUp (refused 15)
+    ∷ names 1 whole (Down 3) (given (0 ∷ []))
+    ∷ names 2 whole (Down 3) (given (1 ∷ []))
+    ∷ names 1 whole AllUp (given [])
+    ∷ names 1 whole (Halving 1 3) (given (0 ∷ 0 ∷ []))
+    ∷ names 1 [] (Down 0) (refused 12)
+    ∷ names 1 whole (Down 0) (refused 14)
+    ∷ names 1 whole (Down 4) (refused 14)
+    ∷ []
+
+as-said : (planning triangle >>= λ p. given (map (λ r. r .got p) table)) ≡ given (map (λ r. r .said) table)
+unfolding runIn checkIn orderIn outwardIn outSpan probeIn nameIn switchOutOfRange trailDiffers statesShort searchUnsound planningAt probeWanted notConnected joined planning ringSpan spanOf listed padded sameList plantWith taken valueOf repeats mapMissing mapUndefined fieldMissing fieldRedundant fieldValues afterPart part listing.valueOutOfRange listing.endOutOfRange listing.selfLink listing.soundLink listing.bytesRemain listing.judgedHeader listing.header listing.judged listing.link listing.links listing.withLinks listing.finish listing.afterHeader listing.decode out outStretch outFront probeRules ringOf orderOf probeOf probeRun probe outward orders.order readFrom place ring upBy inTable inAll rulesFor trail trailFrom mostHops next goal nearest near hop dist within sources arcs others visitFrom visited connected bridge entered earlier used liveLinks opposite tail head scan visit live leastFrom count every
+as-said = refl

@@ -1,0 +1,31 @@
+-- The conditions of refusals 12 to 15 in a call that is given a listing (document 01, "Refusals in checking order"), each once; and the refusals that calls share.
+use mathlib.Core.Bool.{Bool, not, _&&_}
+use mathlib.Core.List.{List}
+use Prim.Native.Nat.{ℕ}
+use lib.Dec.{leb, ltb}
+use lib.ListN.{length}
+use Rattle.plant.specs.declared.Plant.{Plant}
+use Rattle.plant.specs.Refusals.{Answer, given, refuse, _>>=_}
+use Rattle.routes.specs.Plants.{trailOf}
+use Rattle.trail.specs.Filled.{sameList}
+use Rattle.search.specs.declared.Search.{Search}
+use Rattle.search.specs.Search.{sound, soundFor, ended, wanted}
+use Rattle.planner.specs.Planning.{planning}
+
+-- 12: the lent trail, in its whole length, differs from the listing's trail
+unfoldable pub trailDiffers : Plant → List ℕ → Bool
+trailDiffers p w = not (sameList w (trailOf p))
+
+-- 13: there are fewer link-state bytes than e, the links of the listing
+unfoldable pub statesShort : ℕ → List ℕ → Bool
+statesShort e states = ltb (length states) e
+
+-- 14: the search is unsound by itself, or in a call with a listing, where a search is over e links
+unfoldable pub searchUnsound : ℕ → Search → Bool
+searchUnsound e q = not (sound q && soundFor e q)
+
+-- ---- what calls share
+
+-- 14, then 15 (a probe is wanted of All up or Down), or the m of the probe wanted
+unfoldable pub probeWanted : ℕ → Search → Answer ℕ
+probeWanted e q = refuse 14 (searchUnsound e q) (refuse 15 (ended q) (given (wanted q)))

@@ -1,0 +1,4 @@
+pub mod Conditions
+pub mod Calls
+pub mod Answers
+pub mod Cases

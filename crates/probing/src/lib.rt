@@ -1,0 +1,370 @@
+// The calls on packets and probes that are given a listing (document 01, "Rules, packets, ring" and "Search"). Each begins with the refusals of planning and that of
+// a named switch; the others follow in the order of their numbers.
+use distance::LABELS;
+use listing::Decoded;
+use listing::Verdict;
+use order::Order;
+use order::Span;
+use packet::End;
+use plant::Plant;
+use plant::Refusal;
+use search::Asked;
+use search::Outcome;
+use search::Search;
+ghost use mathlib.Core.Path.{_≡_};
+ghost use Prim.Native.Nat.{_≤_};
+ghost use Rattle.plant.specs.Refusals.{given, refused, numberOf};
+ghost use Rattle.model.specs.Sound.{Sound};
+ghost use Rattle.walks.specs.Graph.{Connected};
+ghost use Rattle.listing.specs.Answers.{Reads};
+ghost use Rattle.routes.specs.Plants.{trailOf};
+ghost use Rattle.rings.specs.Injection.{orderOf};
+ghost use Rattle.trail.specs.Steps.{Planned};
+ghost use Rattle.packet.specs.Runs.{endOf};
+ghost use Rattle.search.specs.Search.{askedOf};
+ghost use Rattle.search.specs.Sound.{Good};
+ghost use Rattle.planner.specs.Answers.{Ready};
+ghost use Rattle.probing.specs.Conditions.{trailDiffers, statesShort, searchUnsound, probeWanted};
+ghost use Rattle.probing.specs.Calls.{namedIn, runIn, running, outcomeOf, checkIn, checking, orderIn, ordering, outSpan, outwardIn, outgoing, probeIn, probing, nameIn, naming};
+ghost use Rattle.probing.specs.Answers.{ranAnswer, probedAnswer, Orders, outwardAnswer, namedAnswer};
+ghost use Rattle.planner.specs.Planning.{planningAt};
+
+// How the run of a packet comes out: it has ended, or it is lost.
+pub enum Ran {
+    Ended,
+    Lost,
+    Refused(Refusal),
+}
+
+// What became of a probe, as it is given to a search.
+pub enum Probed {
+    Outcome(Outcome),
+    Refused(Refusal),
+}
+
+// The links of a plant by first crossing. At a refusal there is none.
+pub struct Ordered {
+    pub verdict: Verdict,
+    pub order: Order,
+}
+
+// Where the outward labels of a probe stand in the lent trail: `order::stretch` and `order::front` hand back the two parts of it.
+pub enum Outward {
+    Parts(Span),
+    Refused(Refusal),
+}
+
+// What a search names: the link that is down, none since all links are up, or nothing yet since it has not ended.
+pub enum Named {
+    Link(u16),
+    AllUp,
+    Open,
+    Refused(Refusal),
+}
+
+// ---- the refusals
+
+// The plant of a listing that has the named switch: refusals 1 to 9, then 11.
+pub fn plan_at(listing: &[u8], switch: u8) -> Decoded
+    ensures { λ r. ⌜ Reads (planningAt (now (listing .entry)) switch) r ⌝ }
+    ensures { λ r. ⌜ Ready r ⌝ }
+{
+    let d = planner::plan(listing);
+    let v = d.verdict;
+    match v {
+        Verdict::Sound => {
+            if switch < d.plant.switches {
+                return d;
+            }
+            listing::refused_reading(Refusal::SwitchOutOfRange)
+        }
+        Verdict::Refused(_) => d,
+    }
+}
+
+// Refusal 12: is the lent trail, in its whole length, another than the plant's?
+fn differs(p: Plant, used: [bool; LABELS], trail: &[u16]) -> bool
+    requires { ⌜ Planned p used ⌝ }
+    ensures { λ r. ⌜ r ≡ trailDiffers p (now (trail .entry)) ⌝ }
+{
+    let t = distance::distances(p, used);
+    let via = trail::first_hops(p, used, t);
+    let same = trail::same_trail(p, used, t, &via, trail);
+    !same
+}
+
+// Refusal 13: are there fewer state bytes than links?
+fn too_few(states: &[u8], links: u16) -> bool
+    ensures { λ r. ⌜ r ≡ statesShort links (now (states .entry)) ⌝ }
+{
+    states.len() < links as usize
+}
+
+// Refusal 14, in a call with a listing of so many links.
+fn unsound(search: Search, links: u16) -> bool
+    ensures { λ r. ⌜ r ≡ searchUnsound links search ⌝ }
+{
+    if !search.sound() {
+        return true;
+    }
+    !search.sound_for(links)
+}
+
+// The probe that a search wants over so many links: refusals 14 and 15.
+fn probe_wanted(search: Search, links: u16) -> Asked
+    ensures { λ r. ⌜ askedOf r ≡ probeWanted links search ⌝ }
+{
+    if unsound(search, links) {
+        return Asked::Refused(Refusal::SearchUnsound);
+    }
+    search.ask()
+}
+
+// ---- a packet that is no probe
+
+// A packet runs in a plant, under the forwarding table alone: refusal 13.
+fn run_in(p: Plant, switch: u8, labels: &[u16], states: &[u8]) -> Ran
+    requires { ⌜ Sound p ⌝ }
+    ensures { λ r. ⌜ ranAnswer r ≡ runIn p switch (now (labels .entry)) (now (states .entry)) ⌝ }
+{
+    if too_few(states, p.count) {
+        return Ran::Refused(Refusal::StatesShort);
+    }
+    let used = graph::arcs_in_use(p);
+    let e = packet::run_on(p, used, states, packet::injected(switch), labels);
+    if e.ended { Ran::Ended } else { Ran::Lost }
+}
+
+// The run of a packet that is injected at a switch and is no probe: refusals 1 to 9, 11 and 13.
+pub fn run(listing: &[u8], switch: u8, labels: &[u16], states: &[u8]) -> Ran
+    ensures { λ r. ⌜ ranAnswer r ≡ running (now (listing .entry)) switch (now (labels .entry)) (now (states .entry)) ⌝ }
+{
+    let d = plan_at(listing, switch);
+    let v = d.verdict;
+    match v {
+        Verdict::Sound => {
+            let p = d.plant;
+            run_in(p, switch, labels, states)
+        }
+        Verdict::Refused(k) => Ran::Refused(k),
+    }
+}
+
+// ---- the full check
+
+fn outcome_of(e: End) -> Outcome
+    ensures { λ r. ⌜ r ≡ outcomeOf (endOf e) ⌝ }
+{
+    if e.ended {
+        Outcome::Returned
+    } else {
+        Outcome::Lost
+    }
+}
+
+// The full check in a plant that can be planned: refusals 12 and 13.
+fn check_in(p: Plant, switch: u8, trail: &[u16], states: &[u8]) -> Probed
+    requires { ⌜ Sound p × Connected p ⌝ }
+    ensures { λ r. ⌜ probedAnswer r ≡ checkIn p switch (now (trail .entry)) (now (states .entry)) ⌝ }
+{
+    let used = graph::arcs_in_use(p);
+    if differs(p, used, trail) {
+        return Probed::Refused(Refusal::TrailDiffers);
+    }
+    if too_few(states, p.count) {
+        return Probed::Refused(Refusal::StatesShort);
+    }
+    let e = packet::full_check(p, used, states, switch, trail);
+    Probed::Outcome(outcome_of(e))
+}
+
+// The full check from a switch: refusals 1 to 9, 11, 12 and 13.
+pub fn full_check(listing: &[u8], switch: u8, trail: &[u16], states: &[u8]) -> Probed
+    ensures { λ r. ⌜ probedAnswer r ≡ checking (now (listing .entry)) switch (now (trail .entry)) (now (states .entry)) ⌝ }
+{
+    let d = plan_at(listing, switch);
+    let v = d.verdict;
+    match v {
+        Verdict::Sound => {
+            let p = d.plant;
+            check_in(p, switch, trail, states)
+        }
+        Verdict::Refused(k) => Probed::Refused(k),
+    }
+}
+
+// ---- the order of links
+
+fn refused_order(k: Refusal) -> Ordered
+    ensures { λ r. ⌜ Orders (refused (numberOf k)) r ⌝ }
+{
+    let links = [0u16; Plant::MAX_LINKS];
+    let order = Order { count: 0, links };
+    Ordered {
+        verdict: Verdict::Refused(k),
+        order,
+    }
+}
+
+// The order of links in a plant that can be planned: refusal 12.
+fn order_in(p: Plant, switch: u8, trail: &[u16]) -> Ordered
+    requires { ⌜ Sound p × Connected p ⌝ }
+    ensures { λ r. ⌜ Orders (orderIn p switch (now (trail .entry))) r ⌝ }
+{
+    if differs(p, graph::arcs_in_use(p), trail) {
+        return refused_order(Refusal::TrailDiffers);
+    }
+    let order = order::order_of(p, switch, trail);
+    Ordered {
+        verdict: Verdict::Sound,
+        order,
+    }
+}
+
+// The links by first crossing from the place of a switch: refusals 1 to 9, 11 and 12.
+pub fn order_of_links(listing: &[u8], switch: u8, trail: &[u16]) -> Ordered
+    ensures { λ r. ⌜ Orders (ordering (now (listing .entry)) switch (now (trail .entry))) r ⌝ }
+{
+    let d = plan_at(listing, switch);
+    let v = d.verdict;
+    match v {
+        Verdict::Sound => {
+            let p = d.plant;
+            order_in(p, switch, trail)
+        }
+        Verdict::Refused(k) => refused_order(k),
+    }
+}
+
+// ---- the outward labels of the probe wanted
+
+// Where the outward labels of probe m stand in the trail: the whole ring, if m is the number of links.
+fn span_in(p: Plant, switch: u8, trail: &[u16], m: u16) -> Span
+    requires { ⌜ Sound p × Connected p ⌝ }
+    requires { ⌜ now trail ≡ trailOf p ⌝ }
+    requires { ⌜ 1 ≤ m ⌝ }
+    requires { ⌜ m ≤ p .count ⌝ }
+    ensures { λ r. ⌜ r ≡ outSpan p switch m ⌝ }
+{
+    if m == p.count {
+        return order::ring_span(p, switch, trail);
+    }
+    order::span_of(p, switch, trail, m)
+}
+
+// The outward labels in a plant that can be planned: refusals 12, 14 and 15.
+fn outward_in(p: Plant, switch: u8, trail: &[u16], search: Search) -> Outward
+    requires { ⌜ Sound p × Connected p ⌝ }
+    ensures { λ r. ⌜ outwardAnswer r ≡ outwardIn p switch (now (trail .entry)) search ⌝ }
+{
+    if differs(p, graph::arcs_in_use(p), trail) {
+        return Outward::Refused(Refusal::TrailDiffers);
+    }
+    match probe_wanted(search, p.count) {
+        Asked::Probe(m) => Outward::Parts(span_in(p, switch, trail, m)),
+        Asked::Refused(k) => Outward::Refused(k),
+    }
+}
+
+// Where the outward labels of the probe that a search wants stand in the lent trail: refusals 1 to 9, 11, 12, 14 and 15.
+pub fn outward_labels(listing: &[u8], switch: u8, trail: &[u16], search: Search) -> Outward
+    ensures { λ r. ⌜ outwardAnswer r ≡ outgoing (now (listing .entry)) switch (now (trail .entry)) search ⌝ }
+{
+    let d = plan_at(listing, switch);
+    let v = d.verdict;
+    match v {
+        Verdict::Sound => {
+            let p = d.plant;
+            outward_in(p, switch, trail, search)
+        }
+        Verdict::Refused(k) => Outward::Refused(k),
+    }
+}
+
+// ---- the run of the probe wanted
+
+// The run of the probe wanted in a plant that can be planned: refusals 12 to 15.
+fn probe_in(p: Plant, switch: u8, trail: &[u16], states: &[u8], search: Search) -> Probed
+    requires { ⌜ Sound p × Connected p ⌝ }
+    ensures { λ r. ⌜ probedAnswer r ≡ probeIn p switch (now (trail .entry)) (now (states .entry)) search ⌝ }
+{
+    let used = graph::arcs_in_use(p);
+    if differs(p, used, trail) {
+        return Probed::Refused(Refusal::TrailDiffers);
+    }
+    if too_few(states, p.count) {
+        return Probed::Refused(Refusal::StatesShort);
+    }
+    match probe_wanted(search, p.count) {
+        Asked::Probe(m) => {
+            let e = packet::probe_run(p, used, states, switch, trail, m);
+            Probed::Outcome(outcome_of(e))
+        }
+        Asked::Refused(k) => Probed::Refused(k),
+    }
+}
+
+// The run of the probe that a search wants: refusals 1 to 9 and 11 to 15.
+pub fn run_probe(listing: &[u8], switch: u8, trail: &[u16], states: &[u8], search: Search) -> Probed
+    ensures { λ r. ⌜ probedAnswer r ≡ probing (now (listing .entry)) switch (now (trail .entry)) (now (states .entry)) search ⌝ }
+{
+    let d = plan_at(listing, switch);
+    let v = d.verdict;
+    match v {
+        Verdict::Sound => {
+            let p = d.plant;
+            probe_in(p, switch, trail, states, search)
+        }
+        Verdict::Refused(k) => Probed::Refused(k),
+    }
+}
+
+// ---- the link named
+
+// What a sound search names in a plant with this trail.
+fn name_of(p: Plant, switch: u8, trail: &[u16], search: Search) -> Named
+    requires { ⌜ Sound p × Connected p ⌝ }
+    requires { ⌜ now trail ≡ trailOf p ⌝ }
+    requires { ⌜ Good (p .count) search ⌝ }
+    ensures { λ r. ⌜ namedAnswer r ≡ given (namedIn (orderOf p (trailOf p) switch) search) ⌝ }
+{
+    match search {
+        Search::Checking(_) => Named::Open,
+        Search::Halving(_, _) => Named::Open,
+        Search::AllUp => Named::AllUp,
+        Search::Down(place) => {
+            let o = order::order_of(p, switch, trail);
+            let j = (place - 1) as usize;
+            Named::Link(o.links[j])
+        }
+    }
+}
+
+// What a search names in a plant that can be planned: refusals 12 and 14.
+fn name_in(p: Plant, switch: u8, trail: &[u16], search: Search) -> Named
+    requires { ⌜ Sound p × Connected p ⌝ }
+    ensures { λ r. ⌜ namedAnswer r ≡ nameIn p switch (now (trail .entry)) search ⌝ }
+{
+    if differs(p, graph::arcs_in_use(p), trail) {
+        return Named::Refused(Refusal::TrailDiffers);
+    }
+    if unsound(search, p.count) {
+        return Named::Refused(Refusal::SearchUnsound);
+    }
+    name_of(p, switch, trail, search)
+}
+
+// The link that a search names from a switch: refusals 1 to 9, 11, 12 and 14.
+pub fn link_named(listing: &[u8], switch: u8, trail: &[u16], search: Search) -> Named
+    ensures { λ r. ⌜ namedAnswer r ≡ naming (now (listing .entry)) switch (now (trail .entry)) search ⌝ }
+{
+    let d = plan_at(listing, switch);
+    let v = d.verdict;
+    match v {
+        Verdict::Sound => {
+            let p = d.plant;
+            name_in(p, switch, trail, search)
+        }
+        Verdict::Refused(k) => Named::Refused(k),
+    }
+}
