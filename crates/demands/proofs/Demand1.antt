@@ -17,14 +17,19 @@ use Rattle.listing.specs.Conditions.{conditions, plantIn, writerConditions}
 use Rattle.listing.proofs.Refusing.{decode-refuses, decode-gives, refusal-numbers}
 use Rattle.listing.proofs.RoundTrip.{decode-sound, decode-answers}
 use Rattle.listing.proofs.WriteRoundTrip.{written-refuses, written-gives, buffer-refused}
-use Rattle.walks.specs.Graph.{Connected, connected}
+use Rattle.walks.specs.Graph.{Connected, connected, liveLinks}
 use Rattle.walks.specs.Tests.{connected-is}
 use Rattle.walks.specs.Valid.{sound-valid}
-use Rattle.planner.specs.Planning.{notConnected, joined, planning}
+use Rattle.planner.specs.Planning.{notConnected, joined, planning, switchOutOfRange, planningAt}
 use Rattle.planner.specs.Calls.{rewriting, overlaid, rereading, tabling, summing, placesShort, laying, laidOut, trailing, trailedBy}
 use Rattle.planner.proofs.Plans.{plan-joined, plan-apart, plan-refused, plan-ready}
 use Rattle.quantity.specs.Quantity.{orderQuantity}
-use Rattle.search.specs.Search.{ask, give}
+use Rattle.search.specs.Search.{ended, wanted, ask, give}
+use Rattle.routes.specs.Plants.{trailOf}
+use Rattle.rings.specs.Rules.{upBy}
+use Rattle.rings.specs.Injection.{probeRun}
+use Rattle.probing.specs.Conditions.{trailDiffers, statesShort, searchUnsound, probeWanted}
+use Rattle.probing.specs.Calls.{runIn, running, outcomeOf, checkIn, checking, orderIn, ordering, outSpan, outwardIn, outgoing, probeIn, probing, nameIn, naming}
 use Rattle.demands.specs.Calls.{beginningOn, beginning, performingOn, performing}
 use Rattle.demands.specs.Demands.{Answers, planningThen, AnswersPlanning, Demand1}
 
@@ -71,6 +76,15 @@ module _ (s : List ℕ) where
       rw (then-assoc (decode s) joined f)
       (after-reading (λ p. joined p >>= f) ((9, notConnected (plantIn s)) ∷ cs) r
       (trying-then ((9, notConnected (plantIn s)) ∷ []) (given (plantIn s)) f ∙ ap (refuse 9 (notConnected (plantIn s))) e))
+
+  -- after 11 too
+  after-switch : {A : Type 0} (x : ℕ) (f : Plant → Answer A) (cs : Conditions) (r : A) → f (plantIn s) ≡ trying cs (given r)
+      → Answers (planningThen s ((11, switchOutOfRange (plantIn s) x) ∷ cs)) (planningAt s x >>= f)
+  unfolding planningAt
+  after-switch x f cs r e =
+      rw (then-assoc (planning s) (λ p. refuse 11 (switchOutOfRange p x) (given p)) f)
+      (after-planning (λ p. refuse 11 (switchOutOfRange p x) (given p) >>= f) ((11, switchOutOfRange (plantIn s) x) ∷ cs) r
+      (trying-then ((11, switchOutOfRange (plantIn s) x) ∷ []) (given (plantIn s)) f ∙ ap (refuse 11 (switchOutOfRange (plantIn s) x)) e))
 
   -- ---- planning
 
@@ -131,8 +145,14 @@ trail-kept s b n e = go (planning s) e
     go (given p) f = kept p (placesShort p b) refl f
     go (refused m) f = refl
 
+-- 14, then 15, then what the probe wanted gives
+wanted-then : {A : Type 0} (t u : Bool) (m : ℕ) (f : ℕ → A) → (refuse 14 t (refuse 15 u (given m)) >>= λ k. given (f k)) ≡ refuse 14 t (refuse 15 u (given (f m)))
+wanted-then true u m f = refl
+wanted-then false true m f = refl
+wanted-then false false m f = refl
+
 pub demand-1 : Demand1
-unfolding rewriting tabling summing trailing laying beginning beginningOn performing performingOn ask give orderQuantity
+unfolding running runIn checking checkIn ordering orderIn outgoing outwardIn probing probeIn probeWanted naming nameIn rewriting tabling summing trailing laying beginning beginningOn performing performingOn ask give orderQuantity
 demand-1 = record {
   read = decode-answers;
   rewrite = λ s b. after-reading s _ _ _ refl;
@@ -142,6 +162,17 @@ demand-1 = record {
   lay-trail = λ s b. after-planning s _ _ _ refl;
   new-search = λ s x. after-planning s _ _ _ refl;
   perform = λ s x cs. after-planning s _ _ _ refl;
+  run = λ s x labels states. after-switch s x _ _ _ refl;
+  full-check = λ s x w states. after-switch s x _ _ _ refl;
+  order-of-links = λ s x w. after-switch s x _ _ _ refl;
+  outward-labels = λ s x w q.
+      after-switch s x _ _ _
+      (ap (refuse 12 (trailDiffers (plantIn s) w)) (wanted-then (searchUnsound (liveLinks (plantIn s)) q) (ended q) (wanted q) (λ m. outSpan (plantIn s) x m)));
+  run-probe = λ s x w states q.
+      after-switch s x _ _ _
+      (ap (λ a. refuse 12 (trailDiffers (plantIn s) w) (refuse 13 (statesShort (plantIn s .count) states) a))
+      (wanted-then (searchUnsound (liveLinks (plantIn s)) q) (ended q) (wanted q) (λ m. outcomeOf (probeRun (plantIn s) (trailOf (plantIn s)) x (upBy states) m))));
+  link-named = λ s x w q. after-switch s x _ _ _ refl;
   write = write-answers;
   reread = reread-answers;
   ask = λ s. tried _ _ (ask s) refl;

@@ -36,6 +36,8 @@ use Rattle.search.specs.declared.Progress.{Progress}
 use Rattle.search.specs.Search.{newSearch, sound, ended, ask, give}
 use Rattle.search.specs.Calls.{Call, perform, begun, TrueCalls}
 use Rattle.search.specs.Limit.{limit}
+use Rattle.probing.specs.Conditions.{trailDiffers, statesShort, searchUnsound}
+use Rattle.probing.specs.Calls.{running, checking, ordering, outgoing, probing, naming}
 use Rattle.demands.specs.Calls.{beginning, performing}
 
 -- ---- demand 1: a call answers a result, or a refusal exactly under its condition
@@ -66,6 +68,21 @@ pub record Demand1 : Type 0 where
   pub lay-trail : (s b : List ℕ) → Answers (planningThen s ((10, placesShort (plantIn s) b) ∷ [])) (trailing s b)
   pub new-search : (s : List ℕ) (x : ℕ) → Answers (planningThen s ((11, switchOutOfRange (plantIn s) x) ∷ [])) (beginning s x)
   pub perform : (s : List ℕ) (x : ℕ) (cs : List Call) → Answers (planningThen s ((11, switchOutOfRange (plantIn s) x) ∷ [])) (performing s x cs)
+  -- with labels, link states, a lent trail w, a search q
+  pub run : (s : List ℕ) (x : ℕ) (labels states : List ℕ)
+      → Answers (planningThen s ((11, switchOutOfRange (plantIn s) x) ∷ (13, statesShort (plantIn s .count) states) ∷ [])) (running s x labels states)
+  pub full-check : (s : List ℕ) (x : ℕ) (w states : List ℕ)
+      → Answers (planningThen s ((11, switchOutOfRange (plantIn s) x) ∷ (12, trailDiffers (plantIn s) w) ∷ (13, statesShort (plantIn s .count) states) ∷ [])) (checking s x w states)
+  pub order-of-links : (s : List ℕ) (x : ℕ) (w : List ℕ)
+      → Answers (planningThen s ((11, switchOutOfRange (plantIn s) x) ∷ (12, trailDiffers (plantIn s) w) ∷ [])) (ordering s x w)
+  pub outward-labels : (s : List ℕ) (x : ℕ) (w : List ℕ) (q : Search)
+      → Answers (planningThen s ((11, switchOutOfRange (plantIn s) x) ∷ (12, trailDiffers (plantIn s) w) ∷ (14, searchUnsound (liveLinks (plantIn s)) q) ∷ (15, ended q) ∷ [])) (outgoing s x w q)
+  pub run-probe : (s : List ℕ) (x : ℕ) (w states : List ℕ) (q : Search)
+      → Answers
+      (planningThen s ((11, switchOutOfRange (plantIn s) x) ∷ (12, trailDiffers (plantIn s) w) ∷ (13, statesShort (plantIn s .count) states) ∷ (14, searchUnsound (liveLinks (plantIn s)) q) ∷ (15, ended q) ∷ []))
+      (probing s x w states q)
+  pub link-named : (s : List ℕ) (x : ℕ) (w : List ℕ) (q : Search)
+      → Answers (planningThen s ((11, switchOutOfRange (plantIn s) x) ∷ (12, trailDiffers (plantIn s) w) ∷ (14, searchUnsound (liveLinks (plantIn s)) q) ∷ [])) (naming s x w q)
   -- calls that are given a plant, calls to a search, and the order quantity
   pub write : (p : Plant) (b : List ℕ) → Answers (writerConditions p b) (written p b)
   pub reread : (p : Plant) (b : List ℕ) → Answers (writerConditions p b) (rereading p b)
