@@ -1,7 +1,7 @@
 -- Theorem D for every sound connected plant: its trail is a closed walk from the start, crosses exactly the arcs in use, has at most `maxHops` hops, and is
 -- the trail leg by leg. Assumes a sound connected plant.
 use mathlib.Core.Path.{_≡_}
-use Prim.Native.Nat.{_+_, _-_, _*_, _≤_}
+use Prim.Native.Nat.{ℕ, _+_, _-_, _*_, _≤_, _<_}
 use native.Mathlib.Omega.{arith}
 use native.Mathlib.Nat.{mul-le-mul-right}
 use lib.ListN.{length}
@@ -14,7 +14,7 @@ use Rattle.walks.specs.Visited.{visited-all}
 use Rattle.walks.specs.Orientation.{used-arc, strong}
 use Rattle.walks.specs.Counting.{arcs-in-use-all, few-bridges}
 use Rattle.routes.specs.Meaning.{Tour}
-use Rattle.routes.specs.Plants.{trailOf, AllJoined}
+use Rattle.routes.specs.Plants.{distanceOf, trailOf, AllJoined}
 use Rattle.routes.proofs.Plants as plants
 use Rattle.trail.specs.Trails.{IsTrail, legsOf}
 use Rattle.walks.specs.Valid.{sound-valid}
@@ -26,6 +26,10 @@ module _ (p : Plant) (ok : Sound p) (con : Connected p) where
   -- theorem A
   pub all-joined : AllJoined p
   all-joined x y h i = strong p valid x y (visited-all p valid con x h) (visited-all p valid con y i)
+
+  -- every distance over arcs in use is at most S - 1
+  pub distance-below : (x y : ℕ) → x < p .switches → y < p .switches → distanceOf p x y < p .switches
+  distance-below x y h i = plants.distance-below p valid all-joined x y h i
 
   -- theorem B, within the limits
   few-arcs : arcsUsed p ≤ maxLinks + (maxSwitches - 1)
