@@ -1,15 +1,16 @@
 // Prints the plan of a listing to standard output: a line of numbers, the forwarding table and the trail; or its refusal. The text is made by crate `text`,
 // whose contracts say the bytes.
 use libc::STDOUT_FILENO;
+use listing::Verdict;
 use planner::Numbers;
-use planner::Summary;
-use planner::Trailed;
 use plant::Plant;
 use plant::Refusal;
 use table::Rule;
 use table::Table;
 ghost use Prim.Native.Nat.{_≤_};
 ghost use lib.ListN.{length};
+ghost use Rattle.model.specs.Sound.{Sound};
+ghost use Rattle.walks.specs.Graph.{Connected};
 
 // A place for the longest line of numbers.
 const LINE: usize = 80;
@@ -85,23 +86,40 @@ fn print_trail(labels: &[u16], hops: usize) {
     io::write_all(STDOUT_FILENO, b"\n");
 }
 
-fn print_plan(listing: &[u8], n: Numbers) {
-    print_numbers(n);
-    let t = planner::forwarding_table(listing);
-    let table = t.table;
-    print_table(table);
+// The plan of a plant. The bridges, the arcs in use and the distances are found once.
+fn print_plant(p: Plant)
+    requires { ⌜ Sound p × Connected p ⌝ }
+{
+    let b = graph::bridges(p);
+    let used = graph::arcs_with(p, b);
+    let t = distance::distances(p, used);
+    let via = trail::first_hops(p, used, t);
+    let hops = trail::hops(p, used, t, &via);
+    let bridges = graph::count_set(&b);
+    let rules = graph::count_set(&used);
+    print_numbers(Numbers {
+        switches: p.switches,
+        links: p.count,
+        bridges: bridges as u16,
+        rules: rules as u16,
+        hops,
+    });
+    print_table(table::table_of(p, used));
     let mut labels = [0u16; Plant::MAX_HOPS];
-    match planner::lay_trail(listing, &mut labels) {
-        Trailed::Hops(hops) => print_trail(&labels, hops as usize),
-        Trailed::Refused(k) => print_refusal(k),
-    }
+    trail::fill(p, used, t, &via, &mut labels);
+    print_trail(&labels, hops as usize);
 }
 
 // The plan of a listing, or its refusal.
 pub fn print_listing(listing: &[u8]) {
-    match planner::summarize(listing) {
-        Summary::Plant(numbers) => print_plan(listing, numbers),
-        Summary::Refused(k) => print_refusal(k),
+    let d = planner::plan(listing);
+    let v = d.verdict;
+    match v {
+        Verdict::Sound => {
+            let p = d.plant;
+            print_plant(p);
+        }
+        Verdict::Refused(k) => print_refusal(k),
     }
 }
 

@@ -1,13 +1,13 @@
 -- Answers by what is known: after an answer that is given or refused, at a condition that holds or does not, and the plant of a listing at a named switch.
 -- Assumes nothing.
-use mathlib.Core.Path.{_≡_, refl, sym, ap, _∙_, subst}
+use mathlib.Core.Path.{_≡_, refl, sym, _∙_, subst}
 use mathlib.Core.Bool.{Bool, true, false}
 use mathlib.Core.List.{List}
 use Prim.Native.Nat.{ℕ, _≤_, _<_}
 use borrow.Author.Tests.{le-leb, lt-leb}
 use Rattle.plant.specs.declared.Plant.{Plant}
 use Rattle.plant.specs.declared.Refusal.{Refusal}
-use Rattle.plant.specs.Refusals.{Answer, given, refused, refuse, _>>=_, numberOf}
+use Rattle.plant.specs.Refusals.{Answer, given, refused, refuse, _>>=_}
 use Rattle.model.specs.Answers.{given-refused}
 use Rattle.listing.specs.declared.Decoded.{Decoded}
 use Rattle.listing.specs.declared.Verdict.the-variants as verdict
@@ -28,8 +28,8 @@ module _ {A : Type 0} (n : ℕ) (c : Bool) (a : Answer A) where
 -- ---- after an answer
 
 module _ {A B : Type 0} (a : Answer A) (f : A → Answer B) where
-  pub after-given : (x : A) → a ≡ given x → f x ≡ (a >>= f)
-  after-given x e = rw e
+  pub after-given : (x : A) (b : Answer B) → a ≡ given x → b ≡ f x → b ≡ (a >>= f)
+  after-given x b e q = rw e q
 
   pub after-refused : (n : ℕ) → a ≡ refused n → refused n ≡ (a >>= f)
   after-refused n e = rw e

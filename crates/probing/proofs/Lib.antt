@@ -2,4 +2,6 @@ pub mod Answering
 pub mod Lent
 pub mod Searching
 pub mod Results
-pub mod Meaning
+pub mod StateBytes
+pub mod OutwardLabels
+pub mod NamedLinks

@@ -1,14 +1,12 @@
 -- What each call answers in a plant where nothing is refused, from what the code computes of a lent trail that is the plant's. Assumes nothing.
-use mathlib.Core.Path.{_≡_, refl, sym, ap, _∙_, subst}
+use mathlib.Core.Path.{_≡_, sym, ap, _∙_, subst}
 use mathlib.Core.Bool.{Bool, false}
 use mathlib.Core.List.{List}
 use Prim.Native.Nat.{ℕ, _-_, _*_}
-use lib.Dec.{eqb}
 use lib.ListN.{getD}
 use borrow.Author.Tests.{eq-eqb, ne-eqb}
-use Rattle.lists.specs.Tests.{choose}
 use Rattle.plant.specs.declared.Plant.{Plant}
-use Rattle.plant.specs.Refusals.{Answer, given, refused}
+use Rattle.plant.specs.Refusals.{Answer, given}
 use Rattle.model.specs.Limits.{maxLinks}
 use Rattle.walks.specs.Arcs.{head}
 use Rattle.walks.specs.Graph.{used}

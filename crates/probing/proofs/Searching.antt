@@ -1,7 +1,7 @@
 -- A search in a call with a listing: refusal 14, and the probe wanted. Assumes nothing.
-use mathlib.Core.Path.{_≡_, refl, sym, ap, _∙_, subst}
+use mathlib.Core.Path.{_≡_, sym, ap, _∙_, subst}
 use mathlib.Core.Bool.{Bool, true, false, not, _&&_}
-use Prim.Native.Nat.{ℕ, _≤_, _<_}
+use Prim.Native.Nat.{ℕ, _≤_}
 use borrow.Author.Tests.{not-false}
 use Rattle.lists.specs.Tests.{and-true}
 use Rattle.plant.specs.Refusals.{given, refused, refuse, numberOf}

@@ -25,7 +25,7 @@ ghost use Rattle.search.specs.Search.{askedOf};
 ghost use Rattle.search.specs.Sound.{Good};
 ghost use Rattle.planner.specs.Answers.{Ready};
 ghost use Rattle.probing.specs.Conditions.{trailDiffers, statesShort, searchUnsound, probeWanted};
-ghost use Rattle.probing.specs.Calls.{namedIn, runIn, running, outcomeOf, checkIn, checking, orderIn, ordering, outSpan, outwardIn, outgoing, probeIn, probing, nameIn, naming};
+ghost use Rattle.probing.specs.Calls.{runIn, running, outcomeOf, checkIn, checking, orderIn, ordering, outSpan, outwardIn, outgoing, probeIn, probing, namedIn, nameIn, naming};
 ghost use Rattle.probing.specs.Answers.{ranAnswer, probedAnswer, Orders, outwardAnswer, namedAnswer};
 ghost use Rattle.planner.specs.Planning.{planningAt};
 

@@ -35,7 +35,8 @@ full-check-requires c κs =
     let d = c .before .before in
     let u = d .before .before in
     let s = u .before .before .before in
-    can-probe (s .args .p) (s .pre .0) _ _ (u .arcs-in-use .ensures) (states-enough _ _ (sym (c .before .too-few .ensures) ∙ c .if2 .left)) _ (lent-arcs (s .args .p) (s .pre .0) _ (s .pre .1) (trail-same _ _ (sym (d .before .differs .ensures) ∙ d .if1 .left)))
+    can-probe (s .args .p) (s .pre .0) _ _ (u .arcs-in-use .ensures) (states-enough _ _ (sym (c .before .too-few .ensures) ∙ c .if2 .left)) _
+    (lent-arcs (s .args .p) (s .pre .0) _ (s .pre .1) (trail-same _ _ (sym (d .before .differs .ensures) ∙ d .if1 .left)))
 
 outcome-of-requires : tie.Need-outcome-of-requires
 outcome-of-requires c κs = search needs
@@ -45,9 +46,12 @@ unfolding checkIn
 returns-3 c =
     let b = c .before .before in
     let d = b .before .before in
-    let s = d .before .before .before .before .before in
-    fails 12 _ _ _ (sym (d .before .differs .ensures) ∙ d .if1 .left) (fails 13 _ _ _ (sym (b .before .too-few .ensures) ∙ b .if2 .left)
-    (checked (s .args .p) (s .args .trail .now) (s .args .switch) (trail-same _ _ (sym (d .before .differs .ensures) ∙ d .if1 .left)) (upBy (s .args .states .now)) (endOf (c .before .full-check .result)) _ (c .outcome-of .ensures) (c .before .full-check .ensures)))
+    let s = d .before .before .before .before .before .args in
+    let same = sym (d .before .differs .ensures) ∙ d .if1 .left in
+    fails 12 _ _ _ same
+    (fails 13 _ _ _ (sym (b .before .too-few .ensures) ∙ b .if2 .left)
+    (checked (s .p) (s .trail .now) (s .switch) (trail-same _ _ same) (upBy (s .states .now)) (endOf (c .before .full-check .result)) _ (c .outcome-of .ensures)
+    (c .before .full-check .ensures)))
 
 pub check-in-spec : {M : Type 1} → statement M
 check-in-spec =

@@ -1,5 +1,4 @@
 -- The refusals of the plant, then what is answered in it. Assumes nothing.
-use mathlib.Core.Path.{_∙_}
 use Rattle.planner.proofs.Plans.{read-sound, read-refused}
 use Rattle.probing.specs.Calls.{naming}
 use Rattle.probing.proofs.Answering.{after-given, after-refused}
@@ -23,7 +22,7 @@ returns : tie.Need-returns
 unfolding naming
 returns c =
     let m = c .before .before in
-    c .name-in .ensures ∙ after-given _ _ _ (read-sound _ _ (m .before .before .plan-at .ensures .0) (m .enum-told .given .1))
+    after-given _ _ _ _ (read-sound _ _ (m .before .before .plan-at .ensures .0) (m .enum-told .given .1)) (c .name-in .ensures)
 
 returns-2 : tie.Need-returns-2
 unfolding naming

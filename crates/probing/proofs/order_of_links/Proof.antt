@@ -1,4 +1,5 @@
 -- The refusals of the plant, then what is answered in it. Assumes nothing.
+use mathlib.Core.Path.{refl}
 use Rattle.planner.proofs.Plans.{read-sound, read-refused}
 use Rattle.probing.specs.Calls.{ordering}
 use Rattle.probing.proofs.Answering.{after-given, after-refused}
@@ -26,7 +27,7 @@ returns : tie.Need-returns
 unfolding ordering
 returns c =
     let m = c .before .before in
-    orders-as _ _ _ (after-given _ _ _ (read-sound _ _ (m .before .before .plan-at .ensures .0) (m .enum-told .given .1))) (c .order-in .ensures)
+    orders-as _ _ _ (after-given _ _ _ _ (read-sound _ _ (m .before .before .plan-at .ensures .0) (m .enum-told .given .1)) refl) (c .order-in .ensures)
 
 returns-2 : tie.Need-returns-2
 unfolding ordering

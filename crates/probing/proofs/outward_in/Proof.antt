@@ -43,7 +43,8 @@ returns-2 c =
     let a = n .before .before in
     let d = a .before in
     let s = d .before .before .before .before in
-    fails 12 _ _ _ (sym (d .before .differs .ensures) ∙ d .if1 .left) (ap given (c .span-in .ensures) ∙ after-given _ _ _ (probe-given (s .args .p) _ _ (a .probe-wanted .ensures) _ (n .m .given .1)))
+    fails 12 _ _ _ (sym (d .before .differs .ensures) ∙ d .if1 .left)
+    (after-given _ _ _ _ (probe-given (s .args .p) _ _ (a .probe-wanted .ensures) _ (n .m .given .1)) (ap given (c .span-in .ensures)))
 
 returns-3 : tie.Need-returns-3
 unfolding outwardIn
@@ -52,7 +53,8 @@ returns-3 c =
     let a = n .before .before in
     let d = a .before in
     let s = d .before .before .before .before in
-    fails 12 _ _ _ (sym (d .before .differs .ensures) ∙ d .if1 .left) (after-refused _ _ _ (probe-refused (s .args .p) _ _ (a .probe-wanted .ensures) _ (n .k .given .1)))
+    fails 12 _ _ _ (sym (d .before .differs .ensures) ∙ d .if1 .left)
+    (after-refused _ _ _ (probe-refused (s .args .p) _ _ (a .probe-wanted .ensures) _ (n .k .given .1)))
 
 pub outward-in-spec : {M : Type 1} → statement M
 outward-in-spec =

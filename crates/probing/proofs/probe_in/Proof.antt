@@ -43,7 +43,8 @@ probe-run-requires c κs =
     let d = b .before .before in
     let u = d .before .before in
     let s = u .before .before .before in (
-      can-probe (s .args .p) (s .pre .0) _ _ (u .arcs-in-use .ensures) (states-enough _ _ (sym (b .before .too-few .ensures) ∙ b .if2 .left)) _ (lent-arcs (s .args .p) (s .pre .0) _ (s .pre .1) (trail-same _ _ (sym (d .before .differs .ensures) ∙ d .if1 .left))),
+      can-probe (s .args .p) (s .pre .0) _ _ (u .arcs-in-use .ensures) (states-enough _ _ (sym (b .before .too-few .ensures) ∙ b .if2 .left)) _
+          (lent-arcs (s .args .p) (s .pre .0) _ (s .pre .1) (trail-same _ _ (sym (d .before .differs .ensures) ∙ d .if1 .left))),
       probe-among (s .args .p) _ _ (a .probe-wanted .ensures) _ (c .before .m .given .1),
     )
 
@@ -61,8 +62,11 @@ returns-3 c =
     let b = a .before in
     let d = b .before .before in
     let s = d .before .before .before .before .before in
-    fails 12 _ _ _ (sym (d .before .differs .ensures) ∙ d .if1 .left) (fails 13 _ _ _ (sym (b .before .too-few .ensures) ∙ b .if2 .left)
-    (probed (s .args .p) _ _ (trail-same _ _ (sym (d .before .differs .ensures) ∙ d .if1 .left)) _ _ (endOf (c .before .probe-run .result)) _ (c .outcome-of .ensures) (c .before .probe-run .ensures) ∙ after-given _ _ _ (probe-given (s .args .p) _ _ (a .probe-wanted .ensures) _ (n .m .given .1))))
+    let same = sym (d .before .differs .ensures) ∙ d .if1 .left in
+    fails 12 _ _ _ same
+    (fails 13 _ _ _ (sym (b .before .too-few .ensures) ∙ b .if2 .left)
+    (after-given _ _ _ _ (probe-given (s .args .p) _ _ (a .probe-wanted .ensures) _ (n .m .given .1))
+    (probed (s .args .p) _ _ (trail-same _ _ same) _ _ (endOf (c .before .probe-run .result)) _ (c .outcome-of .ensures) (c .before .probe-run .ensures))))
 
 returns-4 : tie.Need-returns-4
 unfolding probeIn
@@ -72,7 +76,9 @@ returns-4 c =
     let b = a .before in
     let d = b .before .before in
     let s = d .before .before .before .before .before in
-    fails 12 _ _ _ (sym (d .before .differs .ensures) ∙ d .if1 .left) (fails 13 _ _ _ (sym (b .before .too-few .ensures) ∙ b .if2 .left) (after-refused _ _ _ (probe-refused (s .args .p) _ _ (a .probe-wanted .ensures) _ (n .k .given .1))))
+    fails 12 _ _ _ (sym (d .before .differs .ensures) ∙ d .if1 .left)
+    (fails 13 _ _ _ (sym (b .before .too-few .ensures) ∙ b .if2 .left)
+    (after-refused _ _ _ (probe-refused (s .args .p) _ _ (a .probe-wanted .ensures) _ (n .k .given .1))))
 
 pub probe-in-spec : {M : Type 1} → statement M
 probe-in-spec =

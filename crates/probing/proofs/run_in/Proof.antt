@@ -34,14 +34,16 @@ unfolding runIn
 returns-2 c =
     let i = c .before .before in
     let b = i .before .before in
-    fails 13 _ _ _ (sym (b .before .too-few .ensures) ∙ b .if1 .left) (ran-as _ _ _ _ _ (i .before .arcs-in-use .ensures) (i .injected .result) (c .before .run-on .result) _ (i .injected .ensures) (c .before .run-on .ensures) (c .if2 .taken))
+    fails 13 _ _ _ (sym (b .before .too-few .ensures) ∙ b .if1 .left)
+    (ran-as _ _ _ _ _ (i .before .arcs-in-use .ensures) (i .injected .result) (c .before .run-on .result) _ (i .injected .ensures) (c .before .run-on .ensures) (c .if2 .taken))
 
 returns-3 : tie.Need-returns-3
 unfolding runIn
 returns-3 c =
     let i = c .before .before in
     let b = i .before .before in
-    fails 13 _ _ _ (sym (b .before .too-few .ensures) ∙ b .if1 .left) (ran-as _ _ _ _ _ (i .before .arcs-in-use .ensures) (i .injected .result) (c .before .run-on .result) _ (i .injected .ensures) (c .before .run-on .ensures) (c .if2 .left))
+    fails 13 _ _ _ (sym (b .before .too-few .ensures) ∙ b .if1 .left)
+    (ran-as _ _ _ _ _ (i .before .arcs-in-use .ensures) (i .injected .result) (c .before .run-on .result) _ (i .injected .ensures) (c .before .run-on .ensures) (c .if2 .left))
 
 pub run-in-spec : {M : Type 1} → statement M
 run-in-spec =

@@ -1,0 +1,80 @@
+-- The order of links has each link of the plant once, and a link that is named is one of the plant. Assumes a sound connected plant and one of its switches.
+use mathlib.Core.Path.{_≡_, sym, subst}
+use mathlib.Core.Logic.{_↔_}
+use mathlib.Core.Bool.{false}
+use mathlib.Core.List.{List}
+use Prim.Native.Nat.{ℕ, _-_, _<_}
+use native.Mathlib.Omega.{arith}
+use lib.Dec.{T}
+use lib.ListN.{length, take}
+use Rattle.lists.specs.Members.{In, Distinct, getD-in}
+use Rattle.plant.specs.declared.Plant.{Plant}
+use Rattle.plant.specs.Links.{live}
+use Rattle.plant.specs.Refusals.{given, refuse}
+use Rattle.model.specs.Sound.{Sound}
+use Rattle.model.specs.Answers.{given-given, refuse-given}
+use Rattle.walks.specs.Graph.{Connected, liveLinks}
+use Rattle.walks.specs.Valid.{sound-valid}
+use Rattle.routes.specs.Plants.{trailOf}
+use Rattle.rings.specs.Order.{nth}
+use Rattle.rings.specs.Injection.{orderOf}
+use Rattle.rings.specs.InjectionLaws.{order-once, order-links, order-length}
+use Rattle.order.specs.declared.Order.{Order}
+use Rattle.order.specs.Order.{listed}
+use Rattle.order.proofs.Gathering.{listed-links}
+use Rattle.search.specs.declared.Search.{Search}
+use Rattle.search.specs.declared.Search.the-variants.{Checking, Halving, AllUp, Down}
+use Rattle.search.specs.Sound.{Good}
+use Rattle.probing.specs.Conditions.{trailDiffers, searchUnsound}
+use Rattle.probing.specs.Calls.{orderIn, Name, link, none, unknown, namedIn, nameIn}
+use Rattle.probing.proofs.Lent.{trail-of}
+use Rattle.probing.proofs.Searching.{good-here}
+
+-- each link of the plant once, and no other
+pub record EachOnce (p : Plant) (o : Order) : Type 0 where
+  pub counted : o .count ≡ liveLinks p
+  pub once : Distinct (take (o .count) (o .links))
+  pub every : (l : ℕ) → In l (take (o .count) (o .links)) ↔ T (live p l)
+
+-- what is named is of the plant
+abbrev pub OfPlant : Plant → Name → Type 0
+OfPlant p (link l) = T (live p l)
+OfPlant p none = Unit
+OfPlant p unknown = Unit
+
+module _ (p : Plant) (ok : Sound p) (con : Connected p) (x : ℕ) (x-in : x < p .switches) where
+  pub order-each : (w : List ℕ) (o : Order) → orderIn p x w ≡ given o → EachOnce p o
+  unfolding orderIn listed
+  order-each w o e = subst (EachOnce p) (given-given (listed ls) o (refuse-given 12 (trailDiffers p w) (given (listed ls)) o e .1)) each
+    where
+      ls : List ℕ
+      ls = orderOf p (trailOf p) x
+
+      each : EachOnce p (listed ls)
+      each = record {
+        counted = order-length p (sound-valid p ok) con (trailOf p) (trail-of p ok con) x x-in;
+        once = subst Distinct (sym (listed-links ls)) (order-once p (trailOf p) x);
+        every = λ l. subst (λ (v : List ℕ). In l v ↔ T (live p l)) (sym (listed-links ls)) (order-links p (sound-valid p ok) con (trailOf p) (trail-of p ok con) x x-in l);
+      }
+
+  -- a link that is named is a link of the plant
+  pub named-live : (w : List ℕ) (q : Search) (n : Name) → nameIn p x w q ≡ given n → OfPlant p n
+  unfolding nameIn
+  named-live w q n e = subst (OfPlant p) (given-given (namedIn ls q) n (s .1)) (go q (good-here (liveLinks p) q (s .0)))
+    where
+      ls : List ℕ
+      ls = orderOf p (trailOf p) x
+
+      d : (trailDiffers p w ≡ false) × (refuse 14 (searchUnsound (liveLinks p) q) (given (namedIn ls q)) ≡ given n)
+      d = refuse-given 12 (trailDiffers p w) (refuse 14 (searchUnsound (liveLinks p) q) (given (namedIn ls q))) n e
+
+      s : (searchUnsound (liveLinks p) q ≡ false) × (given (namedIn ls q) ≡ given n)
+      s = refuse-given 14 (searchUnsound (liveLinks p) q) (given (namedIn ls q)) n (d .1)
+
+      go : (r : Search) → Good (liveLinks p) r → OfPlant p (namedIn ls r)
+      go (Checking count) g = tt
+      go (Halving low high) g = tt
+      go AllUp g = tt
+      go (Down k) g =
+          let inside : k - 1 < length ls = omega (arith, g, order-length p (sound-valid p ok) con (trailOf p) (trail-of p ok con) x x-in) in
+          order-links p (sound-valid p ok) con (trailOf p) (trail-of p ok con) x x-in (nth ls k) .0 (getD-in ls (k - 1) inside)
