@@ -1,4 +1,3 @@
-pub mod Lists
 pub mod Calling
 pub mod RulePages
 pub mod Searching

@@ -7,7 +7,7 @@ use native.Mathlib.Omega.{arith}
 use lib.Dec.{T}
 use lib.ListN.{length}
 use Rattle.lists.specs.Members.{In, Distinct}
-use Rattle.lists.specs.Numbers.{range, in-range, keep, keep-in, in-keep}
+use Rattle.lists.specs.Numbers.{range, in-range, keep, keep-in, in-keep, range-distinct, keep-distinct}
 use Rattle.plant.specs.declared.Plant.{Plant}
 use Rattle.model.specs.Sound.{Sound}
 use Rattle.walks.specs.Graph.{Connected, used, liveLinks, bridges}
@@ -20,7 +20,6 @@ use Rattle.trail.proofs.Trails.{trail-is}
 use Rattle.table.specs.Rules.{ruleOf, rulesBelow, rulesOf}
 use Rattle.table.proofs.Rules.{rules-count}
 use Rattle.demands.specs.Demands.{ruleLabels, RulePage}
-use Rattle.demands.proofs.Lists.{range-distinct, keep-distinct}
 
 module _ (p : Plant) where
   label-rule : (ls : List ℕ) → map (λ r. r .label) (map (ruleOf p) ls) ≡ ls

@@ -7,7 +7,7 @@ use Prim.Native.Nat.{ℕ, _+_, _≤_, _<_}
 use native.Mathlib.Omega.{arith}
 use borrow.Author.Tests.{ltb-true, ltb-false, eq-eqb, ne-eqb}
 use lib.Dec.{ltb}
-use Rattle.lists.specs.Tests.{choose, eq?, not-both}
+use Rattle.lists.specs.Tests.{choose, eq?, not-both, not-false-true}
 use Rattle.plant.specs.declared.Plant.{Plant}
 use Rattle.model.specs.Limits.{maxLinks}
 use Rattle.model.specs.Sound.{Sound}
@@ -30,7 +30,6 @@ use Rattle.search.specs.Sound.{answers-given}
 use Rattle.search.specs.Finds.{Tells, finds}
 use Rattle.trail.proofs.Trails.{trail-is}
 use Rattle.demands.specs.Demands.{MostProbes, NoneBroken, actualOutcome, AllTrue, Says, Searches}
-use Rattle.demands.proofs.Lists.{not-false-true}
 
 -- ---- the most probes
 

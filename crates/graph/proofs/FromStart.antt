@@ -18,12 +18,14 @@ use Rattle.walks.specs.Graph.{arcs, others, visitFrom, visited, connected}
 use Rattle.graph.specs.declared.Visited.{Visited}
 use Rattle.graph.specs.Shows.{Shows}
 use Rattle.graph.specs.Steps.{takesPart}
-use Rattle.graph.proofs.Plain.{and-not, every-true, every-false, keep-same}
+use Rattle.lists.specs.Tests.{and-not}
+use Rattle.lists.specs.Stepwise.{every-true, every-false}
+use Rattle.lists.specs.Agree.{keep-agree}
 
 -- no link is left out
 pub others-none : (p : Plant) (sk : ℕ) → p .count ≤ sk → others p sk ≡ arcs p
 unfolding others arcs
-others-none p sk h = ap labels (keep-same (takesPart p sk) (live p) (range 0 (p .count)) same)
+others-none p sk h = ap labels (keep-agree (takesPart p sk) (live p) (range 0 (p .count)) same)
   where
     same : (l : ℕ) → In l (range 0 (p .count)) → takesPart p sk l ≡ live p l
     same l i = and-not (live p l) (eqb l sk) (ne-eqb l sk (λ e. omega (arith, range-in l 0 (p .count) i .1)))

@@ -16,9 +16,9 @@ use Rattle.walks.specs.Graph.{others}
 use Rattle.graph.specs.declared.Visited.{Visited}
 use Rattle.graph.specs.Shows.{Shows, Room}
 use Rattle.graph.specs.Steps.{farEnd, takesPart, enterOf, Went}
-use Rattle.graph.proofs.Plain.{set-keeps}
 use Rattle.graph.proofs.Links.{Far, out, back, away, far-cases, from-none, from-all, Tries, tries-not, tries-old, tries-new, Enters}
 use Rattle.graph.proofs.Entering.{enter-shows}
+use Rattle.lists.specs.Arrays.{set-keeps}
 
 -- the far end of a link is a switch
 pub far-in : (p : Plant) (at l to : ℕ) → Sound p → at < p .switches → to ≡ farEnd (linkAt p l) at → l < p .count → to < p .switches

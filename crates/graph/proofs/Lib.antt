@@ -1,4 +1,3 @@
-pub mod Plain
 pub mod Unvisited
 pub mod Links
 pub mod Entering

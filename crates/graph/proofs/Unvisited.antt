@@ -9,7 +9,7 @@ use lib.Seq.{getD-set-same}
 use Rattle.lists.specs.Tests.{T-true, true-T, false-T}
 use Rattle.lists.specs.Count.{count-le, count-lt}
 use Rattle.graph.specs.Shows.{unvisited}
-use Rattle.graph.proofs.Plain.{set-keeps}
+use Rattle.lists.specs.Arrays.{set-keeps}
 
 pub unvisited-kept : (n : ℕ) (l m : List Bool) → ((x : ℕ) → getD l x false ≡ true → getD m x false ≡ true) → unvisited n m ≤ unvisited n l
 unfolding unvisited

@@ -1,11 +1,16 @@
--- Laws of arrays as lists: their length as ownership tells it, members laid one after the other, one member more. Assumes nothing.
-use mathlib.Core.Path.{_≡_, sym, ap, _∙_}
+-- Laws of arrays as lists: their length as ownership tells it, members laid one after the other, one member more, flags. Assumes nothing.
+use mathlib.Core.Path.{_≡_, refl, sym, ap, _∙_}
+use mathlib.Core.Logic.{_⊎_, inl, inr}
+use mathlib.Core.Bool.{Bool, true, false, _||_}
 use mathlib.Core.List.{List, [], _∷_, _++_, map}
-use Prim.Native.Nat.{ℕ, suc, _+_, _≤_, _<_}
+use Prim.Native.Nat.{ℕ, zero, suc, _+_, _≤_, _<_}
 use native.Mathlib.Numerals.{add-one}
 use native.Mathlib.Omega.{arith}
-use lib.ListN.{length, getD, set, take, drop, length-map}
-use lib.Seq.{sets, sets-eq, length-sets, take-suc}
+use borrow.Author.Tests.{eq-eqb, ne-eqb}
+use lib.Dec.{eqb}
+use lib.ListN.{length, getD, set, take, drop, replicate, length-map}
+use lib.Seq.{sets, sets-eq, length-sets, take-suc, getD-set-same, getD-set-other}
+use Rattle.lists.specs.Tests.{eq?}
 
 -- the length of an array of structs, as ownership tells it
 pub sized : {A B : Type 0} (f : A → B) (l : List A) (n : ℕ) → length (map f l) ≡ n → length l ≡ n
@@ -33,3 +38,27 @@ sets-front l xs h =
 -- no length changes
 pub laid : (b b′ : List ℕ) (i : ℕ) (xs : List ℕ) → b′ ≡ sets b i xs → length b′ ≡ length b
 laid b b′ i xs e = ap length e ∙ length-sets b i xs
+
+-- ---- arrays of one value, and of flags
+
+-- every place, also past the end, holds the value
+pub getD-flat : {A : Type 0} (n i : ℕ) (d : A) → getD (replicate n d) i d ≡ d
+getD-flat zero i d = refl
+getD-flat (suc n) zero d = refl
+getD-flat (suc n) (suc i) d = getD-flat n i d
+
+or-last : (b : Bool) → b || true ≡ true
+or-last true = refl
+or-last false = refl
+
+-- one flag more is set
+pub flag-set : (l : List Bool) (i x : ℕ) → i < length l → getD (set l i true) x false ≡ eqb x i || getD l x false
+flag-set l i x h = go (eq? x i)
+  where
+    go : (x ≡ i) ⊎ (x ≡ i → ⊥) → getD (set l i true) x false ≡ eqb x i || getD l x false
+    go (inl e) = rw (eq-eqb x i e, e) (getD-set-same l i true false h)
+    go (inr n) = rw (ne-eqb x i n) (getD-set-other l i x true false n)
+
+-- what is set stays set
+pub set-keeps : (l : List Bool) (i x : ℕ) → i < length l → getD l x false ≡ true → getD (set l i true) x false ≡ true
+set-keeps l i x h e = flag-set l i x h ∙ rw e (or-last (eqb x i))

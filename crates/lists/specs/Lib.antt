@@ -5,3 +5,6 @@ pub mod Numbers
 pub mod Least
 pub mod Kept
 pub mod Arrays
+pub mod Agree
+pub mod Stepwise
+pub mod Parts

@@ -7,7 +7,7 @@ use Prim.Native.Nat.{ℕ, zero, suc, _+_, _≤_, _<_}
 use native.Mathlib.Omega.{arith}
 use lib.Dec.{T}
 use Rattle.lists.specs.Tests.{eq?, T-or, and-left, and-right, and-both, if-true, if-false}
-use Rattle.lists.specs.Members.{In}
+use Rattle.lists.specs.Members.{In, Distinct}
 
 -- n numbers from k on, by rising number
 abbrev pub range : ℕ → ℕ → List ℕ
@@ -85,3 +85,18 @@ pub at-every : (n : ℕ) (p : ℕ → Bool) → ((k : ℕ) → k < n → T (p k)
 unfolding every
 at-every zero p f = tt
 at-every (suc n) p f = and-both (p n) (every n p) (f n (omega arith)) (at-every n p (λ k h. f k (omega arith)))
+
+-- ---- distinct numbers
+
+-- rising numbers are distinct, and so are those of them that pass a test
+pub range-distinct : (k n : ℕ) → Distinct (range k n)
+range-distinct k zero = tt
+range-distinct k (suc n) = (λ h. let r = range-in k (suc k) n h in omega arith, range-distinct (suc k) n)
+
+pub keep-distinct : (t : ℕ → Bool) (xs : List ℕ) → Distinct xs → Distinct (keep t xs)
+keep-distinct t [] d = tt
+keep-distinct t (x ∷ xs) d = go (T-or (t x)) (keep-distinct t xs (d .1))
+  where
+    go : T (t x) ⊎ (T (t x) → ⊥) → Distinct (keep t xs) → Distinct (keep t (x ∷ xs))
+    go (inl y) rec = subst Distinct (sym (keep-yes t x xs y)) (λ h. d .0 (keep-in t x xs h .0), rec)
+    go (inr n) rec = subst Distinct (sym (keep-no t x xs n)) rec

@@ -133,6 +133,25 @@ true-or true b h = refl
 true-or false b (inl e) = absurd (not-both false e refl)
 true-or false b (inr e) = e
 
+pub or-swap : (a b c d : Bool) → (a || b) || (c || d) ≡ (a || c) || (b || d)
+or-swap true b c d = refl
+or-swap false true true d = refl
+or-swap false true false d = refl
+or-swap false false c d = refl
+
+pub and-not : (a b : Bool) → b ≡ false → a && not b ≡ a
+and-not true b e = ap not e
+and-not false b e = refl
+
+pub or-no : (b c : Bool) → (T b → ⊥) → b || c ≡ c
+or-no true c f = absurd (f tt)
+or-no false c f = refl
+
+-- a test that does not fail passes
+pub not-false-true : (b : Bool) → (b ≡ false → ⊥) → b ≡ true
+not-false-true true f = refl
+not-false-true false f = absurd (f refl)
+
 -- ---- numbers
 
 pub eq→eqb : {x y : ℕ} → x ≡ y → T (eqb x y)

@@ -12,7 +12,7 @@ use Rattle.lists.specs.Tests.{bool?, T-true, true-T, not-both, not-true-false, 
 use Rattle.lists.specs.Members.{In, getD-in, in-getD, all}
 use Rattle.lists.specs.Least.{least, least-top, least-passes, least-first}
 use Rattle.rings.specs.Order.{nth}
-use Rattle.rings.specs.Lists.{all-take}
+use Rattle.lists.specs.Parts.{all-take}
 
 module _ (up : ℕ → Bool) (ls : List ℕ) where
   -- the place of the first link that is down, from 1; one more than there are links if all are up

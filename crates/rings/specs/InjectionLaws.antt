@@ -24,7 +24,6 @@ use Rattle.walks.specs.Live.{live-below}
 use Rattle.walks.specs.Labels.{even-half, odd-half, tail-opposite, head-opposite, opposite-arc}
 use Rattle.walks.specs.Orientation.{used-arc, strongly-connected}
 use Rattle.walks.specs.Counting.{one-used}
-use Rattle.rings.specs.Lists.{in-drop}
 use Rattle.rings.specs.Packet.{End, run, runOn, rulesFor, clear}
 use Rattle.rings.specs.Rules.{upBy, inTable, inAll}
 use Rattle.rings.specs.Trail.{Trail}
@@ -38,6 +37,7 @@ use Rattle.rings.specs.RulesLaws.{table-arc, all-arc, table-ended, bytes
 use Rattle.rings.specs.RingLaws.{place-first, ring-empty, read-labels, stretches, read-walk}
 use Rattle.rings.specs.OrderLaws.{order-distinct, label-order, order-label}
 use Rattle.rings.specs.ProbeLaws.{ring-clear, probe-clear, probe-in, probe-walk}
+use Rattle.lists.specs.Parts.{in-drop}
 
 -- ---- whatever the plant and the trail
 

@@ -5,7 +5,6 @@ pub mod Ring
 pub mod Order
 pub mod Probe
 pub mod Injection
-pub mod Lists
 pub mod FirstDown
 pub mod PacketLaws
 pub mod RulesLaws

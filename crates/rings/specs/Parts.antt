@@ -10,11 +10,11 @@ use lib.ListN.{length, take, drop, length-append, length-drop}
 use lib.Seq.{take-take, length-take-le}
 use Rattle.lists.specs.Tests.{choose}
 use Rattle.walks.specs.Arcs.{opposite}
-use Rattle.rings.specs.Lists.{take-append}
 use Rattle.rings.specs.Ring.{readFrom, place, ring}
 use Rattle.rings.specs.Order.{order, nth}
 use Rattle.rings.specs.Probe.{upTo, back, outward}
 use Rattle.rings.specs.RingLaws.{place-most}
+use Rattle.lists.specs.Parts.{take-append}
 
 -- ---- a trail read from a place
 

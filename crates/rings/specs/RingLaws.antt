@@ -12,8 +12,8 @@ use Rattle.lists.specs.Tests.{eq→eqb}
 use Rattle.lists.specs.Members.{In, in-getD}
 use Rattle.lists.specs.Least.{leastFrom, least, least-top, least-passes, least-first, least-le, least-is, least-none}
 use Rattle.walks.specs.Walk.{Walk, walk-append}
-use Rattle.rings.specs.Lists.{in-swap}
 use Rattle.rings.specs.Ring.{readFrom, place, FirstHop, ring}
+use Rattle.lists.specs.Parts.{in-swap}
 
 -- ---- the place
 

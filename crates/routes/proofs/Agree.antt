@@ -11,7 +11,7 @@ use Rattle.lists.specs.Numbers.{range, range-in, keep, keep-in}
 use Rattle.lists.specs.Least.{least, some}
 use Rattle.routes.specs.Distance.{sources, within, dist, hop}
 use Rattle.routes.specs.Trail.{mark, leavesAt, near, nearest, onward, goal, next, trailFrom}
-use Rattle.routes.proofs.Lists.{map-agree, keep-agree, least-agree}
+use Rattle.lists.specs.Agree.{map-agree, keep-agree, least-agree}
 
 module _ (S n : ℕ) (tl hd : ℕ → ℕ) (ok : ℕ → Bool) (tl′ hd′ : ℕ → ℕ) (ok′ : ℕ → Bool)
     (tails : (a : ℕ) → a < n → tl a ≡ tl′ a) (heads : (a : ℕ) → a < n → hd a ≡ hd′ a) (uses : (a : ℕ) → a < n → ok a ≡ ok′ a)

@@ -14,9 +14,9 @@ use Rattle.lists.specs.Least.{some?}
 use Rattle.walks.specs.Walk.{Walk, Reach, here, step, walk→reach}
 use Rattle.routes.specs.Distance.{within, dist, route}
 use Rattle.routes.specs.Meaning.{InUse, Reached, Fewest}
-use Rattle.routes.proofs.Lists.{count-full}
 use Rattle.routes.proofs.Levels.{LeadsInto, within-old, within-hop, within-new, within-self}
 use Rattle.routes.proofs.Distances.{dist-le, dist-least, dist-none, route-way, route-length}
+use Rattle.lists.specs.Agree.{count-full}
 
 module _ (S n : ℕ) (tl hd : ℕ → ℕ) (ok : ℕ → Bool) (part : ℕ → Bool) (part-in : (x : ℕ) → T (part x) → x < S) (tl-in : (a : ℕ) → a < n → T (ok a) → T (part (tl a))) (v : ℕ) (v-in : T (part v)) where
   -- no arc in use arrives in l from outside

@@ -10,7 +10,7 @@ use Rattle.lists.specs.Tests.{and-left, and-right, and-both}
 use Rattle.lists.specs.Members.{In, memb, memb→in, in→memb, in-append, in-append-left, in-append-right}
 use Rattle.lists.specs.Numbers.{range, range-in, in-range, keep, keep-in, in-keep}
 use Rattle.routes.specs.Distance.{sources, within}
-use Rattle.routes.proofs.Lists.{in-map, map-in}
+use Rattle.lists.specs.Agree.{in-map, map-in}
 
 module _ (S n : ℕ) (tl hd : ℕ → ℕ) (ok : ℕ → Bool) where
   abbrev before : List ℕ → List ℕ

@@ -1,4 +1,3 @@
-pub mod Lists
 pub mod Levels
 pub mod Distances
 pub mod Fewest

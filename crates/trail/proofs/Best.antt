@@ -10,7 +10,7 @@ use Rattle.routes.specs.Distance.{dist}
 use Rattle.routes.specs.Trail.{uncrossed, nearest}
 use Rattle.routes.proofs.Distances.{dist-top}
 use Rattle.routes.proofs.Nearest.{nearest-none, nearest-is}
-use Rattle.trail.proofs.Lists.{below-next}
+use Rattle.lists.specs.Stepwise.{upto}
 
 -- is arc a left?
 module _ (ok m : ℕ → Bool) (a : ℕ) where
@@ -56,10 +56,10 @@ module _ (S n : ℕ) (tl hd : ℕ → ℕ) (ok m : ℕ → Bool) (u : ℕ) where
     inside = omega (arith, p .inside);
     is-left = p .is-left;
     value = p .value;
-    closest = below-next (λ b. U b → D r ≤ D b) a (p .closest) (λ t. absurd (f t));
+    closest = upto {P = (λ b. U b → D r ≤ D b)} {i = a} (p .closest) (λ t. absurd (f t));
     lowest = p .lowest;
   })
-  best-skip a r d f (inr p) = inr (record { no-arc = p .no-arc; no-value = p .no-value; none = below-next (λ b. U b → ⊥) a (p .none) f })
+  best-skip a r d f (inr p) = inr (record { no-arc = p .no-arc; no-value = p .no-value; none = upto {P = (λ b. U b → ⊥)} {i = a} (p .none) f })
 
   -- arc a is no nearer
   pub best-stay : (a r d e : ℕ) → e ≡ D a → d ≤ e → Best a r d → Best (a + 1) r d
@@ -67,7 +67,7 @@ module _ (S n : ℕ) (tl hd : ℕ → ℕ) (ok m : ℕ → Bool) (u : ℕ) where
     inside = omega (arith, p .inside);
     is-left = p .is-left;
     value = p .value;
-    closest = below-next (λ b. U b → D r ≤ D b) a (p .closest) (λ t. omega (arith, p .value));
+    closest = upto {P = (λ b. U b → D r ≤ D b)} {i = a} (p .closest) (λ t. omega (arith, p .value));
     lowest = p .lowest;
   })
   best-stay a r d e q l (inr p) = absurd (omega (arith, p .no-value, dist-top S n tl hd ok u (tl a)))
@@ -78,7 +78,7 @@ module _ (S n : ℕ) (tl hd : ℕ → ℕ) (ok m : ℕ → Bool) (u : ℕ) where
     inside = omega arith;
     is-left = t;
     value = q;
-    closest = below-next (λ b. U b → D a ≤ D b) a (λ b h v. le-of (nearer p b h v)) (λ v. omega arith);
+    closest = upto {P = (λ b. U b → D a ≤ D b)} {i = a} (λ b h v. le-of (nearer p b h v)) (λ v. omega arith);
     lowest = λ b h v z. not-same (nearer p b h v) z;
   })
     where

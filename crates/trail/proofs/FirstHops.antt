@@ -23,8 +23,8 @@ use Rattle.distance.proofs.Arcs.{tail-lt, head-lt}
 use Rattle.distance.proofs.Tables.{Holds, flat-holds, holds-table}
 use Rattle.trail.specs.Rows.{Lowered}
 use Rattle.trail.specs.Steps.{hopIn, firstHopsOf}
-use Rattle.trail.proofs.Lists.{first-step}
 use Rattle.trail.proofs.Cells.{cell-is}
+use Rattle.lists.specs.Stepwise.{first-step}
 
 module _ (p : Plant) (us : List Bool) where
   abbrev S : ℕ

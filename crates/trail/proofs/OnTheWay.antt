@@ -8,7 +8,7 @@ use native.Mathlib.Omega.{arith}
 use lib.Dec.{T, eqb, eqb→eq, ltb, lt→ltb}
 use lib.ListN.{length, getD, set, replicate}
 use lib.Seq.{getD-set-same, getD-set-other}
-use Rattle.lists.specs.Tests.{choose, T-true, eq?, eq→eqb, or-left}
+use Rattle.lists.specs.Tests.{choose, T-true, eq?, eq→eqb, or-left, or-no}
 use Rattle.plant.specs.declared.Plant.{Plant}
 use Rattle.walks.specs.Walk.{weaken}
 use Rattle.walks.specs.Arcs.{tail, head}
@@ -26,10 +26,10 @@ use Rattle.distance.specs.Distances.{flag}
 use Rattle.distance.proofs.Arcs.{tail-lt, head-lt}
 use Rattle.trail.specs.declared.Walker.{Walker}
 use Rattle.trail.specs.Steps.{Planned, firstHopsOf, nearestIn, goalIn, nextIn, walkerAt, Stands}
-use Rattle.trail.proofs.Lists.{or-no, all-down}
 use Rattle.walks.specs.Valid.{sound-valid}
 use Rattle.trail.proofs.Trails.{all-joined}
 use Rattle.trail.proofs.Walkers.{walker-is}
+use Rattle.lists.specs.Arrays.{getD-flat}
 
 -- ---- flags as marks
 
@@ -45,7 +45,7 @@ flag-set m a h = λ i b. at b (eq? b a) i
     at b (inr e) = getD-set-other m a b true false e ∙ sym (or-no (eqb b a) (getD m b false) (λ t. e (eqb→eq b a t)))
 
 pub flag-none : (n : ℕ) → flag (replicate n false) ≡ unmarked
-flag-none n = λ i b. all-down n b i
+flag-none n = λ i b. getD-flat n b false i
 
 module _ {p : Plant} {us : List Bool} (ok : Planned p us) where
   abbrev S : ℕ

@@ -9,7 +9,7 @@ use lib.Seq.{getD-set-same, getD-set-other}
 use Rattle.lists.specs.Tests.{choose-true, choose-false}
 use Rattle.model.specs.Limits.{maxSwitches}
 use Rattle.trail.specs.Rows.{better, Lowered}
-use Rattle.trail.proofs.Lists.{below-next}
+use Rattle.lists.specs.Stepwise.{upto}
 
 module _ (near far row : List ℕ) (a : ℕ) where
   abbrev L : ℕ → List ℕ → Type 0
@@ -22,7 +22,7 @@ module _ (near far row : List ℕ) (a : ℕ) where
     pub lower-put : v < maxSwitches → getD near v 0 < getD far v 0 → L (v + 1) (set r v a)
     lower-put h l = record {
       places = length-set r v a ∙ q .places;
-      done = below-next (λ w. getD (set r v a) w 0 ≡ better near far row a w) v
+      done = upto {P = (λ w. getD (set r v a) w 0 ≡ better near far row a w)} {i = v}
           (λ w i. getD-set-other r v w a 0 (λ e. omega arith) ∙ q .done w i)
           (getD-set-same r v a 0 (omega (arith, q .places)) ∙ sym (choose-true (ltb (getD near v 0) (getD far v 0)) a (getD row v 0) (lt→ltb (getD near v 0) (getD far v 0) l)));
       kept = λ w i. getD-set-other r v w a 0 (λ e. omega arith) ∙ q .kept w (omega arith);
@@ -31,7 +31,7 @@ module _ (near far row : List ℕ) (a : ℕ) where
     pub lower-keep : getD far v 0 ≤ getD near v 0 → L (v + 1) r
     lower-keep l = record {
       places = q .places;
-      done = below-next (λ w. getD r w 0 ≡ better near far row a w) v (q .done)
+      done = upto {P = (λ w. getD r w 0 ≡ better near far row a w)} {i = v} (q .done)
           (q .kept v (omega arith) ∙ sym (choose-false (ltb (getD near v 0) (getD far v 0)) a (getD row v 0) (λ t. omega (arith, ltb→lt (getD near v 0) (getD far v 0) t))));
       kept = λ w i. q .kept w (omega arith);
     }

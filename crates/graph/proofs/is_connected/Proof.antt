@@ -6,10 +6,10 @@ use native.Mathlib.Omega.{arith}
 use lib.ListN.{getD}
 use borrow.Author.Needs.{needs}
 use borrow.Author.Tests.{not-true, not-false}
-use Rattle.graph.proofs.Plain.{upto}
 use Rattle.graph.proofs.FromStart.{connected-not, connected-all}
 use Rattle.graph.proofs.is_connected.Statement.{statement}
 use Rattle.graph.proofs.is_connected.Tie as tie
+use Rattle.lists.specs.Stepwise.{upto}
 
 -- every switch below i is visited
 abbrev Inv-loop : tie.InvT-loop

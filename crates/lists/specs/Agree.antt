@@ -1,4 +1,4 @@
--- Laws of plain lists, counts and the least number: members of a mapped list, tests that agree, and tests that pass equally many numbers. Assumes nothing.
+-- Members of a mapped list; tests that agree at the members of a list, or at the numbers below n; tests that pass equally many numbers. Assumes nothing.
 use mathlib.Core.Path.{_≡_, refl, ap, ap₂}
 use mathlib.Core.Logic.{_⊎_, inl, inr}
 use mathlib.Core.Bool.{Bool, true, false}
@@ -6,11 +6,11 @@ use mathlib.Core.List.{List, [], _∷_, map}
 use Prim.Native.Nat.{ℕ, zero, suc, _+_, _≤_, _<_}
 use native.Mathlib.Omega.{arith}
 use lib.Dec.{T}
 use Rattle.lists.specs.Tests.{T-or}
 use Rattle.lists.specs.Members.{In}
-use Rattle.lists.specs.Count.{count, count-lt}
+use Rattle.lists.specs.Count.{bit, count, count-lt}
 use Rattle.lists.specs.Numbers.{keep}
 use Rattle.lists.specs.Least.{leastFrom, least}
 
 pub in-map : (f : ℕ → ℕ) (a : ℕ) (xs : List ℕ) → In a xs → In (f a) (map f xs)
 in-map f a [] h = absurd h
@@ -49,3 +49,8 @@ count-full n p q sub h x i t = go (T-or (q x))
     go : T (q x) ⊎ (T (q x) → ⊥) → T (q x)
     go (inl u) = u
     go (inr f) = absurd (omega (arith, count-lt n p q x i t f sub))
+
+pub count-same : (n : ℕ) (f g : ℕ → Bool) → ((i : ℕ) → f i ≡ g i) → count n f ≡ count n g
+unfolding count
+count-same zero f g h = refl
+count-same (suc n) f g h = omega (arith, ap bit (h n), count-same n f g h)

@@ -1,4 +1,4 @@
--- Laws of plain lists that `lists` lacks: the first m members, and members of parts. Assumes nothing.
+-- Parts of lists: the first members, and members of parts. Assumes nothing.
 use mathlib.Core.Path.{_≡_, sym, ap, _∙_, subst}
 use mathlib.Core.Logic.{_⊎_, inl, inr, _↔_}
 use mathlib.Core.Bool.{Bool, true}
