@@ -1,0 +1,110 @@
+// The checksum of a list of numbers: 0, and then for each number v in turn (31 h + v + 1) mod 65521. And what a lent buffer holds before the call.
+use order::Order;
+use plant::Plant;
+use table::RULES;
+use table::Table;
+
+const MODULUS: u32 = 65521;
+
+// The checksum with one number more.
+pub fn with(h: u32, v: u16) -> u32 {
+    (h % MODULUS * 31 + v as u32 + 1) % MODULUS
+}
+
+pub fn of_bytes(s: &[u8]) -> u32 {
+    let mut h: u32 = 0;
+    let mut i: usize = 0;
+    while i < s.len() {
+        h = with(h, s[i] as u16);
+        i += 1;
+    }
+    h
+}
+
+// The checksum of what h is the checksum of, and then the labels.
+pub fn with_labels(h0: u32, s: &[u16]) -> u32 {
+    let mut h = h0;
+    let mut i: usize = 0;
+    while i < s.len() {
+        h = with(h, s[i]);
+        i += 1;
+    }
+    h
+}
+
+// First end, second end and tag of each link.
+pub fn of_links(p: Plant) -> u32 {
+    let n = p.count as usize;
+    let mut h: u32 = 0;
+    let mut i: usize = 0;
+    while i < Plant::MAX_LINKS {
+        if i < n {
+            let l = p.links[i];
+            h = with(with(with(h, l.first as u16), l.second as u16), l.tag);
+        }
+        i += 1;
+    }
+    h
+}
+
+// The first n flags.
+pub fn of_flags(flags: [bool; Plant::MAX_LINKS], n: usize) -> u32 {
+    let mut h: u32 = 0;
+    let mut i: usize = 0;
+    while i < Plant::MAX_LINKS {
+        if i < n {
+            h = with(h, flags[i] as u16);
+        }
+        i += 1;
+    }
+    h
+}
+
+// Sending switch, label and receiving switch of each rule.
+pub fn of_rules(t: Table) -> u32 {
+    let n = t.count as usize;
+    let mut h: u32 = 0;
+    let mut i: usize = 0;
+    while i < RULES {
+        if i < n {
+            let r = t.rules[i];
+            h = with(with(with(h, r.from as u16), r.label), r.to as u16);
+        }
+        i += 1;
+    }
+    h
+}
+
+pub fn of_order(o: Order) -> u32 {
+    let n = o.count as usize;
+    let mut h: u32 = 0;
+    let mut i: usize = 0;
+    while i < Plant::MAX_LINKS {
+        if i < n {
+            h = with(h, o.links[i]);
+        }
+        i += 1;
+    }
+    h
+}
+
+// What a place of a lent buffer holds before the call.
+fn before(i: usize) -> u8 {
+    ((i % 251 * 7 + 3) % 251) as u8
+}
+
+pub fn fill_bytes(buffer: &mut [u8]) {
+    let mut i: usize = 0;
+    while i < buffer.len() {
+        buffer[i] = before(i);
+        i += 1;
+    }
+}
+
+pub fn fill_labels(buffer: &mut [u16]) {
+    let mut i: usize = 0;
+    while i < buffer.len() {
+        buffer[i] = before(i) as u16;
+        i += 1;
+    }
+}

@@ -1,0 +1,135 @@
+// Calls 1 to 6: reading and writing a listing, and its plan.
+use crate::checksum;
+use crate::input;
+use crate::show;
+use listing::Verdict;
+use listing::Written;
+use planner::Numbers;
+use planner::Summary;
+use planner::Trailed;
+use plant::Plant;
+use table::Table;
+
+fn show_plant(p: Plant) {
+    show::number(p.switches as u64);
+    show::next(p.count as u64);
+    show::next(p.start as u64);
+    show::word(b" ");
+    show::list(3 * (p.count as u64), checksum::of_links(p));
+}
+
+fn read(listing: &[u8]) {
+    let d = reading::read(listing);
+    let v = d.verdict;
+    match v {
+        Verdict::Sound => {
+            let p = d.plant;
+            show_plant(p);
+        }
+        Verdict::Refused(k) => show::refusal(k),
+    }
+}
+
+fn write_into(p: Plant, buffer: &mut [u8]) {
+    checksum::fill_bytes(buffer);
+    match listing::write(p, buffer) {
+        Written::Length(length) => show::number(length as u64),
+        Written::Refused(k) => show::refusal(k),
+    }
+    show::word(b" ");
+    show::list(buffer.len() as u64, checksum::of_bytes(buffer));
+}
+
+// The buffer's length follows the plant.
+fn write(s: &[u8], at: usize) -> usize {
+    let p = input::plant(s, at);
+    let from = input::past_plant(s, at);
+    let n = input::number(s, from) as usize;
+    let mut buffer = input::byte_places();
+    write_into(p, &mut buffer[..n]);
+    input::past(s, from, 2)
+}
+
+fn show_numbers(n: Numbers) {
+    show::number(n.switches as u64);
+    show::next(n.links as u64);
+    show::next(n.bridges as u64);
+    show::next(n.rules as u64);
+    show::next(n.hops as u64);
+}
+
+fn summary(listing: &[u8]) {
+    match planner::summarize(listing) {
+        Summary::Plant(n) => show_numbers(n),
+        Summary::Refused(k) => show::refusal(k),
+    }
+}
+
+fn bridges(listing: &[u8]) {
+    let b = planner::find_bridges(listing);
+    let v = b.verdict;
+    match v {
+        Verdict::Sound => {
+            let d = planner::plan(listing);
+            let n = d.plant.count;
+            let flags = b.flags;
+            show::list(n as u64, checksum::of_flags(flags, n as usize));
+        }
+        Verdict::Refused(k) => show::refusal(k),
+    }
+}
+
+fn show_table(t: Table) {
+    show::list(3 * (t.count as u64), checksum::of_rules(t));
+}
+
+fn rules(listing: &[u8]) {
+    let t = planner::forwarding_table(listing);
+    let v = t.verdict;
+    match v {
+        Verdict::Sound => {
+            let table = t.table;
+            show_table(table);
+        }
+        Verdict::Refused(k) => show::refusal(k),
+    }
+}
+
+fn trail_into(listing: &[u8], buffer: &mut [u16]) {
+    checksum::fill_labels(buffer);
+    match planner::lay_trail(listing, buffer) {
+        Trailed::Hops(hops) => show::number(hops as u64),
+        Trailed::Refused(k) => show::refusal(k),
+    }
+    show::word(b" ");
+    show::list(buffer.len() as u64, checksum::with_labels(0, buffer));
+}
+
+// The buffer's length follows the listing.
+fn trail(s: &[u8], at: usize) -> usize {
+    let listing = input::string(s, at);
+    let from = input::past_string(s, at);
+    let n = input::number(s, from) as usize;
+    let mut buffer = input::label_places();
+    trail_into(listing, &mut buffer[..n]);
+    input::past(s, from, 2)
+}
+
+// Prints the answer of one of these calls with its arguments at a place; the place after them.
+pub fn answer(call: u8, s: &[u8], at: usize) -> usize {
+    if call == 2 {
+        return write(s, at);
+    }
+    if call == 6 {
+        return trail(s, at);
+    }
+    let listing = input::string(s, at);
+    match call {
+        1 => read(listing),
+        3 => summary(listing),
+        4 => bridges(listing),
+        5 => rules(listing),
+        _ => return s.len(),
+    }
+    input::past_string(s, at)
+}

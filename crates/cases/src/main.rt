@@ -1,0 +1,86 @@
+// Reads cases from standard input, makes the public call of each, and prints its answer, one line a case.
+//
+// A case is one byte, the call, and then its arguments. A number is one byte or two, low byte first; a byte string is a two-byte length and its bytes; a list
+// of labels is a two-byte count and two bytes each; a search is its kind (0 Checking, 1 Halving, 2 AllUp, 3 Down) and two two-byte numbers.
+//
+//  1 read            listing                                  switches, links, start, checksum of the links
+//  2 write           plant, buffer length                     length
+//  3 summary         listing                                  switches, links, bridges, rules, hops
+//  4 bridges         listing                                  checksum of a flag for each link
+//  5 rules           listing                                  checksum of the rules
+//  6 trail           listing, buffer length                   hops
+//  7 run             listing, switch, labels, states          ended or lost
+//  8 full check      listing, switch, trail, states           returned or lost
+//  9 order           listing, switch, trail                   checksum of the links in order
+// 10 outward labels  listing, switch, trail, search           checksum of the labels
+// 11 probe wanted    listing, switch, trail, states, search   returned or lost
+// 12 link named      listing, switch, trail, search           link and its number, none or open
+// 13 new search      listing, switch                          search
+// 14 ask             search                                   m
+// 15 give            search, outcome                          search
+// 16 perform         listing, switch, calls                   search, number of probes
+// 17 order quantity  rules (two bytes), spare                 quantity
+//
+// A plant is its switches, links (two bytes) and start, a two-byte number of link places, and first end, second end and tag (two bytes) of each; the other link
+// places are zero. A refusal is the word `refused` and its number. The line of a call that is lent a buffer ends with the buffer's checksum after the call.
+// A list prints as its count, a colon and its checksum.
+mod checksum;
+mod input;
+mod listings;
+mod packets;
+mod searches;
+mod show;
+
+use libc::STDIN_FILENO;
+ghost use mathlib.Core.Path.{_≡_};
+ghost use Prim.Native.Nat.{_≤_};
+ghost use lib.ListN.{length};
+
+// The most bytes of input that are read.
+const INPUT: usize = 1400000;
+
+// Prints the answer of the case at a place; the place after it. A byte that is no call ends the input.
+fn answer(s: &[u8], at: usize) -> usize {
+    let call = input::byte(s, at);
+    let from = input::past(s, at, 1);
+    if call < 7 {
+        return listings::answer(call, s, from);
+    }
+    if call < 13 {
+        return packets::answer(call, s, from);
+    }
+    searches::answer(call, s, from)
+}
+
+// The later of two places.
+fn later(a: usize, b: usize) -> usize
+    ensures { λ r. ⌜ a ≤ r ⌝ }
+{
+    if a < b {
+        return b;
+    }
+    a
+}
+
+// Prints the answers of all cases. Each has one byte at least.
+fn answer_all(s: &[u8]) {
+    let mut at: usize = 0;
+    while at < s.len() {
+        let next = answer(s, at);
+        at = later(at + 1, next);
+        show::word(b"\n");
+    }
+}
+
+// Places for the input.
+fn space() -> [u8; INPUT]
+    ensures { λ r. do ⌜ (← ⟦INPUT⟧ .entry) ≡ length r ⌝ }
+{
+    [0; INPUT]
+}
+
+fn main() {
+    let mut input = space();
+    let n = io::read_full(STDIN_FILENO, &mut input);
+    answer_all(&input[..n]);
+}

@@ -1,0 +1,125 @@
+// Calls 7 to 12: packets and probes. Each is given a listing, a switch and labels, and then arguments of its own.
+use crate::checksum;
+use crate::input;
+use crate::show;
+use listing::Verdict;
+use order::Order;
+use order::Span;
+use probing::Named;
+use probing::Outward;
+use probing::Probed;
+use probing::Ran;
+use search::Outcome;
+
+fn run(listing: &[u8], switch: u8, labels: &[u16], s: &[u8], at: usize) -> usize {
+    match probing::run(listing, switch, labels, input::string(s, at)) {
+        Ran::Ended => show::word(b"ended"),
+        Ran::Lost => show::word(b"lost"),
+        Ran::Refused(k) => show::refusal(k),
+    }
+    input::past_string(s, at)
+}
+
+fn show_outcome(o: Outcome) {
+    match o {
+        Outcome::Returned => show::word(b"returned"),
+        Outcome::Lost => show::word(b"lost"),
+    }
+}
+
+fn show_probed(p: Probed) {
+    match p {
+        Probed::Outcome(o) => show_outcome(o),
+        Probed::Refused(k) => show::refusal(k),
+    }
+}
+
+fn full_check(listing: &[u8], switch: u8, trail: &[u16], s: &[u8], at: usize) -> usize {
+    show_probed(probing::full_check(listing, switch, trail, input::string(s, at)));
+    input::past_string(s, at)
+}
+
+fn show_order(o: Order) {
+    show::list(o.count as u64, checksum::of_order(o));
+}
+
+fn order(listing: &[u8], switch: u8, trail: &[u16]) {
+    let r = probing::order_of_links(listing, switch, trail);
+    let v = r.verdict;
+    match v {
+        Verdict::Sound => {
+            let o = r.order;
+            show_order(o);
+        }
+        Verdict::Refused(k) => show::refusal(k),
+    }
+}
+
+// The two parts of the lent trail, one after the other.
+fn show_parts(trail: &[u16], span: Span) {
+    let stretch = order::stretch(trail, span);
+    let front = order::front(trail, span);
+    let h = checksum::with_labels(checksum::with_labels(0, stretch), front);
+    show::list(stretch.len() as u64 + front.len() as u64, h);
+}
+
+fn outward(listing: &[u8], switch: u8, trail: &[u16], s: &[u8], at: usize) -> usize {
+    match probing::outward_labels(listing, switch, trail, input::search(s, at)) {
+        Outward::Parts(span) => show_parts(trail, span),
+        Outward::Refused(k) => show::refusal(k),
+    }
+    input::past_search(s, at)
+}
+
+fn run_probe(listing: &[u8], switch: u8, trail: &[u16], s: &[u8], at: usize) -> usize {
+    let states = input::string(s, at);
+    let from = input::past_string(s, at);
+    show_probed(probing::run_probe(listing, switch, trail, states, input::search(s, from)));
+    input::past_search(s, from)
+}
+
+fn link_named(listing: &[u8], switch: u8, trail: &[u16], s: &[u8], at: usize) -> usize {
+    match probing::link_named(listing, switch, trail, input::search(s, at)) {
+        Named::Link(l) => {
+            show::word(b"link");
+            show::next(l as u64);
+        }
+        Named::AllUp => show::word(b"none"),
+        Named::Open => show::word(b"open"),
+        Named::Refused(k) => show::refusal(k),
+    }
+    input::past_search(s, at)
+}
+
+// Prints the answer of one of these calls, whose own arguments are at a place; the place after them.
+fn answer_with(call: u8, listing: &[u8], switch: u8, labels: &[u16], s: &[u8], at: usize) -> usize {
+    match call {
+        7 => run(listing, switch, labels, s, at),
+        8 => full_check(listing, switch, labels, s, at),
+        9 => {
+            order(listing, switch, labels);
+            at
+        }
+        10 => outward(listing, switch, labels, s, at),
+        11 => run_probe(listing, switch, labels, s, at),
+        _ => link_named(listing, switch, labels, s, at),
+    }
+}
+
+// Prints the answer of one of these calls with its arguments at a place; the place after them.
+pub fn answer(call: u8, s: &[u8], at: usize) -> usize {
+    let listing = input::string(s, at);
+    let second = input::past_string(s, at);
+    let switch = input::byte(s, second);
+    let third = input::past(s, second, 1);
+    let mut labels = input::label_places();
+    let n = input::labels(s, third, &mut labels);
+    answer_with(
+        call,
+        listing,
+        switch,
+        &labels[..n],
+        s,
+        input::past_labels(s, third),
+    )
+}

@@ -1,0 +1,84 @@
+// Calls 13 to 17: the search and the order quantity.
+use crate::input;
+use crate::show;
+use demands::Begun;
+use demands::Performed;
+use quantity::Quantity;
+use search::Asked;
+use search::Outcome;
+use search::Progress;
+use search::Told;
+
+fn new_search(s: &[u8], at: usize) -> usize {
+    let listing = input::string(s, at);
+    let from = input::past_string(s, at);
+    match demands::new_search(listing, input::byte(s, from)) {
+        Begun::State(state) => show::search(state),
+        Begun::Refused(k) => show::refusal(k),
+    }
+    input::past(s, from, 1)
+}
+
+fn ask(s: &[u8], at: usize) -> usize {
+    match input::search(s, at).ask() {
+        Asked::Probe(m) => show::number(m as u64),
+        Asked::Refused(k) => show::refusal(k),
+    }
+    input::past_search(s, at)
+}
+
+fn outcome(b: u8) -> Outcome {
+    if b == 0 {
+        Outcome::Lost
+    } else {
+        Outcome::Returned
+    }
+}
+
+fn give(s: &[u8], at: usize) -> usize {
+    let from = input::past_search(s, at);
+    match input::search(s, at).give(outcome(input::byte(s, from))) {
+        Told::State(state) => show::search(state),
+        Told::Refused(k) => show::refusal(k),
+    }
+    input::past(s, from, 1)
+}
+
+fn show_progress(p: Progress) {
+    let state = p.state;
+    show::search(state);
+    show::next(p.probes as u64);
+}
+
+fn perform(s: &[u8], at: usize) -> usize {
+    let listing = input::string(s, at);
+    let second = input::past_string(s, at);
+    let switch = input::byte(s, second);
+    let third = input::past(s, second, 1);
+    match demands::perform(listing, switch, input::string(s, third)) {
+        Performed::Done(p) => show_progress(p),
+        Performed::Refused(k) => show::refusal(k),
+    }
+    input::past_string(s, third)
+}
+
+fn order_quantity(s: &[u8], at: usize) -> usize {
+    let from = input::past(s, at, 2);
+    match quantity::order_quantity(input::number(s, at), input::byte(s, from)) {
+        Quantity::Rules(n) => show::number(n as u64),
+        Quantity::Refused(k) => show::refusal(k),
+    }
+    input::past(s, from, 1)
+}
+
+// Prints the answer of one of these calls with its arguments at a place; the place after them.
+pub fn answer(call: u8, s: &[u8], at: usize) -> usize {
+    match call {
+        13 => new_search(s, at),
+        14 => ask(s, at),
+        15 => give(s, at),
+        16 => perform(s, at),
+        17 => order_quantity(s, at),
+        _ => s.len(),
+    }
+}
