@@ -115,16 +115,6 @@ count-two n p =
     let d : suc (2 * n) ≡ 2 * n + 1 = omega arith in
     ap (λ (k : ℕ). count k p) e ∙ ap (λ (k : ℕ). bit (p k) + (bit (p (2 * n)) + count (2 * n) p)) d
 
-pub pairs-le : (n : ℕ) (p q : ℕ → Bool) → ((l : ℕ) → l < n → bit (p (2 * l)) + bit (p (2 * l + 1)) ≤ suc (bit (q l))) → count (2 * n) p ≤ n + count n q
-unfolding count
-pairs-le zero p q f = omega arith
-pairs-le (suc n) p q f = omega (arith, count-two n p, f n (omega arith), pairs-le n p q (λ l h. f l (omega arith)))
-
-pub pairs-ge : (n : ℕ) (p q : ℕ → Bool) → ((l : ℕ) → l < n → suc (bit (q l)) ≤ bit (p (2 * l)) + bit (p (2 * l + 1))) → n + count n q ≤ count (2 * n) p
-unfolding count
-pairs-ge zero p q f = omega arith
-pairs-ge (suc n) p q f = omega (arith, count-two n p, f n (omega arith), pairs-ge n p q (λ l h. f l (omega arith)))
-
 -- the even numbers below 2 n, and the odd ones
 pub pairs : (n : ℕ) (p : ℕ → Bool) → count (2 * n) p ≡ count n (λ l. p (2 * l)) + count n (λ l. p (2 * l + 1))
 unfolding count
