@@ -1,4 +1,4 @@
-//! Second implementation of the network planner, made from document 01 alone.
+//! Second implementation of the network planner, made from document 01 and a list of calls.
 //!
 //! - [`plant`]: plant values, their limits and the refusals;
 //! - [`listing`]: the listing's reader and writer;
