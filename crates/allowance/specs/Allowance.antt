@@ -1,14 +1,9 @@
--- The allowance of document 01, "Search": ⌈log2 n⌉, the least k with 2 ^ k at least n; what determines it; and what halving does to it. Assumes nothing.
-use mathlib.Core.Path.{_≡_, refl, sym, _∙_, subst}
-use mathlib.Core.Logic.{_⊎_, inl, inr}
-use mathlib.Core.Bool.{Bool, true, false}
-use Prim.Native.Nat.{ℕ, zero, suc, _+_, _*_, _^_, _≤_, _<_}
-use native.Mathlib.Omega.{arith}
-use native.Mathlib.Nat.{pow-zero, pow-suc}
-use lib.Dec.{leb, leb→le, le→leb}
-use borrow.Author.Tests.{leb-true, le-leb}
-use Rattle.lists.specs.Tests.{choose, eq?}
-use Rattle.lists.specs.Least.{least, least-top, least-passes, least-le}
+-- The allowance of document 01, "Search": ⌈log2 n⌉, the least k with 2 ^ k at least n.
+use mathlib.Core.Bool.{Bool}
+use Prim.Native.Nat.{ℕ, _^_}
+use lib.Dec.{leb}
+use Rattle.lists.specs.Tests.{choose}
+use Rattle.lists.specs.Least.{least}
 use Rattle.model.specs.Limits.{maxLinks}
 
 -- are 2 ^ k at least n?
@@ -21,45 +16,3 @@ allowance n = least n (enough n)
 -- a number of links that a plant can have; a larger one counts as the most
 abbrev pub clipped : ℕ → ℕ
 clipped n = choose (leb n maxLinks) n maxLinks
-
-pub clipped-fits : (n : ℕ) → n ≤ maxLinks → clipped n ≡ n
-clipped-fits n h = rw (le-leb n maxLinks h)
-
-pub clipped-most : (n : ℕ) → clipped n ≤ maxLinks
-clipped-most n = go (leb n maxLinks) (leb-true n maxLinks)
-  where
-    go : (t : Bool) → (t ≡ true → n ≤ maxLinks) → choose t n maxLinks ≤ maxLinks
-    go true f = f refl
-    go false f = omega arith
-
--- ---- what determines it
-
-two-pow : (k : ℕ) → 2 ^ suc k ≡ 2 ^ k + 2 ^ k
-two-pow k = pow-suc 2 k ∙ omega arith
-
-below-pow : (n : ℕ) → n < 2 ^ n
-below-pow zero = omega (arith, pow-zero 2)
-below-pow (suc n) = omega (arith, two-pow n, below-pow n)
-
--- 2 to the allowance is enough
-pub allowance-enough : (n : ℕ) → n ≤ 2 ^ allowance n
-unfolding allowance
-allowance-enough n = go (eq? (least n (enough n)) n)
-  where
-    go : (least n (enough n) ≡ n) ⊎ (least n (enough n) ≡ n → ⊥) → n ≤ 2 ^ least n (enough n)
-    go (inl e) = subst (λ (k : ℕ). n ≤ 2 ^ k) (sym e) (omega (arith, below-pow n))
-    go (inr f) = leb→le n (2 ^ least n (enough n)) (least-passes n (enough n) (omega (arith, f, least-top n (enough n))))
-
--- and no smaller power of 2 is
-pub allowance-least : (n k : ℕ) → n ≤ 2 ^ k → allowance n ≤ k
-unfolding allowance
-allowance-least n k h = least-le n (enough n) k (le→leb n (2 ^ k) h)
-
--- ---- halving: of two places or more, the larger half has a smaller allowance
-
-pub allowance-half : (n m : ℕ) → 2 ≤ n → 2 * m ≤ n + 1 → allowance m < allowance n
-allowance-half n m h i = go (allowance n) (allowance-enough n)
-  where
-    go : (k : ℕ) → n ≤ 2 ^ k → allowance m < k
-    go zero e = absurd (omega (arith, pow-zero 2))
-    go (suc k) e = omega (arith, allowance-least m k (omega (arith, two-pow k)))

@@ -6,10 +6,11 @@ use mathlib.Core.List.{List, [], _∷_, _++_}
 use Prim.Native.Nat.{ℕ}
 use native.Mathlib.Omega.{arith}
 use lib.ListN.{length}
-use Rattle.lists.specs.Tests.{true-T, false-T, not-true-false}
+use Rattle.lists.proofs.Tests.{true-T, false-T, not-true-false}
 use Rattle.plant.specs.declared.Plant.{Plant}
 use Rattle.plant.specs.Refusals.{Answer, given, refused, refuse, _>>=_}
-use Rattle.model.specs.Answers.{given-refused, refused-refused, Conditions, trying, trying-append, trying-then, then-assoc, none-trying, refused-exactly, otherwise-none}
+use Rattle.model.specs.Answers.{Conditions}
+use Rattle.model.proofs.Answers.{given-refused, refused-refused, trying, trying-append, trying-then, then-assoc, none-trying, refused-exactly, otherwise-none}
 use Rattle.listing.specs.Field.{Bytes}
 use Rattle.listing.specs.Listing.{decode, encode}
 use Rattle.listing.specs.Writing.{soundPlant, bufferShort, written}
@@ -18,8 +19,8 @@ use Rattle.listing.proofs.Refusing.{decode-refuses, decode-gives, refusal-numbe
 use Rattle.listing.proofs.RoundTrip.{decode-sound, decode-answers}
 use Rattle.listing.proofs.WriteRoundTrip.{written-refuses, written-gives, buffer-refused}
 use Rattle.walks.specs.Graph.{Connected, connected, liveLinks}
-use Rattle.walks.specs.Tests.{connected-is}
-use Rattle.walks.specs.Valid.{sound-valid}
+use Rattle.walks.proofs.Tests.{connected-is}
+use Rattle.walks.proofs.Valid.{sound-valid}
 use Rattle.planner.specs.Planning.{notConnected, joined, planning, switchOutOfRange, planningAt}
 use Rattle.planner.specs.Calls.{rewriting, overlaid, rereading, tabling, summing, placesShort, laying, laidOut, trailing, trailedBy}
 use Rattle.planner.proofs.Plans.{plan-joined, plan-apart, plan-refused, plan-ready}

@@ -6,7 +6,7 @@ use Rattle.plant.specs.declared.Plant.{Plant}
 use Rattle.plant.specs.Refusals.{given}
 use Rattle.listing.specs.Field.{Bytes}
 use Rattle.walks.specs.Graph.{liveLinks}
-use Rattle.walks.specs.Live.{all-live}
+use Rattle.walks.proofs.Live.{all-live}
 use Rattle.search.specs.Search.{newSearch}
 use Rattle.table.specs.Rules.{tableOf}
 use Rattle.planner.specs.Planning.{planning}

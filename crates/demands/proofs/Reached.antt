@@ -6,10 +6,11 @@ use mathlib.Core.Bool.{Bool, true, false}
 use mathlib.Core.List.{List, [], _∷_}
 use Prim.Native.Nat.{ℕ, _+_, _≤_, _<_}
 use native.Mathlib.Omega.{arith}
-use Rattle.lists.specs.Tests.{choose, bool?, eq?}
+use Rattle.lists.specs.Tests.{choose}
+use Rattle.lists.proofs.Tests.{bool?, eq?}
 use Rattle.plant.specs.declared.Plant.{Plant}
 use Rattle.plant.specs.Refusals.{given}
-use Rattle.model.specs.Answers.{given-refused, given-given}
+use Rattle.model.proofs.Answers.{given-refused, given-given}
 use Rattle.model.specs.Limits.{maxLinks}
 use Rattle.model.specs.Sound.{Sound}
 use Rattle.walks.specs.Graph.{Connected, liveLinks}
@@ -20,9 +21,10 @@ use Rattle.search.specs.declared.Outcome.the-variants.{Returned, Lost}
 use Rattle.search.specs.declared.Progress.{Progress}
 use Rattle.search.specs.Search.{ended, wanted, ask}
 use Rattle.search.specs.Calls.{Call, asks, gives, step, perform, begun, TrueCalls}
-use Rattle.search.specs.Sound.{Good, good-sound, wanted-in, answers-15}
-use Rattle.search.specs.Finds.{Kept, kept-new, kept-step, asks-on}
-use Rattle.search.specs.Witness.{TrueAt, found}
+use Rattle.search.specs.Sound.{Good}
+use Rattle.search.proofs.Sound.{good-sound, wanted-in, answers-15}
+use Rattle.search.proofs.Finds.{Kept, kept-new, kept-step, asks-on}
+use Rattle.search.proofs.Witness.{TrueAt, found}
 use Rattle.demands.specs.Demands.{actualOutcome, AllTrue}
 use Rattle.demands.proofs.Searching.{place, told, tells, few-links}
 

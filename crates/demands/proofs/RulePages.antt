@@ -7,15 +7,16 @@ use native.Mathlib.Omega.{arith}
 use lib.Dec.{T}
 use lib.ListN.{length}
 use Rattle.lists.specs.Members.{In, Distinct}
-use Rattle.lists.specs.Numbers.{range, in-range, keep, keep-in, in-keep, range-distinct, keep-distinct}
+use Rattle.lists.specs.Numbers.{range, keep}
+use Rattle.lists.proofs.Numbers.{in-range, keep-in, in-keep, range-distinct, keep-distinct}
 use Rattle.plant.specs.declared.Plant.{Plant}
 use Rattle.model.specs.Sound.{Sound}
 use Rattle.walks.specs.Graph.{Connected, used, liveLinks, bridges}
-use Rattle.walks.specs.Live.{live-below}
-use Rattle.walks.specs.Orientation.{used-arc}
-use Rattle.walks.specs.Counting.{arcs-in-use}
-use Rattle.walks.specs.Fewest.{fewest}
-use Rattle.walks.specs.Valid.{sound-valid}
+use Rattle.walks.proofs.Live.{live-below}
+use Rattle.walks.proofs.Orientation.{used-arc}
+use Rattle.walks.proofs.Counting.{arcs-in-use}
+use Rattle.walks.proofs.Fewest.{fewest}
+use Rattle.walks.proofs.Valid.{sound-valid}
 use Rattle.trail.proofs.Trails.{trail-is}
 use Rattle.table.specs.Rules.{ruleOf, rulesBelow, rulesOf}
 use Rattle.table.proofs.Rules.{rules-count}

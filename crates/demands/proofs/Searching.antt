@@ -7,27 +7,30 @@ use Prim.Native.Nat.{ℕ, _+_, _≤_, _<_}
 use native.Mathlib.Omega.{arith}
 use borrow.Author.Tests.{ltb-true, ltb-false, eq-eqb, ne-eqb}
 use lib.Dec.{ltb}
-use Rattle.lists.specs.Tests.{choose, eq?, not-both, not-false-true}
+use Rattle.lists.specs.Tests.{choose}
+use Rattle.lists.proofs.Tests.{eq?, not-both, not-false-true}
 use Rattle.plant.specs.declared.Plant.{Plant}
 use Rattle.model.specs.Limits.{maxLinks}
 use Rattle.model.specs.Sound.{Sound}
 use Rattle.walks.specs.Arcs.{Valid}
 use Rattle.walks.specs.Graph.{Connected, liveLinks}
-use Rattle.walks.specs.Live.{all-live}
+use Rattle.walks.proofs.Live.{all-live}
 use Rattle.routes.specs.Plants.{trailOf}
 use Rattle.rings.specs.Trail.{Trail}
 use Rattle.rings.specs.Rules.{upBy}
 use Rattle.rings.specs.Injection.{orderOf, probeRun}
-use Rattle.rings.specs.FirstDown.{firstDown, first-one}
-use Rattle.rings.specs.InjectionLaws.{probe-tells, broken-most, none-broken, first-broken}
-use Rattle.walks.specs.Valid.{sound-valid}
-use Rattle.allowance.specs.Allowance.{allowance, allowance-enough, allowance-least}
+use Rattle.rings.proofs.FirstDown.{firstDown}
+use Rattle.rings.proofs.FirstDown.{first-one}
+use Rattle.rings.proofs.Injection.{probe-tells, broken-most, none-broken, first-broken}
+use Rattle.walks.proofs.Valid.{sound-valid}
+use Rattle.allowance.specs.Allowance.{allowance}
+use Rattle.allowance.proofs.Ceiling.{allowance-enough, allowance-least}
 use Rattle.search.specs.declared.Outcome.the-variants.{Returned, Lost}
 use Rattle.search.specs.Search.{ended, next, give}
 use Rattle.search.specs.Calls.{Call, perform, begun}
 use Rattle.search.specs.Limit.{limit}
-use Rattle.search.specs.Sound.{answers-given}
-use Rattle.search.specs.Finds.{Tells, finds}
+use Rattle.search.proofs.Sound.{answers-given}
+use Rattle.search.proofs.Finds.{Tells, finds}
 use Rattle.trail.proofs.Trails.{trail-is}
 use Rattle.demands.specs.Demands.{MostProbes, NoneBroken, actualOutcome, AllTrue, Says, Searches}
 

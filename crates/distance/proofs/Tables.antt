@@ -6,7 +6,7 @@ use Prim.Native.Nat.{ℕ, zero, suc, _+_, _<_}
 use native.Mathlib.Omega.{arith}
 use lib.ListN.{length, getD, set, replicate, length-set, length-replicate, getD-replicate}
 use lib.Seq.{getD-set-same, getD-set-other, ext-getD}
-use Rattle.lists.specs.Tests.{eq?}
+use Rattle.lists.proofs.Tests.{eq?}
 use Rattle.lists.specs.Numbers.{range}
 use Rattle.model.specs.Limits.{maxSwitches}
 use Rattle.distance.specs.Table.{cell, tableOf}

@@ -10,17 +10,18 @@ use lib.Dec.{eqb}
 use lib.ListN.{length, getD, set, length-set}
 use lib.Seq.{getD-set-same, getD-set-other}
 use borrow.Author.Tests.{eq-eqb, ne-eqb}
-use Rattle.lists.specs.Tests.{eq?, or-swap}
+use Rattle.lists.proofs.Tests.{eq?, or-swap}
 use Rattle.lists.specs.Members.{memb}
 use Rattle.plant.specs.declared.Plant.{Plant}
 use Rattle.model.specs.Limits.{maxSwitches, maxLinks}
-use Rattle.walks.specs.Visit.{St, rank, rank-eq, rank-ne}
-use Rattle.walks.specs.Labels.{even-or-odd}
+use Rattle.walks.specs.Visit.{St, rank}
+use Rattle.walks.proofs.Visit.{rank-eq, rank-ne}
+use Rattle.walks.proofs.Labels.{even-or-odd}
 use Rattle.graph.specs.declared.Visited.{Visited}
 use Rattle.graph.specs.Shows.{Shows, Room, unvisited}
 use Rattle.graph.specs.Steps.{enterOf, At}
 use Rattle.graph.proofs.Unvisited.{unvisited-set}
-use Rattle.lists.specs.Arrays.{flag-set}
+use Rattle.lists.proofs.Arrays.{flag-set}
 
 -- label a is one of the two labels of link j, or of neither
 own-label : (j a : ℕ) → eqb j (a / 2) ≡ eqb (2 * j) a || eqb (2 * j + 1) a

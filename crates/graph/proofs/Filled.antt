@@ -8,12 +8,12 @@ use native.Mathlib.Omega.{arith}
 use lib.Dec.{T, ltb, ltb→lt, nltb→le, not-T}
 use lib.ListN.{length, getD, set, replicate, length-set, length-replicate}
 use lib.Seq.{getD-set-same, getD-set-other}
-use Rattle.lists.specs.Tests.{T-or}
+use Rattle.lists.proofs.Tests.{T-or}
 use Rattle.lists.specs.Count.{count}
 use Rattle.graph.specs.Flags.{Flags, countSet}
-use Rattle.lists.specs.Stepwise.{upto, count-past}
-use Rattle.lists.specs.Arrays.{getD-flat}
-use Rattle.lists.specs.Agree.{count-same}
+use Rattle.lists.proofs.Stepwise.{upto, count-past}
+use Rattle.lists.proofs.Arrays.{getD-flat}
+use Rattle.lists.proofs.Agree.{count-same}
 
 -- the flags below i tell where the test passes, and those from i on are not set
 pub record Filled (n : ℕ) (test : ℕ → Bool) (i : ℕ) (flags : List Bool) : Type 0 where

@@ -8,7 +8,8 @@ use lib.Dec.{eqb}
 use lib.ListN.{getD}
 use borrow.Author.Tests.{ne-eqb}
 use Rattle.lists.specs.Members.{In, memb}
-use Rattle.lists.specs.Numbers.{range, range-in}
+use Rattle.lists.specs.Numbers.{range}
+use Rattle.lists.proofs.Numbers.{range-in}
 use Rattle.plant.specs.declared.Plant.{Plant}
 use Rattle.plant.specs.Links.{live}
 use Rattle.model.specs.Limits.{maxLinks}
@@ -18,9 +19,9 @@ use Rattle.walks.specs.Graph.{arcs, others, visitFrom, visited, connected}
 use Rattle.graph.specs.declared.Visited.{Visited}
 use Rattle.graph.specs.Shows.{Shows}
 use Rattle.graph.specs.Steps.{takesPart}
-use Rattle.lists.specs.Tests.{and-not}
-use Rattle.lists.specs.Stepwise.{every-true, every-false}
-use Rattle.lists.specs.Agree.{keep-agree}
+use Rattle.lists.proofs.Tests.{and-not}
+use Rattle.lists.proofs.Stepwise.{every-true, every-false}
+use Rattle.lists.proofs.Agree.{keep-agree}
 
 -- no link is left out
 pub others-none : (p : Plant) (sk : ℕ) → p .count ≤ sk → others p sk ≡ arcs p

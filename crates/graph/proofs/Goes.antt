@@ -5,8 +5,9 @@ use mathlib.Core.List.{List, _∷_}
 use Prim.Native.Nat.{ℕ, _+_, _≤_, _<_}
 use native.Mathlib.Omega.{arith}
 use lib.ListN.{getD}
-use Rattle.lists.specs.Tests.{true-T, false-T, T-true, not-both}
-use Rattle.lists.specs.Members.{In, memb→in, in→memb, memb}
+use Rattle.lists.proofs.Tests.{true-T, false-T, T-true, not-both}
+use Rattle.lists.specs.Members.{In, memb}
+use Rattle.lists.proofs.Members.{memb→in, in→memb}
 use Rattle.plant.specs.declared.Plant.{Plant}
 use Rattle.plant.specs.Links.{linkAt}
 use Rattle.model.specs.Sound.{Sound}
@@ -18,7 +19,7 @@ use Rattle.graph.specs.Shows.{Shows, Room}
 use Rattle.graph.specs.Steps.{farEnd, takesPart, enterOf, Went}
 use Rattle.graph.proofs.Links.{Far, out, back, away, far-cases, from-none, from-all, Tries, tries-not, tries-old, tries-new, Enters}
 use Rattle.graph.proofs.Entering.{enter-shows}
-use Rattle.lists.specs.Arrays.{set-keeps}
+use Rattle.lists.proofs.Arrays.{set-keeps}
 
 -- the far end of a link is a switch
 pub far-in : (p : Plant) (at l to : ℕ) → Sound p → at < p .switches → to ≡ farEnd (linkAt p l) at → l < p .count → to < p .switches

@@ -7,16 +7,17 @@ use native.Mathlib.Omega.{arith}
 use native.Mathlib.Numerals.{add-one}
 use lib.Dec.{T}
 use borrow.Author.Tests.{eq-eqb, ne-eqb}
-use Rattle.lists.specs.Tests.{eq?}
+use Rattle.lists.proofs.Tests.{eq?}
 use Rattle.lists.specs.Members.{In}
-use Rattle.lists.specs.Numbers.{range, keep, keep-yes, keep-no}
+use Rattle.lists.specs.Numbers.{range, keep}
+use Rattle.lists.proofs.Numbers.{keep-yes, keep-no}
 use Rattle.plant.specs.declared.Link.{Link}
 use Rattle.plant.specs.declared.Plant.{Plant}
 use Rattle.plant.specs.Links.{linkAt, first, second}
 use Rattle.walks.specs.Arcs.{labels, tail, head}
 use Rattle.walks.specs.Visit.{St, Scan, skip, enter}
 use Rattle.walks.specs.Graph.{others}
-use Rattle.walks.specs.Labels.{tail-even, tail-odd, head-even, head-odd, even-half, odd-half}
+use Rattle.walks.proofs.Labels.{tail-even, tail-odd, head-even, head-odd, even-half, odd-half}
 use Rattle.graph.specs.Steps.{farEnd, takesPart}
 
 -- ---- the far end of a link

@@ -6,10 +6,10 @@ use Prim.Native.Nat.{ℕ, suc, _≤_, _<_}
 use lib.Dec.{T-not, not-T}
 use lib.ListN.{length, getD, set}
 use lib.Seq.{getD-set-same}
-use Rattle.lists.specs.Tests.{T-true, true-T, false-T}
-use Rattle.lists.specs.Count.{count-le, count-lt}
+use Rattle.lists.proofs.Tests.{T-true, true-T, false-T}
+use Rattle.lists.proofs.Count.{count-le, count-lt}
 use Rattle.graph.specs.Shows.{unvisited}
-use Rattle.lists.specs.Arrays.{set-keeps}
+use Rattle.lists.proofs.Arrays.{set-keeps}
 
 pub unvisited-kept : (n : ℕ) (l m : List Bool) → ((x : ℕ) → getD l x false ≡ true → getD m x false ≡ true) → unvisited n m ≤ unvisited n l
 unfolding unvisited

@@ -8,8 +8,9 @@ use native.Mathlib.Omega.{arith}
 use lib.Dec.{T, not-T, ltb, ltb→lt, nltb→le}
 use lib.ListN.{getD}
 use borrow.Author.Tests.{le-ltb}
-use Rattle.lists.specs.Tests.{T-or, true-T, false-T, not-true-false}
-use Rattle.lists.specs.Members.{In, memb→in}
+use Rattle.lists.proofs.Tests.{T-or, true-T, false-T, not-true-false}
+use Rattle.lists.specs.Members.{In}
+use Rattle.lists.proofs.Members.{memb→in}
 use Rattle.plant.specs.declared.Link.{Link}
 use Rattle.plant.specs.declared.Plant.{Plant}
 use Rattle.plant.specs.Links.{first, second, live}
@@ -18,16 +19,16 @@ use Rattle.model.specs.Sound.{Sound}
 use Rattle.walks.specs.Arcs.{tail, head, Valid}
 use Rattle.walks.specs.Visit.{rank}
 use Rattle.walks.specs.Graph.{others, visitFrom, visited, bridge, entered, earlier, used, bridges, arcsUsed}
-use Rattle.walks.specs.Live.{live-below}
-use Rattle.walks.specs.Labels.{tail-even, tail-odd, head-even, head-odd, even-half, odd-half, even-arc}
-use Rattle.walks.specs.Visited.{visited-keeps}
-use Rattle.walks.specs.Tests.{bridge-live}
-use Rattle.walks.specs.Counting.{bridge-entered}
+use Rattle.walks.proofs.Live.{live-below}
+use Rattle.walks.proofs.Labels.{tail-even, tail-odd, head-even, head-odd, even-half, odd-half, even-arc}
+use Rattle.walks.proofs.Visited.{visited-keeps}
+use Rattle.walks.proofs.Tests.{bridge-live}
+use Rattle.walks.proofs.Counting.{bridge-entered}
 use Rattle.graph.specs.declared.Visited.{Visited}
 use Rattle.graph.specs.Flags.{Flags, countSet}
 use Rattle.graph.specs.Shows.{Shows}
 use Rattle.graph.specs.Steps.{inUse}
-use Rattle.walks.specs.Valid.{sound-valid}
+use Rattle.walks.proofs.Valid.{sound-valid}
 use Rattle.graph.proofs.Filled.{flags-count}
 
 module _ (p : Plant) where

@@ -8,23 +8,24 @@ use native.Mathlib.Omega.{arith}
 use lib.Dec.{eqb}
 use lib.ListN.{length, getD, set, replicate, length-set, length-replicate}
 use borrow.Author.Tests.{eq-eqb}
-use Rattle.lists.specs.Tests.{eq?}
-use Rattle.lists.specs.Count.{count-all}
+use Rattle.lists.proofs.Tests.{eq?}
+use Rattle.lists.proofs.Count.{count-all}
 use Rattle.plant.specs.declared.Plant.{Plant}
 use Rattle.model.specs.Limits.{maxSwitches, maxLinks}
 use Rattle.model.specs.Sound.{Sound}
 use Rattle.walks.specs.Arcs.{tail, head}
-use Rattle.walks.specs.Visit.{St, rank, rank-eq, rank-ne}
+use Rattle.walks.specs.Visit.{St, rank}
+use Rattle.walks.proofs.Visit.{rank-eq, rank-ne}
 use Rattle.walks.specs.Graph.{others, visitFrom}
-use Rattle.walks.specs.Labels.{others-are}
-use Rattle.walks.specs.Fuel.{unique}
-use Rattle.walks.specs.Visited.{begin, run}
+use Rattle.walks.proofs.Labels.{others-are}
+use Rattle.walks.proofs.Fuel.{unique}
+use Rattle.walks.proofs.Visited.{begin, run}
 use Rattle.graph.specs.declared.Visited.{Visited}
 use Rattle.graph.specs.Shows.{Shows, unvisited}
 use Rattle.graph.specs.Steps.{beginOf, At, Went}
-use Rattle.walks.specs.Valid.{sound-valid}
+use Rattle.walks.proofs.Valid.{sound-valid}
 use Rattle.graph.proofs.Unvisited.{unvisited-set}
-use Rattle.lists.specs.Arrays.{getD-flat, flag-set}
+use Rattle.lists.proofs.Arrays.{getD-flat, flag-set}
 
 -- of n places that are not set, one is
 module _ (n at : ℕ) (at-in : at < n) where

@@ -9,7 +9,7 @@ use native.Mathlib.Omega.{arith}
 use borrow.Author.Tests.{ltb-true, ltb-false, lt-ltb, le-ltb, not-true, leb-true, le-leb, eqb-true, eq-eqb}
 use lib.Dec.{ltb}
 use lib.ListN.{length, take, drop, length-drop}
-use Rattle.lists.specs.Tests.{bool?, not-both, true-exactly, and-comm, or-true, true-or}
+use Rattle.lists.proofs.Tests.{bool?, not-both, true-exactly, and-comm, or-true, true-or}
 use Rattle.plant.specs.declared.Link.{Link}
 use Rattle.listing.specs.declared.Field.{Field}
 use Rattle.listing.specs.Field.{number}

@@ -7,7 +7,7 @@ use native.Mathlib.Omega.{arith}
 use borrow.Author.Tests.{lt-ltb, le-ltb}
 use lib.ListN.{length, getD, drop, length-append}
 use lib.Seq.{sets, length-sets}
-use Rattle.lists.specs.Arrays.{sets-append, sets-front, laid}
+use Rattle.lists.proofs.Arrays.{sets-append, sets-front, laid}
 use Rattle.plant.specs.declared.Link.{Link}
 use Rattle.plant.specs.declared.Plant.{Plant}
 use Rattle.plant.specs.declared.Refusal.{Refusal}

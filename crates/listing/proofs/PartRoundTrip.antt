@@ -10,10 +10,13 @@ use borrow.Author.Tests.{le-ltb, lt-leb, eq-eqb, ne-eqb, ltb-false, leb-false, e
 use lib.Dec.{eqb}
 use lib.ListN.{length, take, drop, length-append, length-drop, take-append-drop}
 use lib.Seq.{drop-drop, take-at, drop-at, length-take-le}
-use Rattle.lists.specs.Tests.{choose, or-false}
-use Rattle.lists.specs.Count.{bit, bit-le-one}
+use Rattle.lists.specs.Tests.{choose}
+use Rattle.lists.proofs.Tests.{or-false}
+use Rattle.lists.specs.Count.{bit}
+use Rattle.lists.proofs.Count.{bit-le-one}
 use Rattle.plant.specs.Refusals.{given}
-use Rattle.model.specs.Answers.{NoneHolds, trying, given-exactly}
+use Rattle.model.specs.Answers.{NoneHolds}
+use Rattle.model.proofs.Answers.{trying, given-exactly}
 use Rattle.listing.specs.declared.Field.{Field}
 use Rattle.listing.specs.Field.{number, bytesOf, Bytes}
 use Rattle.listing.specs.Part.{taken, size, valueOf, repeats, redundant, values, someRedundant, mapByte, mapMissing, mapUndefined, fieldMissing, fieldRedundant, fieldValues, afterPart, part, isGiven, fieldBytes, mapOf, bodyOf, partBytes}

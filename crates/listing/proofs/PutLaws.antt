@@ -6,7 +6,7 @@ use native.Mathlib.Omega.{arith}
 use borrow.Author.Tests.{eq-eqb, ne-eqb}
 use lib.ListN.{length, set, drop, length-append, length-set}
 use lib.Seq.{sets, sets-eq, length-sets}
-use Rattle.lists.specs.Arrays.{sets-append, laid}
+use Rattle.lists.proofs.Arrays.{sets-append, laid}
 use Rattle.listing.specs.Field.{bytesOf}
 use Rattle.listing.specs.declared.Field.{Field}
 use Rattle.listing.specs.Part.{fieldBytes, partBytes}

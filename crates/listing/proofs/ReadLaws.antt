@@ -7,13 +7,13 @@ use native.Mathlib.Omega.{arith}
 use borrow.Author.Tests.{leb-true, ltb-true, eqb-false, not-false}
 use lib.Dec.{eqb, leb, ltb}
 use lib.ListN.{length, getD, take, drop}
-use Rattle.lists.specs.Tests.{and-true}
+use Rattle.lists.proofs.Tests.{and-true}
 use Rattle.plant.specs.declared.Link.{Link}
 use Rattle.plant.specs.declared.Plant.{Plant}
 use Rattle.plant.specs.Links.{plantWith}
 use Rattle.plant.specs.Refusals.{Answer, given, refused, refuse, _>>=_, numberOf}
 use Rattle.plant.specs.declared.Refusal.{Refusal}
-use Rattle.model.specs.Answers.{given-given, refuse-given, then-given}
+use Rattle.model.proofs.Answers.{given-given, refuse-given, then-given}
 use Rattle.model.specs.Limits.{maxSwitches, maxLinks}
 use Rattle.listing.specs.declared.Field.{Field}
 use Rattle.listing.specs.declared.Part.{Part}

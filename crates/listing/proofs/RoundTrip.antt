@@ -7,12 +7,13 @@ use Prim.Native.Nat.{ℕ, zero, suc, _+_, _-_, _≤_}
 use native.Mathlib.Omega.{arith}
 use lib.ListN.{length, replicate, length-append, length-replicate, take-append-drop}
 use lib.Seq.{take-at, drop-at}
-use Rattle.lists.specs.Members.{Each}
+use Rattle.lists.proofs.Members.{Each}
 use Rattle.plant.specs.declared.Link.{Link}
 use Rattle.plant.specs.declared.Plant.{Plant}
 use Rattle.plant.specs.Links.{zeroLink, plantWith}
 use Rattle.plant.specs.Refusals.{given}
-use Rattle.model.specs.Answers.{NoneHolds, none-append, otherwise-none}
+use Rattle.model.specs.Answers.{NoneHolds}
+use Rattle.model.proofs.Answers.{none-append, otherwise-none}
 use Rattle.model.specs.Limits.{maxSwitches, maxLinks}
 use Rattle.model.specs.Sound.{Sound}
 use Rattle.listing.specs.Field.{Bytes}

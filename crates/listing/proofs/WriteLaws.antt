@@ -7,14 +7,14 @@ use native.Mathlib.Numerals.{add-one}
 use native.Mathlib.Omega.{arith}
 use lib.ListN.{length, getD, take, drop, drop-of-length-le}
 use lib.Seq.{drop-cons, getD-take}
-use Rattle.lists.specs.Tests.{or-false}
+use Rattle.lists.proofs.Tests.{or-false}
 use Rattle.lists.specs.Members.{all}
 use Rattle.plant.specs.declared.Link.{Link}
 use Rattle.plant.specs.declared.Plant.{Plant}
 use Rattle.plant.specs.declared.Refusal.{Refusal}
 use Rattle.plant.specs.Links.{zeroLink}
 use Rattle.plant.specs.Refusals.{Answer, given, refused, refuse, _>>=_, numberOf}
-use Rattle.model.specs.Answers.{refuse-given}
+use Rattle.model.proofs.Answers.{refuse-given}
 use Rattle.model.specs.Limits.{maxLinks}
 use Rattle.listing.specs.declared.Verdict.{Verdict}
 use Rattle.listing.specs.declared.Verdict.the-variants as verdict

@@ -10,13 +10,15 @@ use borrow.Author.Tests.{le-ltb, ltb-false, eqb-true, not-false}
 use lib.Dec.{eqb}
 use lib.ListN.{length, getD, take, drop, replicate, length-append, length-drop}
 use lib.Seq.{take-at, getD-take}
-use Rattle.lists.specs.Tests.{and-true, or-false}
-use Rattle.lists.specs.Members.{In, all, Each, each-at, at-each}
+use Rattle.lists.proofs.Tests.{and-true, or-false}
+use Rattle.lists.specs.Members.{In, all}
+use Rattle.lists.proofs.Members.{Each, each-at, at-each}
 use Rattle.plant.specs.declared.Link.{Link}
 use Rattle.plant.specs.declared.Plant.{Plant}
 use Rattle.plant.specs.Links.{zeroLink}
 use Rattle.plant.specs.Refusals.{Answer, given, refused, refuse, _>>=_}
-use Rattle.model.specs.Answers.{Conditions, given-given, refuse-given, then-given, NoneHolds, FirstHolds, trying, trying-append, trying-then, refused-exactly, given-exactly, EachNumber, each-append, first-number}
+use Rattle.model.specs.Answers.{Conditions, NoneHolds, FirstHolds}
+use Rattle.model.proofs.Answers.{given-given, refuse-given, then-given, trying, trying-append, trying-then, refused-exactly, given-exactly, EachNumber, each-append, first-number}
 use Rattle.model.specs.Limits.{maxLinks}
 use Rattle.model.specs.Sound.{Sound}
 use Rattle.listing.specs.Field.{Bytes}

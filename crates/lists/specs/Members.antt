@@ -1,13 +1,10 @@
--- Membership in a list of numbers: as a relation, as a test, at a place; a test at all members, and what holds of each; distinct members. Assumes nothing.
-use mathlib.Core.Path.{_≡_, refl, sym, ap, _∙_, subst}
-use mathlib.Core.Logic.{_⊎_, inl, inr}
-use mathlib.Core.Bool.{Bool, true, false, not, _&&_, _||_}
-use mathlib.Core.List.{List, [], _∷_, _++_}
-use Prim.Native.Nat.{ℕ, zero, suc, _+_, _≤_, _<_}
-use native.Mathlib.Omega.{arith}
-use lib.Dec.{T, eqb, eqb→eq}
-use lib.ListN.{length, getD, replicate}
-use Rattle.lists.specs.Tests.{T-or, eq→eqb, or-left, or-right, or-cases, and-true, and-assoc}
+-- Membership in a list of numbers, as a relation and as a test; a test at all members; distinct members. The laws are in proofs/.
+use mathlib.Core.Path.{_≡_}
+use mathlib.Core.Logic.{_⊎_}
+use mathlib.Core.Bool.{Bool, true, false, _&&_, _||_}
+use mathlib.Core.List.{List, [], _∷_}
+use Prim.Native.Nat.{ℕ}
+use lib.Dec.{eqb}
 
 abbrev pub In : ℕ → List ℕ → Type 0
 In x [] = ⊥
@@ -17,97 +14,11 @@ abbrev pub memb : ℕ → List ℕ → Bool
 memb x [] = false
 memb x (y ∷ ys) = eqb x y || memb x ys
 
-pub memb→in : (x : ℕ) (l : List ℕ) → T (memb x l) → In x l
-memb→in x [] t = t
-memb→in x (y ∷ ys) t = go (memb→in x ys) (or-cases (eqb x y) (memb x ys) t)
-  where
-    go : (T (memb x ys) → In x ys) → T (eqb x y) ⊎ T (memb x ys) → (x ≡ y) ⊎ In x ys
-    go rec (inl e) = inl (eqb→eq x y e)
-    go rec (inr m) = inr (rec m)
-
-pub in→memb : (x : ℕ) (l : List ℕ) → In x l → T (memb x l)
-in→memb x [] h = h
-in→memb x (y ∷ ys) (inl e) = or-left (eqb x y) (memb x ys) (eq→eqb e)
-in→memb x (y ∷ ys) (inr m) = or-right (eqb x y) (memb x ys) (in→memb x ys m)
-
-pub in? : (x : ℕ) (l : List ℕ) → In x l ⊎ (In x l → ⊥)
-in? x l = go (T-or (memb x l))
-  where
-    go : T (memb x l) ⊎ (T (memb x l) → ⊥) → In x l ⊎ (In x l → ⊥)
-    go (inl t) = inl (memb→in x l t)
-    go (inr f) = inr (λ h. f (in→memb x l h))
-
--- ---- members of two lists, one after the other
-
-pub in-append-left : (x : ℕ) (l m : List ℕ) → In x l → In x (l ++ m)
-in-append-left x [] m h = absurd h
-in-append-left x (y ∷ l) m (inl e) = inl e
-in-append-left x (y ∷ l) m (inr h) = inr (in-append-left x l m h)
-
-pub in-append-right : (x : ℕ) (l m : List ℕ) → In x m → In x (l ++ m)
-in-append-right x [] m h = h
-in-append-right x (y ∷ l) m h = inr (in-append-right x l m h)
-
-pub in-append : (x : ℕ) (l m : List ℕ) → In x (l ++ m) → In x l ⊎ In x m
-in-append x [] m h = inr h
-in-append x (y ∷ l) m (inl e) = inl (inl e)
-in-append x (y ∷ l) m (inr h) = go (in-append x l m h)
-  where
-    go : In x l ⊎ In x m → In x (y ∷ l) ⊎ In x m
-    go (inl i) = inl (inr i)
-    go (inr i) = inr i
-
--- ---- members by place
-
-pub getD-in : (xs : List ℕ) (i : ℕ) → i < length xs → In (getD xs i 0) xs
-getD-in [] i h = absurd (omega arith)
-getD-in (x ∷ xs) zero h = inl refl
-getD-in (x ∷ xs) (suc i) h = inr (getD-in xs i (omega arith))
-
-pub in-getD : (xs : List ℕ) (x : ℕ) → In x xs → (i : ℕ) × (i < length xs) × (getD xs i 0 ≡ x)
-in-getD [] x h = absurd h
-in-getD (y ∷ xs) x (inl e) = (0, omega arith, sym e)
-in-getD (y ∷ xs) x (inr h) = let r = in-getD xs x h in (suc (r .0), omega (arith, r .1), r .2)
-
 -- ---- a test at all members
 
 abbrev pub all : {A : Type 0} → (A → Bool) → List A → Bool
 all p [] = true
 all p (x ∷ xs) = p x && all p xs
-
-pub all-at : (p : ℕ → Bool) (xs : List ℕ) → all p xs ≡ true → (x : ℕ) → In x xs → p x ≡ true
-all-at p [] e x h = absurd h
-all-at p (y ∷ xs) e x (inl q) = ap p q ∙ and-true (p y) (all p xs) e .0
-all-at p (y ∷ xs) e x (inr h) = all-at p xs (and-true (p y) (all p xs) e .1) x h
-
-pub at-all : (p : ℕ → Bool) (xs : List ℕ) → ((x : ℕ) → In x xs → p x ≡ true) → all p xs ≡ true
-at-all p [] f = refl
-at-all p (y ∷ xs) f = rw (f y (inl refl)) (at-all p xs (λ x h. f x (inr h)))
-
-pub all-append : {A : Type 0} (p : A → Bool) (xs ys : List A) → all p (xs ++ ys) ≡ all p xs && all p ys
-all-append p [] ys = refl
-all-append p (x ∷ xs) ys = ap (λ (b : Bool). p x && b) (all-append p xs ys) ∙ sym (and-assoc (p x) (all p xs) (all p ys))
-
--- ---- what holds of each member, at its place
-
-abbrev pub Each : {A : Type 0} → (A → Type 0) → List A → Type 0
-Each P [] = Unit
-Each P (x ∷ xs) = P x × Each P xs
-
-pub each-at : {A : Type 0} (P : A → Type 0) (xs : List A) (d : A) → Each P xs → (i : ℕ) → i < length xs → P (getD xs i d)
-each-at P [] d h i k = absurd (omega arith)
-each-at P (x ∷ xs) d h zero k = h .0
-each-at P (x ∷ xs) d h (suc i) k = each-at P xs d (h .1) i (omega arith)
-
-pub at-each : {A : Type 0} (P : A → Type 0) (xs : List A) (d : A) → ((i : ℕ) → i < length xs → P (getD xs i d)) → Each P xs
-at-each P [] d f = tt
-at-each P (x ∷ xs) d f = (f 0 (omega arith), at-each P xs d (λ i h. f (suc i) (omega arith)))
-
--- a list of one value has it at every place, and past its end as the default
-pub getD-same : {A : Type 0} (n i : ℕ) (a : A) → getD (replicate n a) i a ≡ a
-getD-same zero i a = refl
-getD-same (suc n) zero a = refl
-getD-same (suc n) (suc i) a = getD-same n i a
 
 -- ---- distinct members
 

@@ -8,15 +8,17 @@ use native.Mathlib.Omega.{arith}
 use native.Mathlib.Numerals.{add-one}
 use lib.ListN.{length, getD, take, drop, set, replicate, length-append, length-set, length-replicate, getD-replicate, take-append-drop}
 use lib.Seq.{take-suc, take-all, take-at, getD-set-same, getD-set-other, set-at}
-use Rattle.lists.specs.Tests.{choose, eq?, T-true, true-T, same-test}
-use Rattle.lists.specs.Members.{In, memb, memb→in, in→memb, in-append, in-append-left, in-append-right, getD-in}
-use Rattle.lists.specs.Count.{count-all, distinct-count}
+use Rattle.lists.specs.Tests.{choose}
+use Rattle.lists.proofs.Tests.{eq?, T-true, true-T, same-test}
+use Rattle.lists.specs.Members.{In, memb}
+use Rattle.lists.proofs.Members.{memb→in, in→memb, in-append, in-append-left, in-append-right, getD-in}
+use Rattle.lists.proofs.Count.{count-all, distinct-count}
 use Rattle.model.specs.Limits.{maxLinks}
 use Rattle.rings.specs.Ring.{readFrom}
-use Rattle.rings.specs.RingLaws.{read-labels}
-use Rattle.rings.specs.Parts.{read-length}
+use Rattle.rings.proofs.Ring.{read-labels}
+use Rattle.rings.proofs.Parts.{read-length}
 use Rattle.rings.specs.Order.{order, nth}
-use Rattle.rings.specs.OrderLaws.{order-distinct, order-label, order-snoc}
+use Rattle.rings.proofs.Order.{order-distinct, order-label, order-snoc}
 use Rattle.order.specs.Order.{padded, listed}
 
 -- ---- members of a list and one more

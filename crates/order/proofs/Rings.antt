@@ -13,14 +13,14 @@ use Rattle.plant.specs.declared.Plant.{Plant}
 use Rattle.model.specs.Limits.{maxLinks}
 use Rattle.model.specs.Sound.{Sound}
 use Rattle.walks.specs.Arcs.{tail}
-use Rattle.walks.specs.Live.{live-below}
-use Rattle.walks.specs.Orientation.{used-arc}
+use Rattle.walks.proofs.Live.{live-below}
+use Rattle.walks.proofs.Orientation.{used-arc}
 use Rattle.rings.specs.Trail.{Trail}
 use Rattle.rings.specs.Ring.{readFrom}
-use Rattle.rings.specs.RingLaws.{place-most}
+use Rattle.rings.proofs.Ring.{place-most}
 use Rattle.rings.specs.Injection.{placeOf}
 use Rattle.rings.specs.Probe.{upTo}
-use Rattle.rings.specs.Parts.{read-length}
+use Rattle.rings.proofs.Parts.{read-length}
 use Rattle.order.specs.Labels.{OverArcs}
 
 -- ---- what the code asks

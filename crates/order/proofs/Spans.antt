@@ -11,7 +11,8 @@ use Rattle.rings.specs.Ring.{readFrom, ring}
 use Rattle.rings.specs.Order.{order}
 use Rattle.rings.specs.Probe.{upTo, outward}
 use Rattle.rings.specs.Injection.{placeOf, ringOf}
-use Rattle.rings.specs.Parts.{out, outStretch, outFront, out-most, outward-parts}
+use Rattle.rings.specs.Parts.{out, outStretch, outFront}
+use Rattle.rings.proofs.Parts.{out-most, outward-parts}
 use Rattle.order.specs.declared.Order.{Order}
 use Rattle.order.specs.Order.{listed}
 use Rattle.order.specs.Span.{ringSpan, spanOf, stretchOf, frontOf}

@@ -9,15 +9,16 @@ use lib.Seq.{take-all, length-take-le}
 use Rattle.lists.specs.Tests.{choose}
 use Rattle.plant.specs.declared.Plant.{Plant}
 use Rattle.walks.specs.Arcs.{tail, head}
-use Rattle.walks.specs.Live.{all-live}
+use Rattle.walks.proofs.Live.{all-live}
 use Rattle.rings.specs.Packet.{End, run, runOn}
-use Rattle.rings.specs.PacketLaws.{runOn-append}
+use Rattle.rings.proofs.Packet.{runOn-append}
 use Rattle.rings.specs.Rules.{upBy, inTable, inAll}
 use Rattle.rings.specs.Ring.{readFrom, ring}
 use Rattle.rings.specs.Probe.{back}
 use Rattle.rings.specs.Injection.{placeOf, ringOf, probeRun}
-use Rattle.rings.specs.InjectionLaws.{full-run, back-run}
-use Rattle.rings.specs.Parts.{outStretch, outFront, there-and-back}
+use Rattle.rings.proofs.Injection.{full-run, back-run}
+use Rattle.rings.specs.Parts.{outStretch, outFront}
+use Rattle.rings.proofs.Parts.{there-and-back}
 use Rattle.order.specs.declared.Span.{Span}
 use Rattle.order.specs.Span.{spanOf, stretchOf, frontOf}
 use Rattle.order.proofs.Spans.{span-stretch, span-front}

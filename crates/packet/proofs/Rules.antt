@@ -9,15 +9,16 @@ use lib.Dec.{eqb, ltb}
 use lib.ListN.{length, set, replicate}
 use lib.Seq.{getD-set-same, getD-set-other}
 use borrow.Author.Tests.{ltb-true, lt-ltb, le-ltb}
-use Rattle.lists.specs.Tests.{choose, eq?, same-test, true-T}
+use Rattle.lists.specs.Tests.{choose}
+use Rattle.lists.proofs.Tests.{eq?, same-test, true-T}
 use Rattle.plant.specs.declared.Plant.{Plant}
 use Rattle.plant.specs.Links.{live}
 use Rattle.walks.specs.Arcs.{tail, head}
 use Rattle.walks.specs.Graph.{used}
-use Rattle.walks.specs.Live.{live-is}
-use Rattle.walks.specs.Orientation.{used-arc}
+use Rattle.walks.proofs.Live.{live-is}
+use Rattle.walks.proofs.Orientation.{used-arc}
 use Rattle.rings.specs.Packet.{End, runOn, rulesFor}
-use Rattle.rings.specs.PacketLaws.{run-same}
+use Rattle.rings.proofs.Packet.{run-same}
 use Rattle.rings.specs.Rules.{upBy, inTable, inAll}
 use Rattle.distance.specs.Distances.{flag}
 use Rattle.packet.specs.Flags.{flagged, ForArcs, ForTable, ForAll}

@@ -7,7 +7,7 @@ use Prim.Native.Nat.{ℕ, suc, _+_, _-_, _%_, _<_}
 use native.Mathlib.Omega.{arith}
 use lib.ListN.{length, getD, length-append, List·getD-append}
 use lib.Seq.{getD-at}
-use Rattle.lists.specs.Tests.{eq?}
+use Rattle.lists.proofs.Tests.{eq?}
 use Rattle.walks.specs.Arcs.{opposite}
 use Rattle.rings.specs.Probe.{back}
 use Rattle.packet.specs.Runs.{way}

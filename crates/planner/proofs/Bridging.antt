@@ -13,7 +13,7 @@ use Rattle.graph.specs.Flags.{Flags}
 use Rattle.listing.specs.declared.Verdict.the-variants as verdict
 use Rattle.planner.specs.Calls.{bridgeIn}
 use Rattle.planner.specs.Answers.{Bridges}
-use Rattle.lists.specs.Arrays.{getD-flat}
+use Rattle.lists.proofs.Arrays.{getD-flat}
 
 pub bridges-given : (a : Answer Plant) (p : Plant) (fs : List Bool) → a ≡ given p → Flags maxLinks (bridge p) fs → Bridges a (record { verdict = verdict.Sound; flags = fs })
 bridges-given a p fs e f = subst (λ (x : Answer Plant). Bridges x (record { verdict = verdict.Sound; flags = fs })) (sym e) (record { answer = refl; flags = f })

@@ -5,15 +5,15 @@ use mathlib.Core.List.{List, [], _∷_}
 use Prim.Native.Nat.{ℕ, zero, suc, _^_, _<_}
 use lib.Dec.{T}
 use lib.ListN.{getD}
-use Rattle.lists.specs.Tests.{true-T}
+use Rattle.lists.proofs.Tests.{true-T}
 use Rattle.plant.specs.declared.Plant.{Plant}
 use Rattle.plant.specs.declared.Refusal.{Refusal}
 use Rattle.plant.specs.Refusals.{Answer, given, refused, refuse, _>>=_, numberOf}
-use Rattle.model.specs.Answers.{given-refused, given-given, refuse-given, then-given}
+use Rattle.model.proofs.Answers.{given-refused, given-given, refuse-given, then-given}
 use Rattle.model.specs.Sound.{Sound}
 use Rattle.walks.specs.Graph.{Connected, connected}
-use Rattle.walks.specs.Tests.{connected-is}
-use Rattle.walks.specs.Valid.{sound-valid}
+use Rattle.walks.proofs.Tests.{connected-is}
+use Rattle.walks.proofs.Valid.{sound-valid}
 use Rattle.listing.specs.declared.Decoded.{Decoded}
 use Rattle.listing.specs.declared.Verdict.{Verdict}
 use Rattle.listing.specs.declared.Verdict.the-variants as verdict

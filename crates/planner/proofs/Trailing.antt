@@ -6,13 +6,13 @@ use Prim.Native.Nat.{ℕ, _*_, _≤_, _<_}
 use native.Mathlib.Omega.{arith}
 use borrow.Author.Tests.{lt-ltb, le-ltb}
 use lib.ListN.{length}
-use Rattle.lists.specs.Count.{count-all}
+use Rattle.lists.proofs.Count.{count-all}
 use Rattle.plant.specs.declared.Plant.{Plant}
 use Rattle.plant.specs.Refusals.{Answer, given, refused, refuse, _>>=_}
 use Rattle.model.specs.Limits.{maxLinks}
 use Rattle.model.specs.Sound.{Sound}
 use Rattle.walks.specs.Graph.{Connected, bridge, used, liveLinks, bridges, arcsUsed}
-use Rattle.walks.specs.Live.{all-live}
+use Rattle.walks.proofs.Live.{all-live}
 use Rattle.graph.specs.Flags.{Flags, countSet}
 use Rattle.graph.proofs.Uses.{bridges-counted, arcs-counted}
 use Rattle.routes.specs.Plants.{trailOf}

@@ -8,7 +8,7 @@ use borrow.Author.Tests.{le-leb, lt-leb}
 use Rattle.plant.specs.declared.Plant.{Plant}
 use Rattle.plant.specs.declared.Refusal.{Refusal}
 use Rattle.plant.specs.Refusals.{Answer, given, refused, refuse, _>>=_}
-use Rattle.model.specs.Answers.{given-refused}
+use Rattle.model.proofs.Answers.{given-refused}
 use Rattle.listing.specs.declared.Decoded.{Decoded}
 use Rattle.listing.specs.declared.Verdict.the-variants as verdict
 use Rattle.listing.specs.Answers.{Reads}

@@ -12,7 +12,8 @@ use Rattle.walks.specs.Graph.{Connected, used}
 use Rattle.routes.specs.Plants.{trailOf}
 use Rattle.rings.specs.Trail.{Trail}
 use Rattle.graph.specs.Flags.{Flags}
-use Rattle.trail.specs.Filled.{sameList, same-is}
+use Rattle.trail.specs.Filled.{sameList}
+use Rattle.trail.proofs.Filled.{same-is}
 use Rattle.trail.proofs.Trails.{trail-is}
 use Rattle.order.specs.Labels.{OverArcs}
 use Rattle.order.proofs.Rings.{trail-arcs}

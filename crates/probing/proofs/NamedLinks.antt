@@ -7,18 +7,19 @@ use Prim.Native.Nat.{ℕ, _-_, _<_}
 use native.Mathlib.Omega.{arith}
 use lib.Dec.{T}
 use lib.ListN.{length, take}
-use Rattle.lists.specs.Members.{In, Distinct, getD-in}
+use Rattle.lists.specs.Members.{In, Distinct}
+use Rattle.lists.proofs.Members.{getD-in}
 use Rattle.plant.specs.declared.Plant.{Plant}
 use Rattle.plant.specs.Links.{live}
 use Rattle.plant.specs.Refusals.{given, refuse}
 use Rattle.model.specs.Sound.{Sound}
-use Rattle.model.specs.Answers.{given-given, refuse-given}
+use Rattle.model.proofs.Answers.{given-given, refuse-given}
 use Rattle.walks.specs.Graph.{Connected, liveLinks}
-use Rattle.walks.specs.Valid.{sound-valid}
+use Rattle.walks.proofs.Valid.{sound-valid}
 use Rattle.routes.specs.Plants.{trailOf}
 use Rattle.rings.specs.Order.{nth}
 use Rattle.rings.specs.Injection.{orderOf}
-use Rattle.rings.specs.InjectionLaws.{order-once, order-links, order-length}
+use Rattle.rings.proofs.Injection.{order-once, order-links, order-length}
 use Rattle.order.specs.declared.Order.{Order}
 use Rattle.order.specs.Order.{listed}
 use Rattle.order.proofs.Gathering.{listed-links}

@@ -8,14 +8,14 @@ use lib.Dec.{eqb}
 use Rattle.lists.specs.Tests.{choose}
 use Rattle.plant.specs.declared.Plant.{Plant}
 use Rattle.plant.specs.Refusals.{given, refuse, _>>=_}
-use Rattle.model.specs.Answers.{given-given, refuse-given, then-given}
+use Rattle.model.proofs.Answers.{given-given, refuse-given, then-given}
 use Rattle.walks.specs.Graph.{liveLinks}
 use Rattle.routes.specs.Plants.{trailOf}
 use Rattle.rings.specs.Packet.{End}
 use Rattle.rings.specs.Rules.{upBy}
 use Rattle.rings.specs.Probe.{back, outward, probe}
 use Rattle.rings.specs.Injection.{ringOf, probeOf, probeRun}
-use Rattle.rings.specs.InjectionLaws.{full-run}
+use Rattle.rings.proofs.Injection.{full-run}
 use Rattle.order.specs.declared.Span.{Span}
 use Rattle.order.specs.Span.{ringSpan, spanOf, stretchOf, frontOf}
 use Rattle.order.proofs.Spans.{ring-parts, span-outward}

@@ -10,7 +10,7 @@ use Rattle.plant.specs.Refusals.{Answer, given}
 use Rattle.model.specs.Limits.{maxLinks}
 use Rattle.walks.specs.Arcs.{head}
 use Rattle.walks.specs.Graph.{used}
-use Rattle.walks.specs.Live.{all-live}
+use Rattle.walks.proofs.Live.{all-live}
 use Rattle.routes.specs.Plants.{trailOf}
 use Rattle.rings.specs.Packet.{run}
 use Rattle.rings.specs.Packet as ring

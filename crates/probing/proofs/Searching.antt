@@ -3,18 +3,19 @@ use mathlib.Core.Path.{_≡_, sym, ap, _∙_, subst}
 use mathlib.Core.Bool.{Bool, true, false, not, _&&_}
 use Prim.Native.Nat.{ℕ, _≤_}
 use borrow.Author.Tests.{not-false}
-use Rattle.lists.specs.Tests.{and-true}
+use Rattle.lists.proofs.Tests.{and-true}
 use Rattle.plant.specs.Refusals.{given, refused, refuse, numberOf}
-use Rattle.model.specs.Answers.{given-given, refuse-given}
+use Rattle.model.proofs.Answers.{given-given, refuse-given}
 use Rattle.plant.specs.declared.Plant.{Plant}
 use Rattle.plant.specs.declared.Refusal.{Refusal}
 use Rattle.walks.specs.Graph.{liveLinks}
-use Rattle.walks.specs.Live.{all-live}
+use Rattle.walks.proofs.Live.{all-live}
 use Rattle.search.specs.declared.Search.{Search}
 use Rattle.search.specs.declared.Asked.{Asked}
 use Rattle.search.specs.declared.Asked.the-variants as asked
 use Rattle.search.specs.Search.{sound, soundFor, ended, wanted, ask, askedOf}
-use Rattle.search.specs.Sound.{Good, sound-good, wanted-in}
+use Rattle.search.specs.Sound.{Good}
+use Rattle.search.proofs.Sound.{sound-good, wanted-in}
 use Rattle.probing.specs.Conditions.{searchUnsound, probeWanted}
 
 module _ (e : ℕ) (q : Search) where

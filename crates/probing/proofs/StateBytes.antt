@@ -9,7 +9,7 @@ use lib.Dec.{ltb}
 use lib.ListN.{length, take}
 use lib.Seq.{take-all, length-take-le}
 use borrow.Author.Tests.{ltb-true, ltb-false, le-ltb}
-use Rattle.lists.specs.Tests.{bool?}
+use Rattle.lists.proofs.Tests.{bool?}
 use Rattle.plant.specs.declared.Plant.{Plant}
 use Rattle.plant.specs.Refusals.{Answer, given, refused, refuse, _>>=_}
 use Rattle.walks.specs.Arcs.{head}
@@ -17,9 +17,9 @@ use Rattle.walks.specs.Graph.{liveLinks}
 use Rattle.routes.specs.Plants.{trailOf}
 use Rattle.rings.specs.Packet.{End, run}
 use Rattle.rings.specs.Rules.{upBy, inTable}
-use Rattle.rings.specs.RulesLaws.{table-arc, bytes-past}
+use Rattle.rings.proofs.Rules.{table-arc, bytes-past}
 use Rattle.rings.specs.Injection.{ringOf}
-use Rattle.rings.specs.InjectionLaws as injection
+use Rattle.rings.proofs.Injection as injection
 use Rattle.search.specs.declared.Search.{Search}
 use Rattle.probing.specs.Conditions.{trailDiffers, statesShort, probeWanted}
 use Rattle.probing.specs.Calls.{runIn, running, outcomeOf, checkIn, checking, probeIn, probing}

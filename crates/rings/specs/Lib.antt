@@ -6,12 +6,5 @@ pub mod Order
 pub mod Probe
 pub mod Injection
 pub mod FirstDown
-pub mod PacketLaws
-pub mod RulesLaws
-pub mod RingLaws
-pub mod OrderLaws
-pub mod ProbeLaws
-pub mod InjectionLaws
 pub mod Parts
 pub mod Cases
-pub mod Refuted

@@ -8,9 +8,11 @@ use Prim.Native.Nat.{ℕ, zero, suc, _≤_, _<_}
 use native.Mathlib.Omega.{arith}
 use lib.Dec.{T, not-T, eqb, eqb→eq, ltb, ltb→lt, lt→ltb, nltb→le}
 use lib.ListN.{length}
-use Rattle.lists.specs.Tests.{eq→eqb, T-or, and-left, and-right, and-both}
-use Rattle.lists.specs.Members.{In, memb, memb→in, in→memb}
-use Rattle.lists.specs.Least.{least, least-top, least-passes, least-le}
+use Rattle.lists.proofs.Tests.{eq→eqb, T-or, and-left, and-right, and-both}
+use Rattle.lists.specs.Members.{In, memb}
+use Rattle.lists.proofs.Members.{memb→in, in→memb}
+use Rattle.lists.specs.Least.{least}
+use Rattle.lists.proofs.Least.{least-top, least-passes, least-le}
 use Rattle.walks.specs.Walk.{Walk}
 use Rattle.routes.specs.Distance.{within, dist, lessens, hop, hops, route}
 use Rattle.routes.specs.Meaning.{InUse, Way, Hop}

@@ -7,16 +7,19 @@ use mathlib.Core.List.{List, [], _∷_}
 use Prim.Native.Nat.{ℕ, zero, suc, _-_, _≤_, _<_}
 use native.Mathlib.Omega.{arith}
 use lib.Dec.{T, T-not, not-T, ltb, ltb→lt, lt→ltb}
-use Rattle.lists.specs.Tests.{and-left, and-right, and-both}
-use Rattle.lists.specs.Members.{In, memb, memb→in, in→memb, in?}
-use Rattle.lists.specs.Count.{count, count-lt, count-all}
-use Rattle.lists.specs.Least.{some?}
-use Rattle.walks.specs.Walk.{Walk, Reach, here, step, walk→reach}
+use Rattle.lists.proofs.Tests.{and-left, and-right, and-both}
+use Rattle.lists.specs.Members.{In, memb}
+use Rattle.lists.proofs.Members.{memb→in, in→memb, in?}
+use Rattle.lists.specs.Count.{count}
+use Rattle.lists.proofs.Count.{count-lt, count-all}
+use Rattle.lists.proofs.Least.{some?}
+use Rattle.walks.specs.Walk.{Walk, Reach, here, step}
+use Rattle.walks.proofs.Walk.{walk→reach}
 use Rattle.routes.specs.Distance.{within, dist, route}
 use Rattle.routes.specs.Meaning.{InUse, Reached, Fewest}
 use Rattle.routes.proofs.Levels.{LeadsInto, within-old, within-hop, within-new, within-self}
 use Rattle.routes.proofs.Distances.{dist-le, dist-least, dist-none, route-way, route-length}
-use Rattle.lists.specs.Agree.{count-full}
+use Rattle.lists.proofs.Agree.{count-full}
 
 module _ (S n : ℕ) (tl hd : ℕ → ℕ) (ok : ℕ → Bool) (part : ℕ → Bool) (part-in : (x : ℕ) → T (part x) → x < S) (tl-in : (a : ℕ) → a < n → T (ok a) → T (part (tl a))) (v : ℕ) (v-in : T (part v)) where
   -- no arc in use arrives in l from outside

@@ -8,8 +8,9 @@ use Prim.Native.Nat.{ℕ, zero, suc, _+_, _≤_, _<_}
 use native.Mathlib.Omega.{arith}
 use native.Mathlib.Nat.{mul-le-mul-left}
 use lib.Dec.{T, ltb, ltb→lt, lt→ltb}
-use Rattle.lists.specs.Tests.{if-true, if-false, and-left}
-use Rattle.lists.specs.Count.{count, count-le}
+use Rattle.lists.proofs.Tests.{if-true, if-false, and-left}
+use Rattle.lists.specs.Count.{count}
+use Rattle.lists.proofs.Count.{count-le}
 use Rattle.routes.specs.Distance.{dist, hop, hops, route}
 use Rattle.routes.specs.Trail.{unmarked, mark, marks, uncrossed, nearest, mostHops, goal, trailFrom, trail, legs}
 use Rattle.routes.specs.Meaning.{Hop, Strong}

@@ -6,11 +6,13 @@ use mathlib.Core.List.{List}
 use Prim.Native.Nat.{ℕ, zero, suc, _<_}
 use native.Mathlib.Omega.{arith}
 use lib.Dec.{T}
-use Rattle.lists.specs.Tests.{and-left, and-right, and-both}
-use Rattle.lists.specs.Members.{In, memb, memb→in, in→memb, in-append, in-append-left, in-append-right}
-use Rattle.lists.specs.Numbers.{range, range-in, in-range, keep, keep-in, in-keep}
+use Rattle.lists.proofs.Tests.{and-left, and-right, and-both}
+use Rattle.lists.specs.Members.{In, memb}
+use Rattle.lists.proofs.Members.{memb→in, in→memb, in-append, in-append-left, in-append-right}
+use Rattle.lists.specs.Numbers.{range, keep}
+use Rattle.lists.proofs.Numbers.{range-in, in-range, keep-in, in-keep}
 use Rattle.routes.specs.Distance.{sources, within}
-use Rattle.lists.specs.Agree.{in-map, map-in}
+use Rattle.lists.proofs.Agree.{in-map, map-in}
 
 module _ (S n : ℕ) (tl hd : ℕ → ℕ) (ok : ℕ → Bool) where
   abbrev before : List ℕ → List ℕ

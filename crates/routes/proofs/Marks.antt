@@ -5,8 +5,9 @@ use mathlib.Core.Bool.{Bool, not}
 use mathlib.Core.List.{List, [], _∷_}
 use Prim.Native.Nat.{ℕ, suc, _≤_, _<_}
 use lib.Dec.{T, T-not, not-T, eqb, eqb→eq, eqb-refl}
-use Rattle.lists.specs.Tests.{and-left, and-right, and-both, or-left, or-right, or-cases}
-use Rattle.lists.specs.Count.{count, count-le, count-lt}
+use Rattle.lists.proofs.Tests.{and-left, and-right, and-both, or-left, or-right, or-cases}
+use Rattle.lists.specs.Count.{count}
+use Rattle.lists.proofs.Count.{count-le, count-lt}
 use Rattle.routes.specs.Trail.{mark, marks, uncrossed}
 
 module _ (ok : ℕ → Bool) where

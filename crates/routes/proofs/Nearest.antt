@@ -5,8 +5,9 @@ use mathlib.Core.Bool.{Bool}
 use Prim.Native.Nat.{ℕ, _≤_, _<_}
 use native.Mathlib.Omega.{arith}
 use lib.Dec.{T, not-T, eqb, eqb→eq, ltb, ltb→lt, lt→ltb, nltb→le}
-use Rattle.lists.specs.Tests.{eq→eqb, T-or, and-left, and-right, and-both}
-use Rattle.lists.specs.Least.{least, some, least-passes, least-first, least-le, least-none, some?}
+use Rattle.lists.proofs.Tests.{eq→eqb, T-or, and-left, and-right, and-both}
+use Rattle.lists.specs.Least.{least, some}
+use Rattle.lists.proofs.Least.{least-passes, least-first, least-le, least-none, some?}
 use Rattle.routes.specs.Distance.{dist}
 use Rattle.routes.specs.Trail.{uncrossed, leavesAt, near, nearest}
 use Rattle.routes.proofs.Distances.{dist-top}

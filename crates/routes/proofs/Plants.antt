@@ -4,10 +4,11 @@ use mathlib.Core.Bool.{_||_}
 use Prim.Native.Nat.{ℕ, zero, suc, _+_, _-_, _*_, _/_, _%_, _≤_, _<_}
 use native.Mathlib.Omega.{arith}
 use lib.Dec.{T, ltb→lt}
-use Rattle.lists.specs.Tests.{choose, and-left}
+use Rattle.lists.specs.Tests.{choose}
+use Rattle.lists.proofs.Tests.{and-left}
 use Rattle.plant.specs.declared.Plant.{Plant}
 use Rattle.plant.specs.Links.{first, second, live}
-use Rattle.walks.specs.Walk.{weaken}
+use Rattle.walks.proofs.Walk.{weaken}
 use Rattle.walks.specs.Arcs.{side, tail, head, Valid}
 use Rattle.walks.specs.Graph.{bridge, entered, earlier, used, arcsUsed}
 use Rattle.routes.specs.Trail.{unmarked, mostHops, trailFrom, legs}

@@ -9,8 +9,9 @@ use Prim.Native.Nat.{ℕ, zero, suc, _+_, _*_, _≤_, _<_}
 use native.Mathlib.Omega.{arith}
 use native.Mathlib.Nat.{mul-le-mul-left}
 use lib.Dec.{T, eqb, eqb→eq, ltb, ltb→lt, lt→ltb}
-use Rattle.lists.specs.Tests.{choose-true, choose-false, if-true, if-false, eq→eqb, eq?, T-or, and-left}
-use Rattle.lists.specs.Count.{count, count-all}
+use Rattle.lists.proofs.Tests.{choose-true, choose-false, if-true, if-false, eq→eqb, eq?, T-or, and-left}
+use Rattle.lists.specs.Count.{count}
+use Rattle.lists.proofs.Count.{count-all}
 use Rattle.routes.specs.Distance.{dist, hop}
 use Rattle.routes.specs.Trail.{mark, uncrossed, nearest, onward, goal, next}
 use Rattle.routes.specs.Meaning.{Hop, Strong}

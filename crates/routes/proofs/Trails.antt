@@ -10,9 +10,10 @@ use native.Mathlib.Omega.{arith}
 use native.Mathlib.Nat.{mul-le-mul-left, mul-le-mul-right}
 use lib.Dec.{T, ltb, ltb→lt, lt→ltb}
 use lib.ListN.{length}
-use Rattle.lists.specs.Tests.{eq?, and-left, and-both}
+use Rattle.lists.proofs.Tests.{eq?, and-left, and-both}
 use Rattle.lists.specs.Members.{In}
-use Rattle.lists.specs.Count.{count, count-le, count-all, count-every}
+use Rattle.lists.specs.Count.{count}
+use Rattle.lists.proofs.Count.{count-le, count-all, count-every}
 use Rattle.walks.specs.Walk.{Walk}
 use Rattle.routes.specs.Trail.{unmarked, mark, uncrossed, onward, mostHops, goal, next, trailFrom, trail}
 use Rattle.routes.specs.Meaning.{InUse, Reached, Strong, Tour}

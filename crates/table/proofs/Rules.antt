@@ -7,18 +7,18 @@ use native.Mathlib.Omega.{arith}
 use lib.Dec.{T}
 use lib.ListN.{length, set, replicate, length-append, length-map}
 use lib.Seq.{set-at}
-use Rattle.lists.specs.Tests.{true-T, false-T}
+use Rattle.lists.proofs.Tests.{true-T, false-T}
 use Rattle.lists.specs.Numbers.{range, keep}
-use Rattle.lists.specs.Kept.{kept-yes, kept-no, kept-length, kept-room}
+use Rattle.lists.proofs.Kept.{kept-yes, kept-no, kept-length, kept-room}
 use Rattle.plant.specs.declared.Plant.{Plant}
 use Rattle.model.specs.Limits.{maxSwitches, maxLinks}
 use Rattle.model.specs.Sound.{Sound}
 use Rattle.plant.specs.Links.{first, second}
 use Rattle.walks.specs.Arcs.{side, tail, head}
 use Rattle.walks.specs.Graph.{Connected, used, liveLinks, bridges, arcsUsed}
-use Rattle.walks.specs.Live.{all-live}
-use Rattle.walks.specs.Counting.{arcs-in-use, arcs-in-use-all, few-bridges}
-use Rattle.walks.specs.Valid.{sound-valid}
+use Rattle.walks.proofs.Live.{all-live}
+use Rattle.walks.proofs.Counting.{arcs-in-use, arcs-in-use-all, few-bridges}
+use Rattle.walks.proofs.Valid.{sound-valid}
 use Rattle.table.specs.declared.Rule.{Rule}
 use Rattle.table.specs.declared.Table.{Table}
 use Rattle.table.specs.Rules.{maxRules, zeroRule, tableWith, ruleOf, rulesBelow, rulesOf, tableOf}

@@ -9,8 +9,9 @@ use native.Mathlib.Omega.{arith}
 use borrow.Author.Tests.{lt-ltb, le-ltb, ltb-true, ltb-false, le-leb, leb-true, ne-eqb, eqb-false, not-true}
 use lib.Dec.{T, eqb, ltb}
 use lib.ListN.{length, getD, length-append}
-use Rattle.lists.specs.Tests.{bool?, true-T, not-both, and-true, if-true, if-false}
-use Rattle.lists.specs.Members.{all, all-append}
+use Rattle.lists.proofs.Tests.{bool?, true-T, not-both, and-true, if-true, if-false}
+use Rattle.lists.specs.Members.{all}
+use Rattle.lists.proofs.Members.{all-append}
 use Rattle.text.specs.Decimal.{digit, digits, decimal, readAfter, readDecimal, isDigit, leads, isDecimal}
 
 -- ---- the two cases of the definition

@@ -6,7 +6,7 @@ use native.Mathlib.Omega.{arith}
 use lib.ListN.{length, set, take, drop, length-append, length-set}
 use lib.Seq.{sets, sets-eq, length-sets, length-take-le, take-append-seam}
 use Rattle.text.specs.Laid.{Laid}
-use Rattle.lists.specs.Arrays.{sets-append}
+use Rattle.lists.proofs.Arrays.{sets-append}
 
 -- no bytes
 pub laid-none : (b : List ℕ) (at : ℕ) → at ≤ length b → Laid b at [] b at

@@ -11,7 +11,7 @@ use Rattle.text.specs.Lines.{space, newline, spaced, spacedAll, line}
 use Rattle.text.specs.Sizes.{spacedMost}
 use Rattle.text.specs.Laid.{Room, Laid}
 use Rattle.text.proofs.DecimalLaws.{decimal-most}
-use Rattle.lists.specs.Arrays.{take-next}
+use Rattle.lists.proofs.Arrays.{take-next}
 use Rattle.text.proofs.LaidLaws.{laid-none, laid-byte, laid-same, laid-then}
 
 -- ---- a word, byte by byte

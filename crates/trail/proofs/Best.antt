@@ -5,12 +5,12 @@ use mathlib.Core.Bool.{Bool, true, false, not}
 use Prim.Native.Nat.{ℕ, _+_, _≤_, _<_}
 use native.Mathlib.Omega.{arith}
 use lib.Dec.{T, T-not, not-T}
-use Rattle.lists.specs.Tests.{true-T, false-T, and-left, and-right, and-both}
+use Rattle.lists.proofs.Tests.{true-T, false-T, and-left, and-right, and-both}
 use Rattle.routes.specs.Distance.{dist}
 use Rattle.routes.specs.Trail.{uncrossed, nearest}
 use Rattle.routes.proofs.Distances.{dist-top}
 use Rattle.routes.proofs.Nearest.{nearest-none, nearest-is}
-use Rattle.lists.specs.Stepwise.{upto}
+use Rattle.lists.proofs.Stepwise.{upto}
 
 -- is arc a left?
 module _ (ok m : ℕ → Bool) (a : ℕ) where

@@ -1,15 +1,16 @@
--- A buffer that is filled and a list that is compared, place by place. Assumes nothing.
-use mathlib.Core.Path.{_≡_, sym, ap, ap₂, _∙_}
-use mathlib.Core.Logic.{_⊎_, inl, inr}
-use mathlib.Core.Bool.{Bool, false, _&&_}
+-- A buffer that is filled and a list that is compared, place by place; lists that are the same are equal. Assumes nothing.
+use mathlib.Core.Path.{_≡_, refl, sym, ap, ap₂, _∙_, subst}
+use mathlib.Core.Logic.{_⊎_, inl, inr, _↔_}
+use mathlib.Core.Bool.{Bool, true, false, _&&_}
 use mathlib.Core.List.{List, [], _∷_, _++_}
 use Prim.Native.Nat.{ℕ, suc, _+_, _≤_, _<_}
 use native.Mathlib.Omega.{arith}
 use native.Mathlib.Numerals.{add-one}
-use lib.Dec.{eqb, eqb→eq}
+use lib.Dec.{eqb, eqb→eq, eqb-refl}
 use lib.ListN.{length, getD, set, drop, drop-of-length-le}
 use lib.Seq.{sets, sets-eq, drop-cons}
-use Rattle.lists.specs.Tests.{T-true, not-true-false, true-T, eq→eqb, eq?}
+use Rattle.lists.proofs.Arrays.{sets-front}
+use Rattle.lists.proofs.Tests.{T-true, not-true-false, not-both, true-T, and-true, eq→eqb, eq?}
 use Rattle.trail.specs.Filled.{filledWith, sameList}
 
 -- ---- a list stored from place i on
@@ -21,9 +22,7 @@ pub store-none : (b w : List ℕ) (i : ℕ) → w ≡ [] → sets b i w ≡ b
 store-none b w i e = ap (sets b i) e
 
 pub store-all : (b w : List ℕ) → length w ≤ length b → sets b 0 w ≡ filledWith w b
-store-all b w h =
-    let e : 0 + length w ≡ length w = omega arith in
-    sets-eq w b 0 (omega arith) ∙ ap (λ (k : ℕ). w ++ drop k b) e
+store-all b w h = sets-front b w h
 
 -- ---- a list compared from place i on
 
@@ -56,3 +55,23 @@ same-end l w i h e = go (eq? i (length l))
     go (inr f) =
         not-true-false (eqb i (length l)) (λ t. f (eqb→eq i (length l) (true-T (eqb i (length l)) t)))
         ∙ sym (ap₂ sameList (drop-cons l i 0 (omega (arith, f))) e)
+
+-- ---- two lists that are the same in their whole length are equal
+
+same-there : (xs ys : List ℕ) → sameList xs ys ≡ true → xs ≡ ys
+unfolding sameList
+same-there [] [] e = refl
+same-there [] (y ∷ ys) e = absurd (not-both false e refl)
+same-there (x ∷ xs) [] e = absurd (not-both false e refl)
+same-there (x ∷ xs) (y ∷ ys) e =
+    let h = and-true (eqb x y) (sameList xs ys) e in
+    ap₂ (λ (z : ℕ) (zs : List ℕ). z ∷ zs) (eqb→eq x y (true-T (eqb x y) (h .0))) (same-there xs ys (h .1))
+
+same-itself : (xs : List ℕ) → sameList xs xs ≡ true
+unfolding sameList
+same-itself [] = refl
+same-itself (x ∷ xs) = ap (λ (b : Bool). b && sameList xs xs) (T-true (eqb x x) (eqb-refl x)) ∙ same-itself xs
+
+-- it is equality
+pub same-is : (xs ys : List ℕ) → (sameList xs ys ≡ true) ↔ (xs ≡ ys)
+same-is xs ys = (same-there xs ys, λ e. subst (λ (zs : List ℕ). sameList xs zs ≡ true) e (same-itself xs))

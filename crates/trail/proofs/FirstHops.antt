@@ -10,7 +10,8 @@ use native.Mathlib.Numerals.{add-one}
 use lib.Dec.{T, eqb, eqb→eq, ltb}
 use lib.ListN.{length, getD, set, replicate, length-set}
 use lib.Seq.{getD-set-same, getD-set-other}
-use Rattle.lists.specs.Tests.{choose, choose-false, T-true, eq?, eq→eqb, and-left, and-right}
+use Rattle.lists.specs.Tests.{choose}
+use Rattle.lists.proofs.Tests.{choose-false, T-true, eq?, eq→eqb, and-left, and-right}
 use Rattle.lists.specs.Least.{leastFrom}
 use Rattle.model.specs.Limits.{maxSwitches}
 use Rattle.model.specs.Sound.{Sound}
@@ -24,7 +25,7 @@ use Rattle.distance.proofs.Tables.{Holds, flat-holds, holds-table}
 use Rattle.trail.specs.Rows.{Lowered}
 use Rattle.trail.specs.Steps.{hopIn, firstHopsOf}
 use Rattle.trail.proofs.Cells.{cell-is}
-use Rattle.lists.specs.Stepwise.{first-step}
+use Rattle.lists.proofs.Stepwise.{first-step}
 
 module _ (p : Plant) (us : List Bool) where
   abbrev S : ℕ

@@ -8,9 +8,10 @@ use native.Mathlib.Omega.{arith}
 use lib.Dec.{T, eqb, eqb→eq, ltb, lt→ltb}
 use lib.ListN.{length, getD, set, replicate}
 use lib.Seq.{getD-set-same, getD-set-other}
-use Rattle.lists.specs.Tests.{choose, T-true, eq?, eq→eqb, or-left, or-no}
+use Rattle.lists.specs.Tests.{choose}
+use Rattle.lists.proofs.Tests.{T-true, eq?, eq→eqb, or-left, or-no}
 use Rattle.plant.specs.declared.Plant.{Plant}
-use Rattle.walks.specs.Walk.{weaken}
+use Rattle.walks.proofs.Walk.{weaken}
 use Rattle.walks.specs.Arcs.{tail, head}
 use Rattle.routes.specs.Distance.{dist}
 use Rattle.routes.specs.Trail.{unmarked, mark, nearest, goal, next}
@@ -26,10 +27,10 @@ use Rattle.distance.specs.Distances.{flag}
 use Rattle.distance.proofs.Arcs.{tail-lt, head-lt}
 use Rattle.trail.specs.declared.Walker.{Walker}
 use Rattle.trail.specs.Steps.{Planned, firstHopsOf, nearestIn, goalIn, nextIn, walkerAt, Stands}
-use Rattle.walks.specs.Valid.{sound-valid}
+use Rattle.walks.proofs.Valid.{sound-valid}
 use Rattle.trail.proofs.Trails.{all-joined}
 use Rattle.trail.proofs.Walkers.{walker-is}
-use Rattle.lists.specs.Arrays.{getD-flat}
+use Rattle.lists.proofs.Arrays.{getD-flat}
 
 -- ---- flags as marks
 

@@ -9,8 +9,9 @@ use native.Mathlib.Omega.{arith}
 use native.Mathlib.Nat.{mul-le-mul-left, mul-le-mul-right}
 use lib.Dec.{T, lt→ltb}
 use lib.ListN.{set, replicate, length-set, length-replicate}
-use Rattle.lists.specs.Tests.{and-left}
-use Rattle.lists.specs.Count.{count, count-le, count-all}
+use Rattle.lists.proofs.Tests.{and-left}
+use Rattle.lists.specs.Count.{count}
+use Rattle.lists.proofs.Count.{count-le, count-all}
 use Rattle.model.specs.Limits.{maxLinks, maxHops}
 use Rattle.plant.specs.declared.Plant.{Plant}
 use Rattle.walks.specs.Arcs.{tail, head}
@@ -26,7 +27,7 @@ use Rattle.distance.specs.Distances.{flag}
 use Rattle.distance.proofs.Arcs.{head-lt}
 use Rattle.trail.specs.declared.Walker.{Walker}
 use Rattle.trail.specs.Steps.{Planned, walkerAt, Stands}
-use Rattle.walks.specs.Valid.{sound-valid}
+use Rattle.walks.proofs.Valid.{sound-valid}
 use Rattle.trail.proofs.Trails.{all-joined, most-hops}
 use Rattle.trail.proofs.OnTheWay.{flag-none, strong-flags, next-is, after}
 

@@ -6,10 +6,10 @@ use native.Mathlib.Omega.{arith}
 use lib.Dec.{ltb, ltb→lt, lt→ltb}
 use lib.ListN.{length, getD, set, length-set}
 use lib.Seq.{getD-set-same, getD-set-other}
-use Rattle.lists.specs.Tests.{choose-true, choose-false}
+use Rattle.lists.proofs.Tests.{choose-true, choose-false}
 use Rattle.model.specs.Limits.{maxSwitches}
 use Rattle.trail.specs.Rows.{better, Lowered}
-use Rattle.lists.specs.Stepwise.{upto}
+use Rattle.lists.proofs.Stepwise.{upto}
 
 module _ (near far row : List ℕ) (a : ℕ) where
   abbrev L : ℕ → List ℕ → Type 0

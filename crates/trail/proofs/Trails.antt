@@ -10,14 +10,14 @@ use Rattle.model.specs.Sound.{Sound}
 use Rattle.plant.specs.declared.Plant.{Plant}
 use Rattle.walks.specs.Arcs.{Valid, tail, head}
 use Rattle.walks.specs.Graph.{ClosedWalk, Connected, used, arcsUsed}
-use Rattle.walks.specs.Visited.{visited-all}
-use Rattle.walks.specs.Orientation.{used-arc, strong}
-use Rattle.walks.specs.Counting.{arcs-in-use-all, few-bridges}
+use Rattle.walks.proofs.Visited.{visited-all}
+use Rattle.walks.proofs.Orientation.{used-arc, strong}
+use Rattle.walks.proofs.Counting.{arcs-in-use-all, few-bridges}
 use Rattle.routes.specs.Meaning.{Tour}
 use Rattle.routes.specs.Plants.{distanceOf, trailOf, AllJoined}
 use Rattle.routes.proofs.Plants as plants
 use Rattle.trail.specs.Trails.{IsTrail, legsOf}
-use Rattle.walks.specs.Valid.{sound-valid}
+use Rattle.walks.proofs.Valid.{sound-valid}
 
 module _ (p : Plant) (ok : Sound p) (con : Connected p) where
   valid : Valid p

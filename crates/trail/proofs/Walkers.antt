@@ -6,7 +6,8 @@ use mathlib.Core.List.{List}
 use Prim.Native.Nat.{ℕ, _*_, _≤_, _<_}
 use native.Mathlib.Omega.{arith}
 use lib.Dec.{T, not-T, eqb, ltb, ltb→lt, nltb→le}
-use Rattle.lists.specs.Tests.{choose, T-or}
+use Rattle.lists.specs.Tests.{choose}
+use Rattle.lists.proofs.Tests.{T-or}
 use Rattle.model.specs.Limits.{maxSwitches}
 use Rattle.model.specs.Sound.{Sound}
 use Rattle.plant.specs.declared.Plant.{Plant}

@@ -2,16 +2,5 @@ pub mod Walk
 pub mod Visit
 pub mod Arcs
 pub mod Graph
-pub mod Live
-pub mod Labels
-pub mod Fuel
-pub mod Visited
-pub mod Tests
-pub mod Orientation
-pub mod Counting
-pub mod Fewest
-pub mod Attained
 pub mod ByLinks
-pub mod FirstMet
 pub mod Cases
-pub mod Valid

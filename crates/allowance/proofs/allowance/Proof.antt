@@ -7,7 +7,8 @@ use native.Mathlib.Nat.{zero-add}
 use borrow.Author.Needs.{needs}
 use Rattle.lists.specs.Least.{leastFrom}
 use Rattle.model.specs.Limits.{maxLinks}
-use Rattle.allowance.specs.Allowance.{allowance, clipped-most}
+use Rattle.allowance.specs.Allowance.{allowance}
+use Rattle.allowance.proofs.Ceiling.{clipped-most}
 use Rattle.allowance.proofs.Entries.{entry}
 use Rattle.allowance.proofs.allowance.Statement.{statement}
 use Rattle.allowance.proofs.allowance.Tie as tie

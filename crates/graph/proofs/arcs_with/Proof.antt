@@ -6,7 +6,7 @@ use native.Mathlib.Omega.{arith}
 use borrow.Author.Needs.{needs}
 use Rattle.model.specs.Limits.{maxLinks}
 use Rattle.walks.specs.Graph.{used}
-use Rattle.walks.specs.Labels.{even-half, odd-half}
+use Rattle.walks.proofs.Labels.{even-half, odd-half}
 use Rattle.graph.proofs.Filled.{Filled, filled-none, filled-put-two, filled-pass-two, filled-all}
 use Rattle.graph.proofs.Uses.{ends-in, used-dead, used-past, used-even, used-odd}
 use Rattle.graph.proofs.arcs_with.Statement.{statement}

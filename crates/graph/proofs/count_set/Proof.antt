@@ -5,11 +5,12 @@ use mathlib.Core.Bool.{false}
 use Prim.Native.Nat.{ℕ, _+_, _-_, _≤_}
 use native.Mathlib.Omega.{arith}
 use lib.ListN.{length, getD}
-use Rattle.lists.specs.Count.{count, count-all}
+use Rattle.lists.specs.Count.{count}
+use Rattle.lists.proofs.Count.{count-all}
 use Rattle.graph.specs.Flags.{countSet}
 use Rattle.graph.proofs.count_set.Statement.{statement}
 use Rattle.graph.proofs.count_set.Tie as tie
-use Rattle.lists.specs.Stepwise.{count-yes, count-no}
+use Rattle.lists.proofs.Stepwise.{count-yes, count-no}
 
 abbrev Inv-loop : tie.InvT-loop
 Inv-loop flags n₀ i₀ n i = (i ≤ length flags) × (n ≡ count i (λ j. getD flags j false))

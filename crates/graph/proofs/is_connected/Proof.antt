@@ -9,7 +9,7 @@ use borrow.Author.Tests.{not-true, not-false}
 use Rattle.graph.proofs.FromStart.{connected-not, connected-all}
 use Rattle.graph.proofs.is_connected.Statement.{statement}
 use Rattle.graph.proofs.is_connected.Tie as tie
-use Rattle.lists.specs.Stepwise.{upto}
+use Rattle.lists.proofs.Stepwise.{upto}
 
 -- every switch below i is visited
 abbrev Inv-loop : tie.InvT-loop

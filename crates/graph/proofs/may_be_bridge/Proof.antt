@@ -1,7 +1,7 @@
 -- `graph::may_be_bridge` meets its contract. Assumes nothing.
 use borrow.Author.Needs.{needs}
 use borrow.Author.Tests.{not-false}
-use Rattle.lists.specs.Tests.{not-both}
+use Rattle.lists.proofs.Tests.{not-both}
 use Rattle.graph.proofs.Uses.{first-place, bridge-not-met}
 use Rattle.graph.proofs.may_be_bridge.Statement.{statement}
 use Rattle.graph.proofs.may_be_bridge.Tie as tie

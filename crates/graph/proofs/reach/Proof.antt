@@ -1,6 +1,6 @@
 -- `graph::reach` meets its contract. Assumes nothing.
 use borrow.Author.Needs.{needs}
-use Rattle.lists.specs.Arrays.{sized}
+use Rattle.lists.proofs.Arrays.{sized}
 use Rattle.graph.proofs.reach.Statement.{statement}
 use Rattle.graph.proofs.reach.Tie as tie
 

@@ -6,7 +6,7 @@ use lib.ListN.{drop}
 use Rattle.model.specs.Limits.{maxLinks}
 use Rattle.listing.specs.Listing.{linksOf}
 use Rattle.listing.specs.Writing.{soundLinks}
-use Rattle.lists.specs.Arrays.{sized}
+use Rattle.lists.proofs.Arrays.{sized}
 use Rattle.listing.proofs.WriteLaws.{judge-on, judge-refused, judge-all}
 use Rattle.listing.proofs.judge_links.Statement.{statement}
 use Rattle.listing.proofs.judge_links.Tie as tie

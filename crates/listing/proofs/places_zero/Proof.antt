@@ -7,7 +7,7 @@ use lib.ListN.{drop}
 use Rattle.lists.specs.Members.{all}
 use Rattle.model.specs.Limits.{maxLinks}
 use Rattle.listing.specs.Writing.{isZero}
-use Rattle.lists.specs.Arrays.{sized}
+use Rattle.lists.proofs.Arrays.{sized}
 use Rattle.listing.proofs.WriteLaws.{zeros-on, zeros-not, zeros-end}
 use Rattle.listing.proofs.places_zero.Statement.{statement}
 use Rattle.listing.proofs.places_zero.Tie as tie

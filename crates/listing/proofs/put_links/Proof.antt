@@ -2,7 +2,7 @@
 use Prim.Native.Nat.{_-_}
 use borrow.Author.Needs.{needs}
 use Rattle.model.specs.Limits.{maxLinks}
-use Rattle.lists.specs.Arrays.{sized}
+use Rattle.lists.proofs.Arrays.{sized}
 use Rattle.listing.proofs.EncodeLaws.{Laid, laid-none, laid-room, laid-link, laid-all}
 use Rattle.listing.proofs.put_links.Statement.{statement}
 use Rattle.listing.proofs.put_links.Tie as tie

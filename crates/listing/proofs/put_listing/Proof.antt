@@ -1,7 +1,7 @@
 -- `listing::put_listing` meets its contract. Assumes nothing.
 use native.Mathlib.Omega.{arith}
 use Rattle.listing.specs.Listing.{headerBytes}
-use Rattle.lists.specs.Arrays.{laid}
+use Rattle.lists.proofs.Arrays.{laid}
 use Rattle.listing.proofs.EncodeLaws.{encode-size, laid-listing}
 use borrow.Author.Needs.{needs}
 use Rattle.listing.proofs.put_listing.Statement.{statement}

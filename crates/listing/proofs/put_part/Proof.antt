@@ -6,7 +6,7 @@ use native.Mathlib.Omega.{arith}
 use lib.ListN.{length-set}
 use lib.Seq.{sets}
 use Rattle.listing.specs.Part.{fieldBytes, mapOf, bodyOf, partBytes}
-use Rattle.lists.specs.Arrays.{laid}
+use Rattle.lists.proofs.Arrays.{laid}
 use Rattle.listing.proofs.PutLaws.{laid-behind, put-three, size-three, part-length}
 use borrow.Author.Needs.{needs}
 use Rattle.listing.proofs.put_part.Statement.{statement}

@@ -5,10 +5,10 @@ use native.Mathlib.Omega.{arith}
 use borrow.Author.Count.{below-more}
 use borrow.Author.Needs.{needs}
 use lib.ListN.{length, getD}
-use Rattle.lists.specs.Members.{getD-in}
+use Rattle.lists.proofs.Members.{getD-in}
 use Rattle.walks.specs.Arcs.{tail}
-use Rattle.walks.specs.Live.{live-below}
-use Rattle.rings.specs.RingLaws.{place-is, place-none}
+use Rattle.walks.proofs.Live.{live-below}
+use Rattle.rings.proofs.Ring.{place-is, place-none}
 use Rattle.order.proofs.place_of.Statement.{statement}
 use Rattle.order.proofs.place_of.Tie as tie
 

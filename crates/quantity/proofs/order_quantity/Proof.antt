@@ -1,7 +1,8 @@
 -- `order_quantity` meets its contract: its test is the definition's, and the product fits, since a spare is at most 100 percent. Assumes nothing.
 use native.Mathlib.Omega.{arith}
 use borrow.Author.Tests.{lt-ltb, le-ltb}
-use Rattle.quantity.specs.Quantity.{orderQuantity, product-most}
+use Rattle.quantity.specs.Quantity.{orderQuantity}
+use Rattle.quantity.proofs.Spare.{product-most}
 use Rattle.quantity.proofs.order_quantity.Statement.{statement}
 use Rattle.quantity.proofs.order_quantity.Tie as tie
 

@@ -3,7 +3,7 @@ use mathlib.Core.Path.{_≡_, subst}
 use Prim.Native.Nat.{_≤_, _-_, _*_}
 use native.Mathlib.Omega.{arith}
 use borrow.Author.Needs.{needs}
-use Rattle.lists.specs.Tests.{true-T, false-T}
+use Rattle.lists.proofs.Tests.{true-T, false-T}
 use Rattle.walks.specs.Arcs.{tail, head}
 use Rattle.distance.proofs.Arcs.{tail-lt, head-lt}
 use Rattle.distance.proofs.Tables.{Holds}

@@ -3,7 +3,7 @@ use mathlib.Core.Path.{ap, _∙_}
 use Prim.Native.Nat.{ℕ, _+_}
 use native.Mathlib.Omega.{arith}
 use Rattle.search.specs.Search.{wanted, settled}
-use Rattle.search.specs.Sound.{wanted-most}
+use Rattle.search.proofs.Sound.{wanted-most}
 use borrow.Author.Needs.{needs}
 use Rattle.search.proofs.Search.next.Statement.{statement}
 use Rattle.search.proofs.Search.next.Tie as tie

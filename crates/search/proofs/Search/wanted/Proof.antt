@@ -2,7 +2,7 @@
 use mathlib.Core.Path.{sym, ap, _∙_}
 use native.Mathlib.Omega.{arith}
 use Rattle.search.specs.Search.{sound}
-use Rattle.search.specs.Sound.{halving-fits}
+use Rattle.search.proofs.Sound.{halving-fits}
 use borrow.Author.Needs.{needs}
 use Rattle.search.proofs.Search.wanted.Statement.{statement}
 use Rattle.search.proofs.Search.wanted.Tie as tie

@@ -1,0 +1,10 @@
+pub mod Tests
+pub mod Members
+pub mod Count
+pub mod Numbers
+pub mod Least
+pub mod Kept
+pub mod Arrays
+pub mod Agree
+pub mod Stepwise
+pub mod Parts

@@ -1,0 +1,115 @@
+-- Laws of answers: a result is not a refusal; and conditions by number, in the order in which they are tried: a call is refused by the first that holds, and gives its
+-- result exactly if none of them holds. Assumes nothing.
+use mathlib.Core.Path.{_≡_, refl, sym, ap, _∙_, subst}
+use mathlib.Core.Logic.{_↔_}
+use mathlib.Core.Bool.{Bool, true, false}
+use mathlib.Core.List.{[], _∷_, _++_}
+use Prim.Native.Nat.{ℕ}
+use native.Mathlib.Omega.{arith}
+use Rattle.plant.specs.Refusals.{Answer, given, refused, refuse, _>>=_}
+use Rattle.model.specs.Answers.{Conditions, NoneHolds, FirstHolds}
+
+pub given-refused : {A : Type 0} (a : A) (n : ℕ) → given a ≡ refused n → ⊥
+given-refused a n e = let z : _≡_ {A = ℕ} 0 1 = cc in omega arith
+
+pub given-given : {A : Type 0} (a b : A) → given a ≡ given b → a ≡ b
+given-given a b e = cc
+
+pub refused-refused : {A : Type 0} (m n : ℕ) → _≡_ {A = Answer A} (refused m) (refused n) → m ≡ n
+refused-refused m n e = cc
+
+-- a condition that was tried, where there is a result
+pub refuse-given : {A : Type 0} (n : ℕ) (c : Bool) (a : Answer A) (b : A) → refuse n c a ≡ given b → (c ≡ false) × (a ≡ given b)
+refuse-given n true a b e = absurd (given-refused b n (sym e))
+refuse-given n false a b e = (refl, e)
+
+-- what came before a result
+pub then-given : {A B : Type 0} (a : Answer A) (f : A → Answer B) (b : B) → (a >>= f) ≡ given b → (x : A) × (a ≡ given x) × (f x ≡ given b)
+then-given (given x) f b e = (x, refl, e)
+then-given (refused n) f b e = absurd (given-refused b n (sym e))
+
+pub then-assoc : {A B C : Type 0} (a : Answer A) (f : A → Answer B) (g : B → Answer C) → (a >>= f >>= g) ≡ (a >>= λ x. f x >>= g)
+then-assoc (given x) f g = refl
+then-assoc (refused n) f g = refl
+
+-- the answer a, once these conditions were tried
+abbrev pub trying : {A : Type 0} → Conditions → Answer A → Answer A
+trying [] a = a
+trying (c ∷ cs) a = refuse (c .0) (c .1) (trying cs a)
+
+pub trying-append : {A : Type 0} (cs ds : Conditions) (a : Answer A) → trying (cs ++ ds) a ≡ trying cs (trying ds a)
+trying-append [] ds a = refl
+trying-append (c ∷ cs) ds a = ap (refuse (c .0) (c .1)) (trying-append cs ds a)
+
+pub trying-then : {A B : Type 0} (cs : Conditions) (a : Answer A) (f : A → Answer B) → (trying cs a >>= f) ≡ trying cs (a >>= f)
+trying-then [] a f = refl
+trying-then {A} {B} (c ∷ cs) a f = go (c .1) (trying-then cs a f)
+  where
+    go : (b : Bool) → (trying cs a >>= f) ≡ trying cs (a >>= f) → (refuse (c .0) b (trying cs a) >>= f) ≡ refuse (c .0) b (trying cs (a >>= f))
+    go true e = refl
+    go false e = e
+
+pub none-append : (cs ds : Conditions) → NoneHolds (cs ++ ds) → NoneHolds cs × NoneHolds ds
+none-append [] ds h = (tt, h)
+none-append (c ∷ cs) ds h = let r = none-append cs ds (h .1) in ((h .0, r .0), r .1)
+
+pub none-trying : {A : Type 0} (cs : Conditions) (a : Answer A) → NoneHolds cs → trying cs a ≡ a
+none-trying [] a h = refl
+none-trying (c ∷ cs) a h = rw (h .0) (none-trying cs a (h .1))
+
+first-trying : {A : Type 0} (n : ℕ) (before after : Conditions) (a : Answer A) → NoneHolds before → trying (before ++ (n, true) ∷ after) a ≡ refused n
+first-trying n before after a h = trying-append before ((n, true) ∷ after) a ∙ none-trying before (refused n) h
+
+trying-given : {A : Type 0} (cs : Conditions) (a : Answer A) (b : A) → trying cs a ≡ given b → NoneHolds cs × (a ≡ given b)
+trying-given [] a b e = (tt, e)
+trying-given (c ∷ cs) a b e =
+    let r = refuse-given (c .0) (c .1) (trying cs a) b e in
+    let q = trying-given cs a b (r .1) in
+    ((r .0, q .0), q .1)
+
+trying-refused : {A : Type 0} (cs : Conditions) (a : A) (n : ℕ) → trying cs (given a) ≡ refused n → FirstHolds n cs
+trying-refused [] a n e = absurd (given-refused a n e)
+trying-refused {A} (c ∷ cs) a n e = go (c .0) (c .1) (trying-refused cs a n) e
+  where
+    go : (m : ℕ) (b : Bool) → (trying cs (given a) ≡ refused n → FirstHolds n cs) → refuse m b (trying cs (given a)) ≡ refused n → FirstHolds n ((m, b) ∷ cs)
+    go m true rec q = record {
+      before = [];
+      after = cs;
+      tried = ap (λ (k : ℕ). (k, true) ∷ cs) (refused-refused {A = A} m n q);
+      none-before = tt;
+    }
+    go m false rec q =
+        let f = rec q in
+        record { before = (m, false) ∷ f .before; after = f .after; tried = ap (λ (ds : Conditions). (m, false) ∷ ds) (f .tried); none-before = (refl, f .none-before) }
+
+-- the answer is refusal n exactly if condition n holds and none that is tried before it does
+pub refused-exactly : {A : Type 0} (cs : Conditions) (a : A) (n : ℕ) → (trying cs (given a) ≡ refused n) ↔ FirstHolds n cs
+refused-exactly cs a n = (trying-refused cs a n, λ f. rw (f .tried) (first-trying n (f .before) (f .after) (given a) (f .none-before)))
+
+-- and the result exactly if none of them holds
+pub given-exactly : {A : Type 0} (cs : Conditions) (a b : A) → (trying cs (given a) ≡ given b) ↔ NoneHolds cs × (a ≡ b)
+given-exactly cs a b = (λ e. let r = trying-given cs (given a) b e in (r .0, given-given a b (r .1)), λ h. none-trying cs (given a) (h .0) ∙ ap given (h .1))
+
+-- what is so of the number of each condition is so of a refusal
+abbrev pub EachNumber : (ℕ → Type 0) → Conditions → Type 0
+EachNumber P [] = Unit
+EachNumber P (c ∷ cs) = P (c .0) × EachNumber P cs
+
+pub each-append : (P : ℕ → Type 0) (cs ds : Conditions) → EachNumber P cs → EachNumber P ds → EachNumber P (cs ++ ds)
+each-append P [] ds h k = k
+each-append P (c ∷ cs) ds h k = (h .0, each-append P cs ds (h .1) k)
+
+pub first-number : (P : ℕ → Type 0) (cs : Conditions) (n : ℕ) → EachNumber P cs → FirstHolds n cs → P n
+first-number P cs n h f = go (f .before) (subst (EachNumber P) (f .tried) h)
+  where
+    go : (ds : Conditions) → EachNumber P (ds ++ (n, true) ∷ f .after) → P n
+    go [] q = q .0
+    go (d ∷ ds) q = go ds (q .1)
+
+-- where no condition is the first that holds, none holds
+pub otherwise-none : (cs : Conditions) → ((n : ℕ) → FirstHolds n cs → ⊥) → NoneHolds cs
+otherwise-none cs h = go (trying cs (given tt)) refl
+  where
+    go : (a : Answer Unit) → trying cs (given tt) ≡ a → NoneHolds cs
+    go (given _) e = given-exactly cs tt tt .0 e .0
+    go (refused n) e = absurd (h n (refused-exactly cs tt n .0 e))

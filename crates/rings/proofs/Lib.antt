@@ -1,0 +1,9 @@
+pub mod FirstDown
+pub mod Packet
+pub mod Rules
+pub mod Ring
+pub mod Order
+pub mod Probe
+pub mod Injection
+pub mod Parts
+pub mod Refuted

@@ -1,0 +1,44 @@
+-- What looks sound and is not (document 01, "Miscounts that look sound"), each at one plant: link numbers as the order, halving the hops, and the way back under the
+-- forwarding table. Assumes nothing.
+use mathlib.Core.Path.{_≡_, refl}
+use mathlib.Core.Bool.{true, false}
+use mathlib.Core.List.{[], _∷_}
+use Prim.Native.Nat.{_^_, _≤_, _<_}
+use native.Mathlib.Omega.{arith}
+use lib.ListN.{length}
+use Rattle.lists.proofs.Tests.{not-both}
+use Rattle.lists.specs.Count.{count}
+use Rattle.lists.specs.Numbers.{range}
+use Rattle.lists.specs.Least.{leastFrom}
+use Rattle.plant.specs.Links.{live}
+use Rattle.walks.specs.Visit.{scan, visit}
+use Rattle.walks.specs.Arcs.{opposite, tail, head}
+use Rattle.walks.specs.Graph.{arcs, others, visitFrom, visited, bridge, entered, earlier, used, liveLinks}
+use Rattle.rings.specs.Packet.{run, rulesFor}
+use Rattle.rings.specs.Rules.{upBy, inTable}
+use Rattle.rings.specs.Ring as rings
+use Rattle.rings.specs.Order as orders
+use Rattle.rings.specs.Probe.{outward, probe}
+use Rattle.rings.specs.FirstDown.{FirstDown}
+use Rattle.rings.specs.Injection.{ringOf, orderOf, probeOf}
+use Rattle.rings.specs.Cases.{oneLink, ringWithTail}
+
+-- link 3 is down. From switch 3 it is the first of the order, and link 0, the first by number, is up
+by-order : FirstDown (upBy (1 ∷ 1 ∷ 1 ∷ 0 ∷ [])) (orderOf (ringWithTail .plant) (ringWithTail .trail) 3) 1
+unfolding upBy orderOf orders.order ringOf rings.ring rings.readFrom rings.place leastFrom tail
+by-order = record { from-one = omega arith; to-last = omega arith; down = refl; before = λ j a b. absurd (omega arith) }
+
+by-number : FirstDown (upBy (1 ∷ 1 ∷ 1 ∷ 0 ∷ [])) (range 0 4) 1 → ⊥
+unfolding upBy
+by-number r = not-both true refl (r .down)
+
+-- one link has two hops: no probe is allowed past the full check, since 1 ≤ 2 ^ 0, and the hops still take one
+by-hops : (liveLinks (oneLink .plant) ≤ 2 ^ 0) × (2 ^ 0 < length (oneLink .trail))
+unfolding liveLinks count live
+by-hops = (omega arith, omega arith)
+
+-- all links are up, and probe 1 is lost on its way back for want of a rule
+back-by-table : run (inTable (ringWithTail .plant)) (λ l. true) (head (ringWithTail .plant)) 0 0 (probeOf (ringWithTail .plant) (ringWithTail .trail) 0 1)
+    ≡ record { ended = false; hops = 1; last = 1 }
+unfolding probeOf ringOf probe outward orders.order rings.ring rings.readFrom rings.place leastFrom rulesFor inTable opposite tail head live liveLinks count used bridge entered earlier visited visitFrom arcs others visit scan
+back-by-table = refl

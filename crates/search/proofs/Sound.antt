@@ -1,0 +1,64 @@
+-- Refusals 14 and 15 as facts: what a sound state is, for itself and in a call with a listing of e links, and what a call answers by it. Assumes nothing.
+use mathlib.Core.Path.{_≡_, refl}
+use mathlib.Core.Bool.{true, false, _&&_}
+use Prim.Native.Nat.{ℕ, _≤_, _<_}
+use native.Mathlib.Omega.{arith}
+use lib.Dec.{leb, ltb}
+use borrow.Author.Tests.{eqb-true, leb-true, ltb-true, eq-eqb, le-leb, lt-ltb}
+use Rattle.lists.proofs.Tests.{and-true, not-both}
+use Rattle.plant.specs.Refusals.{given, refused}
+use Rattle.model.specs.Limits.{maxLinks}
+use Rattle.search.specs.declared.Search.{Search}
+use Rattle.search.specs.declared.Search.the-variants.{Checking, Halving, AllUp, Down}
+use Rattle.search.specs.Search.{counts, sound, soundFor, ended, wanted, unlessRefused}
+use Rattle.search.specs.Sound.{Good}
+
+-- ---- what a call answers
+
+module _ {A : Type 0} (s : Search) (a : A) where
+  pub answers-14 : sound s ≡ false → unlessRefused s a ≡ refused 14
+  answers-14 e = rw e
+
+  pub answers-15 : sound s ≡ true → ended s ≡ true → unlessRefused s a ≡ refused 15
+  answers-15 e q = rw (e, q)
+
+  pub answers-given : sound s ≡ true → ended s ≡ false → unlessRefused s a ≡ given a
+  answers-given e q = rw (e, q)
+
+-- ---- a sound state
+
+counts-fits : (n : ℕ) → counts n ≡ true → (1 ≤ n) × (n ≤ maxLinks)
+counts-fits n t = let r = and-true (ltb 0 n) (leb n maxLinks) t in (ltb-true 0 n (r .0), leb-true n maxLinks (r .1))
+
+pub halving-fits : (low high : ℕ) → sound (Halving low high) ≡ true → (1 ≤ low) × (low < high) × (high ≤ maxLinks)
+halving-fits low high t =
+    let r = and-true (ltb 0 low) (ltb low high && leb high maxLinks) t in
+    let q = and-true (ltb low high) (leb high maxLinks) (r .1) in
+    (ltb-true 0 low (r .0), ltb-true low high (q .0), leb-true high maxLinks (q .1))
+
+-- a probe that is wanted is no further than the last link that there can be
+pub wanted-most : (s : Search) → sound s ≡ true → wanted s ≤ maxLinks
+wanted-most (Checking count) t = counts-fits count t .1
+wanted-most (Halving low high) t = omega (arith, halving-fits low high t)
+wanted-most AllUp t = omega arith
+wanted-most (Down place) t = omega arith
+
+pub sound-good : (e : ℕ) (s : Search) → sound s ≡ true → soundFor e s ≡ true → Good e s
+sound-good e (Checking count) t u = let q = eqb-true count e u in (q, omega (arith, counts-fits count t))
+sound-good e (Halving low high) t u = let r = halving-fits low high t in (r .0, r .1, leb-true high e u)
+sound-good e AllUp t u = tt
+sound-good e (Down place) t u = (counts-fits place t .0, leb-true place e u)
+
+pub good-sound : (e : ℕ) (s : Search) → e ≤ maxLinks → Good e s → (sound s ≡ true) × (soundFor e s ≡ true)
+good-sound e (Checking count) h g = (rw (lt-ltb 0 count (omega arith), le-leb count maxLinks (omega arith)), eq-eqb count e (g .0))
+good-sound e (Halving low high) h g =
+    (rw (lt-ltb 0 low (omega arith), lt-ltb low high (omega arith), le-leb high maxLinks (omega arith)), le-leb high e (omega arith))
+good-sound e AllUp h g = (refl, refl)
+good-sound e (Down place) h g = (rw (lt-ltb 0 place (omega arith), le-leb place maxLinks (omega arith)), le-leb place e (omega arith))
+
+-- a search that has not ended wants one of the probes 1 .. e
+pub wanted-in : (e : ℕ) (s : Search) → Good e s → ended s ≡ false → (1 ≤ wanted s) × (wanted s ≤ e)
+wanted-in e (Checking count) g q = omega arith
+wanted-in e (Halving low high) g q = omega arith
+wanted-in e AllUp g q = absurd (not-both true refl q)
+wanted-in e (Down place) g q = absurd (not-both true refl q)
