@@ -16,17 +16,14 @@ use Rattle.plant.specs.declared.Refusal.{Refusal}
 use Rattle.model.proofs.Answers.{given-given, refuse-given, then-given}
 use Rattle.model.specs.Limits.{maxSwitches, maxLinks}
 use Rattle.listing.specs.declared.Field.{Field}
+use Rattle.listing.specs.declared.Fields.{Fields}
 use Rattle.listing.specs.declared.Part.{Part}
 use Rattle.listing.specs.declared.Part.the-variants as part-is
 use Rattle.listing.specs.declared.Header.{Header}
 use Rattle.listing.specs.declared.Header.the-variants as header-is
 use Rattle.listing.specs.Part.{part}
-use Rattle.listing.specs.Listing.{headerFields, headerFrom, headerOutOfRange, judgedHeader, linkFields, linkFrom, valueOutOfRange, endOutOfRange, selfLink, soundLink, judged, linkOf, header, link, afterHeader, decode}
-use Rattle.listing.specs.Answers.{partAnswer, Fits, headerAnswer}
-
--- the third value of a part fits its width
-pub third-fits : (f g h : Field) (r : Part) (a b c next : ℕ) → Fits f g h r → r ≡ part-is.Fields a b c next → c < (2 ^ 8) ^ h .width
-third-fits f g h r a b c next q e = (subst (λ (x : Part). Fits f g h x) e q) .2
+use Rattle.listing.specs.Listing.{field, headerFields, headerFrom, headerOutOfRange, judgedHeader, linkFields, linkFrom, valueOutOfRange, endOutOfRange, selfLink, soundLink, judged, linkOf, header, link, afterHeader, decode}
+use Rattle.listing.specs.Answers.{fieldList, partAnswer, Fits, headerAnswer}
 
 -- ---- header
 
@@ -91,23 +88,29 @@ module _ (s : List ℕ) (r : Header) where
   unfolding decode
   decode-refused k at e f = rw (sym e ∙ ap (headerAnswer s) f) refl
 
-module _ (s : List ℕ) (at : ℕ) (r : Part) where
-  pub header-values : (a b c next : ℕ) → partAnswer s r ≡ part headerFields (drop at s) → r ≡ part-is.Fields a b c next
-      → refuse 5 (valueOutOfRange a b c) (given (plantWith maxLinks a b c, drop next s)) ≡ header (drop at s)
-  unfolding header judgedHeader
-  header-values a b c next e f = rw (sym e ∙ ap (partAnswer s) f) refl
+-- ---- a part with the fields fs, of which the code answers r
 
-  pub header-refused : (k : Refusal) → partAnswer s r ≡ part headerFields (drop at s) → r ≡ part-is.Refused k → refused (numberOf k) ≡ header (drop at s)
-  unfolding header
-  header-refused k e f = rw (sym e ∙ ap (partAnswer s) f) refl
+module _ (s : List ℕ) (at : ℕ) (r : Part) (fs : List Field) (e : partAnswer s r ≡ part fs (drop at s)) where
+  module _ (is : fs ≡ headerFields) where
+    pub header-values : (a b c next : ℕ) → r ≡ part-is.Values a b c next
+        → refuse 5 (valueOutOfRange a b c) (given (plantWith maxLinks a b c, drop next s)) ≡ header (drop at s)
+    unfolding header judgedHeader
+    header-values a b c next f = rw (sym is, sym e ∙ ap (partAnswer s) f) refl
 
-  -- ---- a link
+    pub header-refused : (k : Refusal) → r ≡ part-is.Refused k → refused (numberOf k) ≡ header (drop at s)
+    unfolding header
+    header-refused k f = rw (sym is, sym e ∙ ap (partAnswer s) f) refl
 
-  module _ (switches : ℕ) (before : Link) (e : partAnswer s r ≡ part (linkFields before) (drop at s)) where
-    pub link-values : (a b c next : ℕ) → r ≡ part-is.Fields a b c next → judged switches (linkOf a b c) (drop next s) ≡ link switches before (drop at s)
+  module _ (switches : ℕ) (before : Link) (is : fs ≡ linkFields before) where
+    pub link-values : (a b c next : ℕ) → r ≡ part-is.Values a b c next → judged switches (linkOf a b c) (drop next s) ≡ link switches before (drop at s)
     unfolding link
-    link-values a b c next f = rw (sym e ∙ ap (partAnswer s) f) refl
+    link-values a b c next f = rw (sym is, sym e ∙ ap (partAnswer s) f) refl
 
     pub link-refused : (k : Refusal) → r ≡ part-is.Refused k → refused (numberOf k) ≡ link switches before (drop at s)
     unfolding link
-    link-refused k f = rw (sym e ∙ ap (partAnswer s) f) refl
+    link-refused k f = rw (sym is, sym e ∙ ap (partAnswer s) f) refl
+
+-- the tag of a link fits two bytes
+pub tag-fits : (before : Link) (fs : Fields) (r : Part) (a b c next : ℕ) → fieldList fs ≡ linkFields before → Fits fs r → r ≡ part-is.Values a b c next → c < 2 ^ 16
+tag-fits before fs r a b c next is q e =
+    let w : fs .third .width ≡ 2 = ap (λ (l : List Field). getD l 2 (field 0 0) .width) is in rw w at ((subst (Fits fs) e q) .2)

@@ -1,7 +1,8 @@
--- What each answer of the code stands for: values, or the number of a refusal.
+-- What the code's values stand for: the fields of a part, and each answer, which is values or the number of a refusal.
 use mathlib.Core.Path.{_≡_}
+use mathlib.Core.Bool.{Bool, _||_}
 use mathlib.Core.List.{List, [], _∷_}
-use Prim.Native.Nat.{ℕ, _≤_, _<_, _^_}
+use Prim.Native.Nat.{ℕ, _/_, _%_, _≤_, _<_, _^_}
 use lib.ListN.{drop}
 use Rattle.plant.specs.declared.Link.{Link}
 use Rattle.plant.specs.declared.Plant.{Plant}
@@ -9,7 +10,8 @@ use Rattle.plant.specs.Links.{plantWith}
 use Rattle.plant.specs.Refusals.{Answer, given, refused, refuse, _>>=_, numberOf}
 use Rattle.model.specs.Limits.{maxLinks}
 use Rattle.listing.specs.declared.Field.{Field}
-use Rattle.listing.specs.Part.{size, values, someRedundant}
+use Rattle.listing.specs.declared.Fields.{Fields}
+use Rattle.listing.specs.Part.{size, values, repeats, someRedundant}
 use Rattle.listing.specs.declared.Part.{Part}
 use Rattle.listing.specs.declared.Part.the-variants as part-is
 use Rattle.listing.specs.declared.Header.{Header}
@@ -22,10 +24,26 @@ use Rattle.listing.specs.declared.Decoded.{Decoded}
 use Rattle.listing.specs.declared.Written.{Written}
 use Rattle.listing.specs.declared.Written.the-variants as written-is
 
+-- ---- the fields of a part as the code holds them
+
+abbrev pub fieldList : Fields → List Field
+fieldList fs = fs .first ∷ fs .second ∷ fs .third ∷ []
+
+-- what the code asks of a field
+pub record Proper (f : Field) : Type 0 where
+  pub narrow : f .width ≤ 4
+  pub absent-fits : f .absent < (2 ^ 8) ^ f .width
+
+-- each of three fields is so
+pub record ProperFields (fs : Fields) : Type 0 where
+  pub first : Proper (fs .first)
+  pub second : Proper (fs .second)
+  pub third : Proper (fs .third)
+
 -- ---- the answers of the reader's steps, where s is the listing: its bytes from the next place on
 
 abbrev pub partAnswer : List ℕ → Part → Answer (List ℕ × List ℕ)
-partAnswer s (part-is.Fields a b c next) = given (a ∷ b ∷ c ∷ [], drop next s)
+partAnswer s (part-is.Values a b c next) = given (a ∷ b ∷ c ∷ [], drop next s)
 partAnswer s (part-is.Refused k) = refused (numberOf k)
 
 abbrev pub headerAnswer : List ℕ → Header → Answer (Plant × List ℕ)
@@ -39,6 +57,15 @@ recordAnswer s (record-is.Refused k) = refused (numberOf k)
 -- the fields of a part by its map m, where s are the bytes after the map
 unfoldable pub fieldsOf : List Field → ℕ → List ℕ → Answer (List ℕ × List ℕ)
 fieldsOf fs m s = refuse 4 (someRedundant m fs s) (given (values m fs s, drop (size m fs) s))
+
+-- one of the fields is given, by the map m, and with the value that its absence means
+abbrev pub anyRepeats : Fields → ℕ → ℕ → ℕ → ℕ → Bool
+anyRepeats fs m a b c = repeats (m % 2) a (fs .first .absent) || (repeats (m / 2 % 2) b (fs .second .absent) || repeats (m / 2 / 2 % 2) c (fs .third .absent))
+
+-- each value of a part is a number of so many bytes as its field is wide
+abbrev pub Fits : Fields → Part → Type 0
+Fits fs (part-is.Values a b c next) = (a < (2 ^ 8) ^ fs .first .width) × (b < (2 ^ 8) ^ fs .second .width) × (c < (2 ^ 8) ^ fs .third .width)
+Fits fs (part-is.Refused k) = Unit
 
 -- ---- reading
 
@@ -64,13 +91,3 @@ pub record Reads (a : Answer Plant) (r : Decoded) : Type 0 where
 abbrev pub writeAnswer : Written → Answer ℕ
 writeAnswer (written-is.Length n) = given n
 writeAnswer (written-is.Refused k) = refused (numberOf k)
-
--- ---- what the code asks of a field, and what holds of the values that a part gives
-
-pub record Proper (f : Field) : Type 0 where
-  pub narrow : f .width ≤ 4
-  pub absent-fits : f .absent < (2 ^ 8) ^ f .width
-
-abbrev pub Fits : Field → Field → Field → Part → Type 0
-Fits f g h (part-is.Fields a b c next) = (a < (2 ^ 8) ^ f .width) × (b < (2 ^ 8) ^ g .width) × (c < (2 ^ 8) ^ h .width)
-Fits f g h (part-is.Refused k) = Unit

@@ -3,20 +3,19 @@ use plant::Link;
 use plant::Plant;
 use plant::Refusal;
 ghost use mathlib.Core.Path.{_≡_};
-ghost use mathlib.Core.Bool.{_||_};
 ghost use mathlib.Core.List.{List, [], _∷_};
 ghost use Prim.Native.Nat.{ℕ, _+_, _*_, _^_, _≤_, _<_};
 ghost use lib.ListN.{length, take, drop};
 ghost use lib.Seq.{sets};
 ghost use Rattle.listing.specs.Field.{number, bytesOf};
-ghost use Rattle.listing.specs.Part.{taken, size, valueOf, repeats, part, fieldBytes, isGiven, partBytes};
+ghost use Rattle.listing.specs.Part.{taken, size, valueOf, repeats, part, fieldBytes, isGiven, mapOf, partBytes};
 ghost use Rattle.lists.specs.Members.{all};
 ghost use Rattle.plant.specs.Links.{zeroLink, plantWith};
 ghost use Rattle.plant.specs.Refusals.{given, refused, refuse, numberOf};
 ghost use Rattle.model.specs.Limits.{maxLinks};
-ghost use Rattle.listing.specs.Listing.{valueOutOfRange, bytesRemain, linkOf, soundLink, judged, header, link, afterHeader, decode, linksOf, headerBytes, linkBytes, linksBytes, encode};
+ghost use Rattle.listing.specs.Listing.{valueOutOfRange, headerFields, linkFields, bytesRemain, linkOf, soundLink, judged, header, link, afterHeader, decode, linksOf, headerBytes, linkBytes, linksBytes, encode};
 ghost use Rattle.listing.specs.Writing.{isZero, soundLinks, soundPlant, written, bufferAfter};
-ghost use Rattle.listing.specs.Answers.{fieldsOf, Proper, Fits, partAnswer, headerAnswer, recordAnswer, verdictAnswer, Reads, writeAnswer};
+ghost use Rattle.listing.specs.Answers.{fieldList, Proper, ProperFields, fieldsOf, anyRepeats, Fits, partAnswer, headerAnswer, recordAnswer, verdictAnswer, Reads, writeAnswer};
 
 // A field of a part: its width in bytes, and the value that its absence means.
 pub struct Field {
@@ -24,9 +23,16 @@ pub struct Field {
     pub absent: u32,
 }
 
+// The three fields of a part, by rising bit.
+pub struct Fields {
+    pub first: Field,
+    pub second: Field,
+    pub third: Field,
+}
+
 // A part's three values by rising bit and the place after it, or why there is none.
 pub enum Part {
-    Fields(u32, u32, u32, usize),
+    Values(u32, u32, u32, usize),
     Refused(Refusal),
 }
 
@@ -57,6 +63,54 @@ pub struct Decoded {
 pub enum Written {
     Length(usize),
     Refused(Refusal),
+}
+
+// The fields of a header: switch count, link count, start.
+fn header_fields() -> Fields
+    ensures { λ r. ⌜ fieldList r ≡ headerFields ⌝ }
+    ensures { λ r. ⌜ ProperFields r ⌝ }
+{
+    let first = Field {
+        width: 1,
+        absent: 1,
+    };
+    let second = Field {
+        width: 2,
+        absent: 0,
+    };
+    let third = Field {
+        width: 1,
+        absent: 0,
+    };
+    Fields {
+        first,
+        second,
+        third,
+    }
+}
+
+// The fields of a link after the record `before`: first end, second end, tag.
+fn link_fields(before: Link) -> Fields
+    ensures { λ r. ⌜ fieldList r ≡ linkFields before ⌝ }
+    ensures { λ r. ⌜ ProperFields r ⌝ }
+{
+    let first = Field {
+        width: 1,
+        absent: before.first as u32,
+    };
+    let second = Field {
+        width: 1,
+        absent: before.second as u32,
+    };
+    let third = Field {
+        width: 2,
+        absent: 0,
+    };
+    Fields {
+        first,
+        second,
+        third,
+    }
 }
 
 fn wide(b: u8) -> u32
@@ -112,55 +166,55 @@ fn is_redundant(bit: usize, value: u32, absent: u32) -> bool
     value == absent
 }
 
-// Is one of three fields redundant, each told by its bit, its value and the value that its absence means?
-fn any_redundant(
-    i: usize,
-    x: u32,
-    f: u32,
-    j: usize,
-    y: u32,
-    g: u32,
-    k: usize,
-    z: u32,
-    h: u32,
-) -> bool
-    ensures { λ r. ⌜ r ≡ repeats i x f || (repeats j y g || repeats k z h) ⌝ }
+// The bytes that the fields of a part take, by its map.
+fn fields_size(fs: Fields, map: usize) -> usize
+    requires { ⌜ ProperFields fs ⌝ }
+    ensures { λ r. ⌜ (r ≡ size map (fieldList fs)) × (r ≤ 12) ⌝ }
 {
-    if is_redundant(i, x, f) {
+    taken_by(fs.first, map % 2)
+        + taken_by(fs.second, map / 2 % 2)
+        + taken_by(fs.third, map / 2 / 2 % 2)
+}
+
+// Is one of the fields of a part redundant, by its map and its values?
+fn any_redundant(fs: Fields, map: usize, x: u32, y: u32, z: u32) -> bool
+    ensures { λ r. ⌜ r ≡ anyRepeats fs map x y z ⌝ }
+{
+    if is_redundant(map % 2, x, fs.first.absent) {
         return true;
     }
-    if is_redundant(j, y, g) {
+    if is_redundant(map / 2 % 2, y, fs.second.absent) {
         return true;
     }
-    is_redundant(k, z, h)
+    is_redundant(map / 2 / 2 % 2, z, fs.third.absent)
 }
 
 // The fields of a part whose map was read and whose bytes are there, from `at` on: refused if one is redundant.
-fn read_fields(s: &[u8], at: usize, map: usize, f: Field, g: Field, h: Field) -> Part
-    requires { ⌜ Proper f × Proper g × Proper h × (at + size map (f ∷ g ∷ h ∷ []) ≤ length (now s)) ⌝ }
-    ensures { λ r. ⌜ partAnswer (now (s .entry)) r ≡ fieldsOf (f ∷ g ∷ h ∷ []) map (drop at (now (s .entry))) ⌝ }
-    ensures { λ r. ⌜ Fits f g h r ⌝ }
+fn read_fields(s: &[u8], at: usize, map: usize, fs: Fields) -> Part
+    requires { ⌜ ProperFields fs × (at + size map (fieldList fs) ≤ length (now s)) ⌝ }
+    ensures { λ r. ⌜ partAnswer (now (s .entry)) r ≡ fieldsOf (fieldList fs) map (drop at (now (s .entry))) ⌝ }
+    ensures { λ r. ⌜ Fits fs r ⌝ }
 {
     let i = map % 2;
     let j = map / 2 % 2;
     let k = map / 2 / 2 % 2;
-    let second = at + taken_by(f, i);
-    let third = second + taken_by(g, j);
-    let next = third + taken_by(h, k);
-    let x = value_at(s, at, i, f);
-    let y = value_at(s, second, j, g);
-    let z = value_at(s, third, k, h);
-    if any_redundant(i, x, f.absent, j, y, g.absent, k, z, h.absent) {
+    let second = at + taken_by(fs.first, i);
+    let third = second + taken_by(fs.second, j);
+    let next = third + taken_by(fs.third, k);
+    let x = value_at(s, at, i, fs.first);
+    let y = value_at(s, second, j, fs.second);
+    let z = value_at(s, third, k, fs.third);
+    if any_redundant(fs, map, x, y, z) {
         return Part::Refused(Refusal::FieldRedundant);
     }
-    Part::Fields(x, y, z, next)
+    Part::Values(x, y, z, next)
 }
 
-// The part that begins at `at`, with these three fields by rising bit.
-fn read_part(s: &[u8], at: usize, f: Field, g: Field, h: Field) -> Part
-    requires { ⌜ Proper f × Proper g × Proper h ⌝ }
-    ensures { λ r. ⌜ partAnswer (now (s .entry)) r ≡ part (f ∷ g ∷ h ∷ []) (drop at (now (s .entry))) ⌝ }
-    ensures { λ r. ⌜ Fits f g h r ⌝ }
+// The part that begins at `at`, with these fields.
+fn read_part(s: &[u8], at: usize, fs: Fields) -> Part
+    requires { ⌜ ProperFields fs ⌝ }
+    ensures { λ r. ⌜ partAnswer (now (s .entry)) r ≡ part (fieldList fs) (drop at (now (s .entry))) ⌝ }
+    ensures { λ r. ⌜ Fits fs r ⌝ }
 {
     if s.len() <= at {
         return Part::Refused(Refusal::MapMissing);
@@ -170,11 +224,10 @@ fn read_part(s: &[u8], at: usize, f: Field, g: Field, h: Field) -> Part
         return Part::Refused(Refusal::MapUndefined);
     }
     let from = at + 1;
-    let size = taken_by(f, map % 2) + taken_by(g, map / 2 % 2) + taken_by(h, map / 2 / 2 % 2);
-    if s.len() - from < size {
+    if s.len() - from < fields_size(fs, map) {
         return Part::Refused(Refusal::FieldMissing);
     }
-    read_fields(s, from, map, f, g, h)
+    read_fields(s, from, map, fs)
 }
 
 // Refusal 5's condition on the values of a header.
@@ -210,20 +263,8 @@ fn judge_header(switches: u32, count: u32, start: u32, next: usize) -> Header
 pub fn read_header(s: &[u8], at: usize) -> Header
     ensures { λ r. ⌜ headerAnswer (now (s .entry)) r ≡ header (drop at (now (s .entry))) ⌝ }
 {
-    let f = Field {
-        width: 1,
-        absent: 1,
-    };
-    let g = Field {
-        width: 2,
-        absent: 0,
-    };
-    let h = Field {
-        width: 1,
-        absent: 0,
-    };
-    match read_part(s, at, f, g, h) {
-        Part::Fields(switches, count, start, next) => judge_header(switches, count, start, next),
+    match read_part(s, at, header_fields()) {
+        Part::Values(switches, count, start, next) => judge_header(switches, count, start, next),
         Part::Refused(k) => Header::Refused(k),
     }
 }
@@ -267,20 +308,8 @@ fn judge_link(first: u32, second: u32, tag: u32, switches: u8, next: usize) -> R
 pub fn read_link(s: &[u8], at: usize, before: Link, switches: u8) -> Record
     ensures { λ r. ⌜ recordAnswer (now (s .entry)) r ≡ link switches before (drop at (now (s .entry))) ⌝ }
 {
-    let f = Field {
-        width: 1,
-        absent: before.first as u32,
-    };
-    let g = Field {
-        width: 1,
-        absent: before.second as u32,
-    };
-    let h = Field {
-        width: 2,
-        absent: 0,
-    };
-    match read_part(s, at, f, g, h) {
-        Part::Fields(first, second, tag, next) => judge_link(first, second, tag, switches, next),
+    match read_part(s, at, link_fields(before)) {
+        Part::Values(first, second, tag, next) => judge_link(first, second, tag, switches, next),
         Part::Refused(k) => Record::Refused(k),
     }
 }
@@ -459,51 +488,42 @@ fn put_field(buf: &mut [u8], at: usize, f: Field, value: u32) -> usize
 }
 
 // The bytes of a part with these fields and values.
-fn part_size(f: Field, x: u32, g: Field, y: u32, h: Field, z: u32) -> usize
-    requires { ⌜ Proper f × Proper g × Proper h ⌝ }
-    ensures { λ r. ⌜ (r ≡ length (partBytes (f ∷ g ∷ h ∷ []) (x ∷ y ∷ z ∷ []))) × (r ≤ 13) ⌝ }
+fn part_size(fs: Fields, x: u32, y: u32, z: u32) -> usize
+    requires { ⌜ ProperFields fs ⌝ }
+    ensures { λ r. ⌜ (r ≡ length (partBytes (fieldList fs) (x ∷ y ∷ z ∷ []))) × (r ≤ 13) ⌝ }
 {
-    1 + field_size(f, x) + field_size(g, y) + field_size(h, z)
+    1 + field_size(fs.first, x) + field_size(fs.second, y) + field_size(fs.third, z)
+}
+
+// The map of a part with these fields and values.
+fn part_map(fs: Fields, x: u32, y: u32, z: u32) -> u8
+    ensures { λ r. ⌜ r ≡ mapOf (fieldList fs) (x ∷ y ∷ z ∷ []) ⌝ }
+{
+    field_bit(fs.first, x) + 2 * (field_bit(fs.second, y) + 2 * field_bit(fs.third, z))
 }
 
 // A part from `at` on; the place after it.
-fn put_part(
-    buf: &mut [u8],
-    at: usize,
-    f: Field,
-    x: u32,
-    g: Field,
-    y: u32,
-    h: Field,
-    z: u32,
-) -> usize
-    requires { ⌜ at + length (partBytes (f ∷ g ∷ h ∷ []) (x ∷ y ∷ z ∷ [])) ≤ length (now buf) ⌝ }
-    ensures { λ r. ⌜ r ≡ at + length (partBytes (f ∷ g ∷ h ∷ []) (x ∷ y ∷ z ∷ [])) ⌝ }
-    ensures { λ _. ⌜ now (buf .exit) ≡ sets (now (buf .entry)) at (partBytes (f ∷ g ∷ h ∷ []) (x ∷ y ∷ z ∷ [])) ⌝ }
+fn put_part(buf: &mut [u8], at: usize, fs: Fields, x: u32, y: u32, z: u32) -> usize
+    requires { ⌜ at + length (partBytes (fieldList fs) (x ∷ y ∷ z ∷ [])) ≤ length (now buf) ⌝ }
+    ensures { λ r. ⌜ r ≡ at + length (partBytes (fieldList fs) (x ∷ y ∷ z ∷ [])) ⌝ }
+    ensures { λ _. ⌜ now (buf .exit) ≡ sets (now (buf .entry)) at (partBytes (fieldList fs) (x ∷ y ∷ z ∷ [])) ⌝ }
 {
-    buf[at] = field_bit(f, x) + 2 * (field_bit(g, y) + 2 * field_bit(h, z));
-    let second = put_field(buf, at + 1, f, x);
-    let third = put_field(buf, second, g, y);
-    put_field(buf, third, h, z)
+    buf[at] = part_map(fs, x, y, z);
+    let second = put_field(buf, at + 1, fs.first, x);
+    let third = put_field(buf, second, fs.second, y);
+    put_field(buf, third, fs.third, z)
 }
 
 // The bytes of a plant's header.
 fn header_size(p: Plant) -> usize
     ensures { λ r. ⌜ (r ≡ length (headerBytes p)) × (r ≤ 13) ⌝ }
 {
-    let f = Field {
-        width: 1,
-        absent: 1,
-    };
-    let g = Field {
-        width: 2,
-        absent: 0,
-    };
-    let h = Field {
-        width: 1,
-        absent: 0,
-    };
-    part_size(f, p.switches as u32, g, p.count as u32, h, p.start as u32)
+    part_size(
+        header_fields(),
+        p.switches as u32,
+        p.count as u32,
+        p.start as u32,
+    )
 }
 
 // A plant's header at the front of the buffer; the place after it.
@@ -512,26 +532,12 @@ fn put_header(buf: &mut [u8], p: Plant) -> usize
     ensures { λ r. ⌜ r ≡ length (headerBytes p) ⌝ }
     ensures { λ _. ⌜ now (buf .exit) ≡ sets (now (buf .entry)) 0 (headerBytes p) ⌝ }
 {
-    let f = Field {
-        width: 1,
-        absent: 1,
-    };
-    let g = Field {
-        width: 2,
-        absent: 0,
-    };
-    let h = Field {
-        width: 1,
-        absent: 0,
-    };
     put_part(
         buf,
         0,
-        f,
+        header_fields(),
         p.switches as u32,
-        g,
         p.count as u32,
-        h,
         p.start as u32,
     )
 }
@@ -540,19 +546,12 @@ fn put_header(buf: &mut [u8], p: Plant) -> usize
 fn link_size(before: Link, l: Link) -> usize
     ensures { λ r. ⌜ (r ≡ length (linkBytes before l)) × (r ≤ 13) ⌝ }
 {
-    let f = Field {
-        width: 1,
-        absent: before.first as u32,
-    };
-    let g = Field {
-        width: 1,
-        absent: before.second as u32,
-    };
-    let h = Field {
-        width: 2,
-        absent: 0,
-    };
-    part_size(f, l.first as u32, g, l.second as u32, h, l.tag as u32)
+    part_size(
+        link_fields(before),
+        l.first as u32,
+        l.second as u32,
+        l.tag as u32,
+    )
 }
 
 // A link after the record `before`, from `at` on; the place after it.
@@ -561,26 +560,12 @@ fn put_link(buf: &mut [u8], at: usize, before: Link, l: Link) -> usize
     ensures { λ r. ⌜ r ≡ at + length (linkBytes before l) ⌝ }
     ensures { λ _. ⌜ now (buf .exit) ≡ sets (now (buf .entry)) at (linkBytes before l) ⌝ }
 {
-    let f = Field {
-        width: 1,
-        absent: before.first as u32,
-    };
-    let g = Field {
-        width: 1,
-        absent: before.second as u32,
-    };
-    let h = Field {
-        width: 2,
-        absent: 0,
-    };
     put_part(
         buf,
         at,
-        f,
+        link_fields(before),
         l.first as u32,
-        g,
         l.second as u32,
-        h,
         l.tag as u32,
     )
 }

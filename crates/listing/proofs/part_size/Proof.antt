@@ -1,7 +1,6 @@
 -- `listing::part_size` meets its contract. Assumes nothing.
 use native.Mathlib.Omega.{arith}
-use lib.ListN.{length-append}
-use Rattle.listing.specs.Part.{partBytes}
+use Rattle.listing.proofs.PutLaws.{part-length}
 use borrow.Author.Needs.{needs}
 use Rattle.listing.proofs.part_size.Statement.{statement}
 use Rattle.listing.proofs.part_size.Tie as tie
@@ -25,12 +24,12 @@ add-result-3 : tie.Need-add-result-3
 add-result-3 c = search needs
 
 returns : tie.Need-returns
-unfolding partBytes
 returns c =
     let a = c .before .before .field-size .ensures in
     let b = c .before .field-size2 .ensures in
     let d = c .field-size3 .ensures in
-    (simp (length-append) (omega (arith, a .0, b .0, d .0)), omega (arith, a .1, b .1, d .1))
+    let k = c .before .before .before .args in
+    (omega (arith, part-length (k .fs) (k .x) (k .y) (k .z), a .0, b .0, d .0), omega (arith, a .1, b .1, d .1))
 
 pub part-size-spec : {M : Type 1} → statement M
 part-size-spec =

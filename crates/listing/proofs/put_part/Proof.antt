@@ -1,118 +1,67 @@
 -- `listing::put_part` meets its contract. Assumes nothing.
-use mathlib.Core.Path.{_≡_, ap, _∙_}
-use mathlib.Core.List.{_∷_, []}
-use Prim.Native.Nat.{ℕ, _+_, _*_}
-use native.Mathlib.Omega.{arith}
-use lib.ListN.{length-set}
-use lib.Seq.{sets}
-use Rattle.listing.specs.Part.{fieldBytes, mapOf, bodyOf, partBytes}
-use Rattle.lists.proofs.Arrays.{laid}
-use Rattle.listing.proofs.PutLaws.{laid-behind, put-three, size-three, part-length}
+use mathlib.Core.Path.{_∙_}
+use Rattle.listing.proofs.PutLaws.{map-room, first-room, second-room, third-room, part-end, part-same, part-laid}
 use borrow.Author.Needs.{needs}
 use Rattle.listing.proofs.put_part.Statement.{statement}
 use Rattle.listing.proofs.put_part.Tie as tie
 
-field-bit-requires : tie.Need-field-bit-requires
-field-bit-requires c κs = search needs
-
-field-bit-requires-2 : tie.Need-field-bit-requires-2
-field-bit-requires-2 c κs = search needs
-
-field-bit-requires-3 : tie.Need-field-bit-requires-3
-field-bit-requires-3 c κs = search needs
-
-mul-buf : tie.Need-mul-buf
-mul-buf c = search needs
-
-add-buf : tie.Need-add-buf
-add-buf c = search needs
-
-mul-buf-2 : tie.Need-mul-buf-2
-mul-buf-2 c = search needs
-
-add-buf-2 : tie.Need-add-buf-2
-add-buf-2 c = search needs
+part-map-requires : tie.Need-part-map-requires
+part-map-requires c κs = search needs
 
 slice-write-buf : tie.Need-slice-write-buf
 slice-write-buf c =
-    let k = c .before .before .before .before in
-    omega (arith, k .pre, part-length (k .args .f) (k .args .g) (k .args .h) (k .args .x) (k .args .y) (k .args .z))
+    let k = c .before .before in map-room (k .args .buf .now) _ (k .args .fs) (k .args .x) (k .args .y) (k .args .z) (k .pre)
 
 add-put-field : tie.Need-add-put-field
 add-put-field c = search needs
 
 put-field-requires : tie.Need-put-field-requires
 put-field-requires c κs =
-    let k = c .before .before .before .before .before in
-    simp length-set (omega (arith, k .pre, part-length (k .args .f) (k .args .g) (k .args .h) (k .args .x) (k .args .y) (k .args .z)))
+    let m = c .before in
+    let k = m .before .before in
+    first-room (k .args .buf .now) _ (k .args .fs) (k .args .x) (k .args .y) (k .args .z) (k .pre) _ (m .part-map .ensures)
 
 put-field-requires-2 : tie.Need-put-field-requires-2
 put-field-requires-2 c κs =
-    let w = c .before .before .before .before .before in
-    let k = w .before .before .before .before in
-    let p = c .before .before .before .put-field in
-    omega (
-      arith,
-      k .pre,
-      part-length (k .args .f) (k .args .g) (k .args .h) (k .args .x) (k .args .y) (k .args .z),
-      p .ensures .0,
-      laid-behind (k .args .buf .now) (p .last .0) (k .args .at) (w .before .before .field-bit .result + 2 * (w .before .field-bit2 .result + 2 * w .field-bit3 .result)) (k .args .at + 1) (fieldBytes (k .args .f) (k .args .x)) (p .ensures .1),
-    )
+    let p = c .before .before .before in
+    let m = p .before .before in
+    let k = m .before .before in
+    second-room (k .args .buf .now) _ (k .args .fs) (k .args .x) (k .args .y) (k .args .z) (k .pre) _ (m .part-map .ensures) _ _ (p .put-field .ensures .1) (p .put-field .ensures .0)
 
 put-field-requires-3 : tie.Need-put-field-requires-3
 put-field-requires-3 c κs =
-    let w = c .before .before .before .before .before .before .before .before .before in
-    let k = w .before .before .before .before in
-    let p = c .before .before .before .before .before .before .before .put-field in
-    let q = c .before .before .before .put-field2 in
-    omega (
-      arith,
-      k .pre,
-      part-length (k .args .f) (k .args .g) (k .args .h) (k .args .x) (k .args .y) (k .args .z),
-      p .ensures .0,
-      laid-behind (k .args .buf .now) (p .last .0) (k .args .at) (w .before .before .field-bit .result + 2 * (w .before .field-bit2 .result + 2 * w .field-bit3 .result)) (k .args .at + 1) (fieldBytes (k .args .f) (k .args .x)) (p .ensures .1),
-      q .ensures .0,
-      laid (p .last .0) (q .last .0) (p .result) (fieldBytes (k .args .g) (k .args .y)) (q .ensures .1),
-    )
+    let q = c .before .before .before in
+    let p = q .before .before .before .before in
+    let m = p .before .before in
+    let k = m .before .before in
+    third-room (k .args .buf .now) _ (k .args .fs) (k .args .x) (k .args .y) (k .args .z) (k .pre) _ (m .part-map .ensures) _ _ (p .put-field .ensures .1) (p .put-field .ensures .0) _ _ (q .put-field2 .ensures .1) (q .put-field2 .ensures .0)
 
 same-length : tie.Need-same-length
 same-length c =
-    let w = c .before .before .before .before .before .before .before .before .before .before .before .before in
-    let k = w .before .before .before .before in
-    let p = c .before .before .before .before .before .before .before .before .before .before .put-field in
-    let q = c .before .before .before .before .before .before .put-field2 in
-    let r = c .before .before .put-field3 in
-    laid (q .last .0) (r .last .0) (q .result) (fieldBytes (k .args .h) (k .args .z)) (r .ensures .1)
-    ∙ laid (p .last .0) (q .last .0) (p .result) (fieldBytes (k .args .g) (k .args .y)) (q .ensures .1)
-    ∙ laid-behind (k .args .buf .now) (p .last .0) (k .args .at) (w .before .before .field-bit .result + 2 * (w .before .field-bit2 .result + 2 * w .field-bit3 .result)) (k .args .at + 1) (fieldBytes (k .args .f) (k .args .x)) (p .ensures .1)
+    let r = c .before .before in
+    let q = r .before .before .before .before in
+    let p = q .before .before .before .before in
+    let m = p .before .before in
+    let k = m .before .before in
+    part-same (k .args .buf .now) _ (k .args .fs) (k .args .x) (k .args .y) (k .args .z) (k .pre) _ (m .part-map .ensures) _ _ (p .put-field .ensures .1) (p .put-field .ensures .0) _ _ (q .put-field2 .ensures .1) (q .put-field2 .ensures .0) _ (r .put-field3 .ensures .1)
 
 returns : tie.Need-returns
-unfolding partBytes
 returns c =
-    let w = c .before .before .before .before .before .before .before .before .before .before .before .before in
-    let k = w .before .before .before .before in
-    let p = c .before .before .before .before .before .before .before .before .before .before .put-field in
-    let q = c .before .before .before .before .before .before .put-field2 in
-    let r = c .before .before .put-field3 in
-    let m : ℕ = (w .before .before .field-bit .result + 2 * (w .before .field-bit2 .result + 2 * w .field-bit3 .result)) in
-    let e : m ≡ mapOf (k .args .f ∷ k .args .g ∷ k .args .h ∷ []) (k .args .x ∷ k .args .y ∷ k .args .z ∷ []) = omega (arith, w .before .before .field-bit .ensures .0, w .before .field-bit2 .ensures .0, w .field-bit3 .ensures .0) in (
-      r .ensures .0 ∙ size-three (k .args .buf .now) (k .args .at) m (fieldBytes (k .args .f) (k .args .x)) (fieldBytes (k .args .g) (k .args .y)) (fieldBytes (k .args .h) (k .args .z)) (p .result) (q .result) (p .ensures .0) (q .ensures .0),
-      put-three (k .args .buf .now) (k .args .at) m (fieldBytes (k .args .f) (k .args .x)) (fieldBytes (k .args .g) (k .args .y)) (fieldBytes (k .args .h) (k .args .z)) (p .last .0) (q .last .0) (r .last .0) (p .result) (q .result)
-          (p .ensures .1) (p .ensures .0) (q .ensures .1) (q .ensures .0) (r .ensures .1)
-          ∙ ap (λ (n : ℕ). sets (k .args .buf .now) (k .args .at) (n ∷ bodyOf (k .args .f ∷ k .args .g ∷ k .args .h ∷ []) (k .args .x ∷ k .args .y ∷ k .args .z ∷ []))) e,
+    let r = c .before .before in
+    let q = r .before .before .before .before in
+    let p = q .before .before .before .before in
+    let m = p .before .before in
+    let k = m .before .before in (
+      r .put-field3 .ensures .0
+          ∙ part-end (k .args .buf .now) _ (k .args .fs) (k .args .x) (k .args .y) (k .args .z) (k .pre) _ (m .part-map .ensures) _ _ (p .put-field .ensures .1) (p .put-field .ensures .0) _ _ (q .put-field2 .ensures .1) (q .put-field2 .ensures .0),
+      part-laid (k .args .buf .now) _ (k .args .fs) (k .args .x) (k .args .y) (k .args .z) (k .pre) _ (m .part-map .ensures) _ _ (p .put-field .ensures .1) (p .put-field .ensures .0) _ _ (q .put-field2 .ensures .1) (q .put-field2 .ensures .0) _ (r .put-field3 .ensures .1),
     )
 
 pub put-part-spec : {M : Type 1} → statement M
 put-part-spec =
     tie.close
     (tie.spec
-    field-bit-requires
-    field-bit-requires-2
-    field-bit-requires-3
-    mul-buf
-    add-buf
-    mul-buf-2
-    add-buf-2
+    part-map-requires
     slice-write-buf
     add-put-field
     put-field-requires

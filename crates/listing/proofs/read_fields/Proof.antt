@@ -37,7 +37,7 @@ any-redundant-requires c κs = search needs
 returns : tie.Need-returns
 returns c =
     let v = c .before .before in (
-      fields-redundant _ _ _ _ _ _ _ _ _ _ _ _ _ (record {
+      fields-redundant _ _ _ _ _ _ _ _ _ _ _ (record {
         first = v .before .before .value-at .ensures .0;
         second = v .before .value-at2 .ensures .0;
         third = v .value-at3 .ensures .0;
@@ -51,7 +51,7 @@ returns c =
 returns-2 : tie.Need-returns-2
 returns-2 c =
     let v = c .before .before in (
-      fields-given _ _ _ _ _ _ _ _ _ _ _ _ _ (record {
+      fields-given _ _ _ _ _ _ _ _ _ _ _ (record {
         first = v .before .before .value-at .ensures .0;
         second = v .before .value-at2 .ensures .0;
         third = v .value-at3 .ensures .0;
