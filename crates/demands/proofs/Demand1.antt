@@ -22,7 +22,7 @@ use Rattle.walks.specs.Graph.{Connected, connected, liveLinks}
 use Rattle.walks.proofs.Tests.{connected-is}
 use Rattle.walks.proofs.Valid.{sound-valid}
 use Rattle.planner.specs.Planning.{notConnected, joined, planning, switchOutOfRange, planningAt}
-use Rattle.planner.specs.Calls.{rewriting, overlaid, rereading, tabling, summing, placesShort, laying, laidOut, trailing, trailedBy}
+use Rattle.planner.specs.Calls.{rewriting, overlaid, rereading, bridging, tabling, summing, placesShort, laying, laidOut, trailing, trailedBy}
 use Rattle.planner.proofs.Plans.{plan-joined, plan-apart, plan-refused, plan-ready}
 use Rattle.quantity.specs.Quantity.{orderQuantity}
 use Rattle.search.specs.Search.{ended, wanted, ask, give}
@@ -31,8 +31,8 @@ use Rattle.rings.specs.Rules.{upBy}
 use Rattle.rings.specs.Injection.{probeRun}
 use Rattle.probing.specs.Conditions.{trailDiffers, statesShort, searchUnsound, probeWanted}
 use Rattle.probing.specs.Calls.{runIn, running, outcomeOf, checkIn, checking, orderIn, ordering, outSpan, outwardIn, outgoing, probeIn, probing, nameIn, naming}
-use Rattle.demands.specs.Calls.{beginningOn, beginning, performingOn, performing}
-use Rattle.demands.specs.Demands.{Answers, planningThen, AnswersPlanning, Demand1}
+use Rattle.demands.specs.Calls.{beginning, performing}
+use Rattle.demands.specs.Demands.{Answers, planningThen, planningAtThen, AnswersPlanning, Demand1}
 
 -- ---- a call that tries conditions
 
@@ -80,12 +80,16 @@ module _ (s : List ℕ) where
 
   -- after 11 too
   after-switch : {A : Type 0} (x : ℕ) (f : Plant → Answer A) (cs : Conditions) (r : A) → f (plantIn s) ≡ trying cs (given r)
-      → Answers (planningThen s ((11, switchOutOfRange (plantIn s) x) ∷ cs)) (planningAt s x >>= f)
+      → Answers (planningAtThen s x cs) (planningAt s x >>= f)
   unfolding planningAt
   after-switch x f cs r e =
       rw (then-assoc (planning s) (λ p. refuse 11 (switchOutOfRange p x) (given p)) f)
       (after-planning (λ p. refuse 11 (switchOutOfRange p x) (given p) >>= f) ((11, switchOutOfRange (plantIn s) x) ∷ cs) r
       (trying-then ((11, switchOutOfRange (plantIn s) x) ∷ []) (given (plantIn s)) f ∙ ap (refuse 11 (switchOutOfRange (plantIn s) x)) e))
+
+  plan-at-answers : (x : ℕ) → Answers (planningAtThen s x []) (planningAt s x)
+  unfolding planningAt
+  plan-at-answers x = after-planning (λ p. refuse 11 (switchOutOfRange p x) (given p)) ((11, switchOutOfRange (plantIn s) x) ∷ []) (plantIn s) refl
 
   -- ---- planning
 
@@ -153,16 +157,18 @@ wanted-then false true m f = refl
 wanted-then false false m f = refl
 
 pub demand-1 : Demand1
-unfolding running runIn checking checkIn ordering orderIn outgoing outwardIn probing probeIn probeWanted naming nameIn rewriting tabling summing trailing laying beginning beginningOn performing performingOn ask give orderQuantity
+unfolding running runIn checking checkIn ordering orderIn outgoing outwardIn probing probeIn probeWanted naming nameIn rewriting bridging tabling summing trailing laying beginning performing ask give orderQuantity
 demand-1 = record {
   read = decode-answers;
   rewrite = λ s b. after-reading s _ _ _ refl;
   plan = plan-answers;
+  plan-at = λ s x. plan-at-answers s x;
+  find-bridges = λ s. after-planning s _ _ _ refl;
   forwarding-table = λ s. after-planning s _ _ _ refl;
   summarize = λ s. after-planning s _ _ _ refl;
   lay-trail = λ s b. after-planning s _ _ _ refl;
-  new-search = λ s x. after-planning s _ _ _ refl;
-  perform = λ s x cs. after-planning s _ _ _ refl;
+  new-search = λ s x. after-switch s x _ _ _ refl;
+  perform = λ s x cs. after-switch s x _ _ _ refl;
   run = λ s x labels states. after-switch s x _ _ _ refl;
   full-check = λ s x w states. after-switch s x _ _ _ refl;
   order-of-links = λ s x w. after-switch s x _ _ _ refl;

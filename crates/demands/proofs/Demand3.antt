@@ -1,5 +1,5 @@
 -- Demand 3 holds of every listing that is read as a connected plant. Assumes nothing.
-use mathlib.Core.Path.{_≡_, sym, ap, _∙_}
+use mathlib.Core.Path.{_≡_, sym, ap}
 use mathlib.Core.List.{List}
 use Prim.Native.Nat.{ℕ}
 use Rattle.plant.specs.declared.Plant.{Plant}
@@ -11,9 +11,9 @@ use Rattle.search.specs.Search.{newSearch}
 use Rattle.table.specs.Rules.{tableOf}
 use Rattle.planner.specs.Planning.{planning}
 use Rattle.planner.specs.Calls.{tabling}
-use Rattle.planner.proofs.Plans.{plan-ready}
+use Rattle.planner.proofs.Plans.{plan-ready, given-at}
 use Rattle.demands.specs.Demands.{Demand3}
-use Rattle.demands.proofs.Calling.{switch-in, begin-within, begin-given}
+use Rattle.demands.proofs.Calling.{begin-given}
 use Rattle.demands.proofs.RulePages.{rule-page}
 use Rattle.demands.proofs.Searching.{searches}
 
@@ -24,6 +24,6 @@ demand-3 s b p e =
     record {
       page = rw e;
       rules = rule-page p (r .0) (r .1);
-      begins = λ x h. sym (begin-within p x (switch-in p x .1 h) (newSearch (liveLinks p)) (ap newSearch (all-live p)) ∙ begin-given s x p e);
+      begins = λ x h. sym (begin-given s x p (given-at s x p e h) (newSearch (liveLinks p)) (ap newSearch (all-live p)));
       searches = λ x h. searches p (r .0) (r .1) x h;
     }

@@ -4,23 +4,24 @@ use mathlib.Core.List.{List}
 use Prim.Native.Nat.{ℕ}
 use Rattle.plant.specs.declared.Plant.{Plant}
 use Rattle.plant.specs.Refusals.{Answer, given}
-use Rattle.model.proofs.Answers.{given-given, refuse-given}
+use Rattle.model.proofs.Answers.{given-given, after-given}
 use Rattle.listing.specs.Field.{Bytes}
 use Rattle.walks.specs.Graph.{liveLinks}
-use Rattle.planner.specs.Planning.{planning, switchOutOfRange}
+use Rattle.planner.specs.Planning.{planningAt}
+use Rattle.planner.proofs.Plans.{at-given}
 use Rattle.search.specs.declared.Progress.{Progress}
 use Rattle.search.specs.Calls.{Call, perform, begun}
-use Rattle.demands.specs.Calls.{performingOn, performing}
+use Rattle.demands.specs.Calls.{performing}
 use Rattle.demands.specs.Demands.{Searches}
 use Rattle.demands.specs.Answers.{Performs}
-use Rattle.demands.proofs.Calling.{switch-in, perform-given}
 use Rattle.demands.proofs.Demand3.{demand-3}
 
 pub performs : (s : List ℕ) (x : ℕ) (cs : List Call) (a : Answer Progress) → Bytes s → a ≡ performing s x cs → Performs s x cs a
-unfolding performingOn
+unfolding performing
 performs s x cs a b e = record { answer = e; demand = demand }
   where
-    demand : (p : Plant) (r : Progress) → planning s ≡ given p → a ≡ given r → Searches p x cs r
+    demand : (p : Plant) (r : Progress) → planningAt s x ≡ given p → a ≡ given r → Searches p x cs r
     demand p r q f =
-        let u = refuse-given 11 (switchOutOfRange p x) (given (perform (begun (liveLinks p)) cs)) r (perform-given s x p q cs ∙ sym e ∙ f) in
-        subst (Searches p x cs) (given-given (perform (begun (liveLinks p)) cs) r (u .1)) (demand-3 s b p q .searches x (switch-in p x .0 (u .0)) cs)
+        let h = at-given s x p q in
+        let g : given (perform (begun (liveLinks p)) cs) ≡ performing s x cs = rw q in
+        subst (Searches p x cs) (given-given (perform (begun (liveLinks p)) cs) r (g ∙ sym e ∙ f)) (demand-3 s b p (h .0) .searches x (h .1) cs)

@@ -4,7 +4,7 @@ use mathlib.Core.List.{List}
 use Prim.Native.Nat.{ℕ}
 use Rattle.plant.specs.declared.Plant.{Plant}
 use Rattle.plant.specs.Refusals.{Answer, given, refused, numberOf}
-use Rattle.planner.specs.Planning.{planning}
+use Rattle.planner.specs.Planning.{planningAt}
 use Rattle.search.specs.declared.Search.{Search}
 use Rattle.search.specs.declared.Progress.{Progress}
 use Rattle.search.specs.Calls.{Call}
@@ -26,4 +26,4 @@ performedAnswer (performed-is.Refused k) = refused (numberOf k)
 -- the answer a to a list of calls from injection switch x of the listing s: the one that is defined, and demand 3 holds of where the calls led to
 pub record Performs (s : List ℕ) (x : ℕ) (cs : List Call) (a : Answer Progress) : Type 0 where
   pub answer : a ≡ performing s x cs
-  pub demand : (p : Plant) (r : Progress) → planning s ≡ given p → a ≡ given r → Searches p x cs r
+  pub demand : (p : Plant) (r : Progress) → planningAt s x ≡ given p → a ≡ given r → Searches p x cs r

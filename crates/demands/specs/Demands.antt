@@ -25,8 +25,8 @@ use Rattle.rings.specs.Injection.{orderOf, probeRun}
 use Rattle.rings.specs.FirstDown.{FirstDown}
 use Rattle.trail.specs.Trails.{IsTrail, legsOf}
 use Rattle.table.specs.Rules.{ruleOf, rulesOf, tableWith}
-use Rattle.planner.specs.Planning.{notConnected, planning, switchOutOfRange}
-use Rattle.planner.specs.Calls.{rewriting, overlaid, rereading, tabling, summing, placesShort, trailing, trailedBy}
+use Rattle.planner.specs.Planning.{notConnected, planning, switchOutOfRange, planningAt}
+use Rattle.planner.specs.Calls.{rewriting, overlaid, rereading, bridging, tabling, summing, placesShort, trailing, trailedBy}
 use Rattle.quantity.specs.Quantity.{maxSpare, orderQuantity}
 use Rattle.search.specs.declared.Search.{Search}
 use Rattle.search.specs.declared.Search.the-variants.{AllUp, Down}
@@ -52,6 +52,10 @@ module _ (s : List ℕ) where
   abbrev pub planningThen : Conditions → Conditions
   planningThen cs = conditions s ++ (9, notConnected (plantIn s)) ∷ cs
 
+  -- then 11 of the switch x
+  abbrev pub planningAtThen : ℕ → Conditions → Conditions
+  planningAtThen x cs = planningThen ((11, switchOutOfRange (plantIn s) x) ∷ cs)
+
   -- of planning itself also what its result is, and what condition 9 is
   pub record AnswersPlanning (a : Answer Plant) : Type 0 where
     pub refusals : (n : ℕ) → (a ≡ refused n) ↔ FirstHolds n (planningThen [])
@@ -63,26 +67,28 @@ pub record Demand1 : Type 0 where
   pub read : (s : List ℕ) → Bytes s → AnswersReading s (decode s)
   pub rewrite : (s b : List ℕ) → Answers (conditions s ++ (16, ltb (length b) (length s)) ∷ []) (rewriting s b)
   pub plan : (s : List ℕ) → Bytes s → AnswersPlanning s (planning s)
+  pub plan-at : (s : List ℕ) (x : ℕ) → Answers (planningAtThen s x []) (planningAt s x)
+  pub find-bridges : (s : List ℕ) → Answers (planningThen s []) (bridging s)
   pub forwarding-table : (s : List ℕ) → Answers (planningThen s []) (tabling s)
   pub summarize : (s : List ℕ) → Answers (planningThen s []) (summing s)
   pub lay-trail : (s b : List ℕ) → Answers (planningThen s ((10, placesShort (plantIn s) b) ∷ [])) (trailing s b)
-  pub new-search : (s : List ℕ) (x : ℕ) → Answers (planningThen s ((11, switchOutOfRange (plantIn s) x) ∷ [])) (beginning s x)
-  pub perform : (s : List ℕ) (x : ℕ) (cs : List Call) → Answers (planningThen s ((11, switchOutOfRange (plantIn s) x) ∷ [])) (performing s x cs)
+  pub new-search : (s : List ℕ) (x : ℕ) → Answers (planningAtThen s x []) (beginning s x)
+  pub perform : (s : List ℕ) (x : ℕ) (cs : List Call) → Answers (planningAtThen s x []) (performing s x cs)
   -- with labels, link states, a lent trail w, a search q
   pub run : (s : List ℕ) (x : ℕ) (labels states : List ℕ)
-      → Answers (planningThen s ((11, switchOutOfRange (plantIn s) x) ∷ (13, statesShort (plantIn s .count) states) ∷ [])) (running s x labels states)
+      → Answers (planningAtThen s x ((13, statesShort (plantIn s .count) states) ∷ [])) (running s x labels states)
   pub full-check : (s : List ℕ) (x : ℕ) (w states : List ℕ)
-      → Answers (planningThen s ((11, switchOutOfRange (plantIn s) x) ∷ (12, trailDiffers (plantIn s) w) ∷ (13, statesShort (plantIn s .count) states) ∷ [])) (checking s x w states)
+      → Answers (planningAtThen s x ((12, trailDiffers (plantIn s) w) ∷ (13, statesShort (plantIn s .count) states) ∷ [])) (checking s x w states)
   pub order-of-links : (s : List ℕ) (x : ℕ) (w : List ℕ)
-      → Answers (planningThen s ((11, switchOutOfRange (plantIn s) x) ∷ (12, trailDiffers (plantIn s) w) ∷ [])) (ordering s x w)
+      → Answers (planningAtThen s x ((12, trailDiffers (plantIn s) w) ∷ [])) (ordering s x w)
   pub outward-labels : (s : List ℕ) (x : ℕ) (w : List ℕ) (q : Search)
-      → Answers (planningThen s ((11, switchOutOfRange (plantIn s) x) ∷ (12, trailDiffers (plantIn s) w) ∷ (14, searchUnsound (liveLinks (plantIn s)) q) ∷ (15, ended q) ∷ [])) (outgoing s x w q)
+      → Answers (planningAtThen s x ((12, trailDiffers (plantIn s) w) ∷ (14, searchUnsound (liveLinks (plantIn s)) q) ∷ (15, ended q) ∷ [])) (outgoing s x w q)
   pub run-probe : (s : List ℕ) (x : ℕ) (w states : List ℕ) (q : Search)
       → Answers
-      (planningThen s ((11, switchOutOfRange (plantIn s) x) ∷ (12, trailDiffers (plantIn s) w) ∷ (13, statesShort (plantIn s .count) states) ∷ (14, searchUnsound (liveLinks (plantIn s)) q) ∷ (15, ended q) ∷ []))
+      (planningAtThen s x ((12, trailDiffers (plantIn s) w) ∷ (13, statesShort (plantIn s .count) states) ∷ (14, searchUnsound (liveLinks (plantIn s)) q) ∷ (15, ended q) ∷ []))
       (probing s x w states q)
   pub link-named : (s : List ℕ) (x : ℕ) (w : List ℕ) (q : Search)
-      → Answers (planningThen s ((11, switchOutOfRange (plantIn s) x) ∷ (12, trailDiffers (plantIn s) w) ∷ (14, searchUnsound (liveLinks (plantIn s)) q) ∷ [])) (naming s x w q)
+      → Answers (planningAtThen s x ((12, trailDiffers (plantIn s) w) ∷ (14, searchUnsound (liveLinks (plantIn s)) q) ∷ [])) (naming s x w q)
   -- calls that are given a plant, calls to a search, and the order quantity
   pub write : (p : Plant) (b : List ℕ) → Answers (writerConditions p b) (written p b)
   pub reread : (p : Plant) (b : List ℕ) → Answers (writerConditions p b) (rereading p b)

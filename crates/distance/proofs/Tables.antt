@@ -7,23 +7,10 @@ use native.Mathlib.Omega.{arith}
 use lib.ListN.{length, getD, set, replicate, length-set, length-replicate, getD-replicate}
 use lib.Seq.{getD-set-same, getD-set-other, ext-getD}
 use Rattle.lists.proofs.Tests.{eq?}
+use Rattle.lists.proofs.Numbers.{values-length, values-at}
 use Rattle.lists.specs.Numbers.{range}
 use Rattle.model.specs.Limits.{maxSwitches}
 use Rattle.distance.specs.Table.{cell, tableOf}
-
--- ---- the values of f at n numbers from k on
-
-values-length : {A : Type 0} (f : ℕ → A) (k n : ℕ) → length (map f (range k n)) ≡ n
-values-length f k zero = refl
-values-length f k (suc n) = ap suc (values-length f (suc k) n)
-
-values-from : {A : Type 0} (f : ℕ → A) (d : A) (k n i j : ℕ) → i < n → k + i ≡ j → getD (map f (range k n)) i d ≡ f j
-values-from f d k zero i j h e = absurd (omega arith)
-values-from f d k (suc n) zero j h e = let q : k ≡ j = omega arith in ap f q
-values-from f d k (suc n) (suc i) j h e = values-from f d (suc k) n i j (omega arith) (omega arith)
-
-values-at : {A : Type 0} (f : ℕ → A) (d : A) (n i : ℕ) → i < n → getD (map f (range 0 n)) i d ≡ f i
-values-at f d n i h = values-from f d 0 n i i h (omega arith)
 
 -- ---- the shape of a table, and its cells
 

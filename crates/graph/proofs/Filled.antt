@@ -12,7 +12,7 @@ use Rattle.lists.proofs.Tests.{T-or}
 use Rattle.lists.specs.Count.{count}
 use Rattle.graph.specs.Flags.{Flags, countSet}
 use Rattle.lists.proofs.Stepwise.{upto, count-past}
-use Rattle.lists.proofs.Arrays.{getD-flat}
+use Rattle.lists.proofs.Members.{getD-same}
 use Rattle.lists.proofs.Agree.{count-same}
 
 -- the flags below i tell where the test passes, and those from i on are not set
@@ -23,7 +23,7 @@ pub record Filled (n : ℕ) (test : ℕ → Bool) (i : ℕ) (flags : List Bool) 
 
 module _ (n : ℕ) (test : ℕ → Bool) where
   pub filled-none : Filled n test 0 (replicate n false)
-  filled-none = record { places = length-replicate n false; tells = λ j h. absurd (omega arith); clear = λ j h. getD-flat n j false }
+  filled-none = record { places = length-replicate n false; tells = λ j h. absurd (omega arith); clear = λ j h. getD-same n j false }
 
   module _ (i : ℕ) (flags : List Bool) (f : Filled n test i flags) where
     -- the next place is right, and the others are as they were

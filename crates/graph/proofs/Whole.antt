@@ -25,7 +25,8 @@ use Rattle.graph.specs.Shows.{Shows, unvisited}
 use Rattle.graph.specs.Steps.{beginOf, At, Went}
 use Rattle.walks.proofs.Valid.{sound-valid}
 use Rattle.graph.proofs.Unvisited.{unvisited-set}
-use Rattle.lists.proofs.Arrays.{getD-flat, flag-set}
+use Rattle.lists.proofs.Arrays.{flag-set}
+use Rattle.lists.proofs.Members.{getD-same}
 
 -- of n places that are not set, one is
 module _ (n at : ℕ) (at-in : at < n) where
@@ -33,19 +34,19 @@ module _ (n at : ℕ) (at-in : at < n) where
   fits = omega (arith, length-replicate n false)
 
   first-seen : (x : ℕ) → getD (set (replicate n false) at true) x false ≡ eqb x at || false
-  first-seen x = flag-set (replicate n false) at x fits ∙ ap (λ (b : Bool). eqb x at || b) (getD-flat n x false)
+  first-seen x = flag-set (replicate n false) at x fits ∙ ap (λ (b : Bool). eqb x at || b) (getD-same n x false)
 
   first-numbers : (k : ℕ) → at < k → 1 + unvisited k (set (replicate n false) at true) ≤ k
   unfolding unvisited
   first-numbers k h =
-      omega (arith, unvisited-set k (replicate n false) at h fits (getD-flat n at false), count-all k (λ x. not (getD (replicate n false) x false)))
+      omega (arith, unvisited-set k (replicate n false) at h fits (getD-same n at false), count-all k (λ x. not (getD (replicate n false) x false)))
 
   first-rank : (x : ℕ) → getD (replicate n 0) x 0 ≡ rank x (at ∷ [])
   first-rank x = go (eq? x at)
     where
       go : (x ≡ at) ⊎ (x ≡ at → ⊥) → getD (replicate n 0) x 0 ≡ rank x (at ∷ [])
-      go (inl e) = getD-flat n x 0 ∙ sym (rank-eq x at [] e)
-      go (inr e) = getD-flat n x 0 ∙ sym (rank-ne x at [] e)
+      go (inl e) = getD-same n x 0 ∙ sym (rank-eq x at [] e)
+      go (inr e) = getD-same n x 0 ∙ sym (rank-ne x at [] e)
 
 module _ (p : Plant) (at : ℕ) (sound : Sound p) (at-in : at < p .switches) where
   at-place : at < maxSwitches
@@ -69,7 +70,7 @@ module _ (p : Plant) (at : ℕ) (sound : Sound p) (at-in : at < p .switches) whe
   begin-shows = record {
     sees = first-seen maxSwitches at at-place;
     ranks = first-rank maxSwitches at at-place;
-    enters = λ l. getD-flat maxLinks l false;
+    enters = λ l. getD-same maxLinks l false;
     counts = refl;
   }
 

@@ -2,11 +2,10 @@
 ghost use mathlib.Core.Path.{_≡_};
 ghost use mathlib.Core.Bool.{false};
 ghost use Prim.Native.Nat.{_*_, _<_};
-ghost use Rattle.lists.specs.Members.{memb};
 ghost use Rattle.model.specs.Limits.{maxSwitches, maxLinks};
 ghost use Rattle.model.specs.Sound.{Sound};
 ghost use Rattle.plant.specs.Links.{live};
-ghost use Rattle.walks.specs.Graph.{others, visitFrom, visited, connected, bridge, used, bridges, arcsUsed};
+ghost use Rattle.walks.specs.Graph.{others, visitFrom, visited, connected, bridge, used};
 ghost use Rattle.graph.specs.Flags.{Flags, countSet};
 ghost use Rattle.graph.specs.Shows.{Shows};
 ghost use Rattle.graph.specs.Steps.{farEnd, takesPart, enterOf, beginOf, At, Went, inUse};
@@ -121,16 +120,6 @@ pub fn visit_start(p: Plant) -> Visited
     ensures { λ r. ⌜ Shows r (visited p) ⌝ }
 {
     visit(p, Plant::MAX_LINKS, p.start)
-}
-
-// Which switches are reached from a switch, with link `skip` left out.
-pub fn reach(p: Plant, skip: usize, from: u8) -> [bool; Plant::MAX_SWITCHES as usize]
-    requires { ⌜ Sound p ⌝ }
-    requires { ⌜ from < p .switches ⌝ }
-    ensures { λ r. ⌜ Flags maxSwitches (λ x. memb x (visitFrom p from (others p skip) .ord)) r ⌝ }
-{
-    let v = visit(p, skip, from);
-    v.seen
 }
 
 // Is every switch reached from the start? Refusal 9 is tried by this.
@@ -251,22 +240,4 @@ pub fn count_set(flags: &[bool]) -> usize
         i += 1;
     }
     n
-}
-
-// How many links are bridges?
-pub fn count_bridges(p: Plant) -> usize
-    requires { ⌜ Sound p ⌝ }
-    ensures { λ r. ⌜ r ≡ bridges p ⌝ }
-{
-    let b = bridges(p);
-    count_set(&b)
-}
-
-// How many arcs are in use?
-pub fn count_arcs(p: Plant) -> usize
-    requires { ⌜ Sound p ⌝ }
-    ensures { λ r. ⌜ r ≡ arcsUsed p ⌝ }
-{
-    let u = arcs_in_use(p);
-    count_set(&u)
 }

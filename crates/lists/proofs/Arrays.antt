@@ -39,13 +39,7 @@ sets-front l xs h =
 pub laid : (b b′ : List ℕ) (i : ℕ) (xs : List ℕ) → b′ ≡ sets b i xs → length b′ ≡ length b
 laid b b′ i xs e = ap length e ∙ length-sets b i xs
 
--- ---- arrays of one value, and of flags
-
--- every place, also past the end, holds the value
-pub getD-flat : {A : Type 0} (n i : ℕ) (d : A) → getD (replicate n d) i d ≡ d
-getD-flat zero i d = refl
-getD-flat (suc n) zero d = refl
-getD-flat (suc n) (suc i) d = getD-flat n i d
+-- ---- arrays of flags
 
 or-last : (b : Bool) → b || true ≡ true
 or-last true = refl

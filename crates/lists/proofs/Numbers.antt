@@ -2,10 +2,12 @@
 use mathlib.Core.Path.{_≡_, refl, sym, ap, _∙_, subst}
 use mathlib.Core.Logic.{_⊎_, inl, inr}
 use mathlib.Core.Bool.{Bool}
-use mathlib.Core.List.{List, [], _∷_}
+use mathlib.Core.List.{List, [], _∷_, map}
 use Prim.Native.Nat.{ℕ, zero, suc, _+_, _≤_, _<_}
 use native.Mathlib.Omega.{arith}
 use lib.Dec.{T}
+use lib.ListN.{length, getD}
+use lib.Seq.{ext-getD}
 use Rattle.lists.proofs.Tests.{eq?, T-or, and-left, and-right, and-both, if-true, if-false}
 use Rattle.lists.specs.Members.{In, Distinct}
 use Rattle.lists.specs.Numbers.{range, keep, every}
@@ -84,3 +86,22 @@ keep-distinct t (x ∷ xs) d = go (T-or (t x)) (keep-distinct t xs (d .1))
     go : T (t x) ⊎ (T (t x) → ⊥) → Distinct (keep t xs) → Distinct (keep t (x ∷ xs))
     go (inl y) rec = subst Distinct (sym (keep-yes t x xs y)) (λ h. d .0 (keep-in t x xs h .0), rec)
     go (inr n) rec = subst Distinct (sym (keep-no t x xs n)) rec
+
+-- ---- the values of f at n numbers from k on
+
+pub values-length : {A : Type 0} (f : ℕ → A) (k n : ℕ) → length (map f (range k n)) ≡ n
+values-length f k zero = refl
+values-length f k (suc n) = ap suc (values-length f (suc k) n)
+
+values-from : {A : Type 0} (f : ℕ → A) (d : A) (k n i j : ℕ) → i < n → k + i ≡ j → getD (map f (range k n)) i d ≡ f j
+values-from f d k zero i j h e = absurd (omega arith)
+values-from f d k (suc n) zero j h e = let q : k ≡ j = omega arith in ap f q
+values-from f d k (suc n) (suc i) j h e = values-from f d (suc k) n i j (omega arith) (omega arith)
+
+pub values-at : {A : Type 0} (f : ℕ → A) (d : A) (n i : ℕ) → i < n → getD (map f (range 0 n)) i d ≡ f i
+values-at f d n i h = values-from f d 0 n i i h (omega arith)
+
+-- a list is known by its length and its members
+pub values-are : {A : Type 0} (f : ℕ → A) (d : A) (n : ℕ) (l : List A) → length l ≡ n → ((i : ℕ) → i < n → getD l i d ≡ f i) → l ≡ map f (range 0 n)
+values-are f d n l e g =
+    ext-getD d l (map f (range 0 n)) (e ∙ sym (values-length f 0 n)) (λ i h. let k : i < n = omega arith in g i k ∙ sym (values-at f d n i k))

@@ -32,6 +32,26 @@ pub then-assoc : {A B C : Type 0} (a : Answer A) (f : A → Answer B) (g : B →
 then-assoc (given x) f g = refl
 then-assoc (refused n) f g = refl
 
+-- ---- one condition
+
+module _ {A : Type 0} (n : ℕ) (c : Bool) (a : Answer A) where
+  pub holds : c ≡ true → refused n ≡ refuse n c a
+  holds e = rw e
+
+  pub fails : (b : Answer A) → c ≡ false → b ≡ a → b ≡ refuse n c a
+  fails b e q = rw e q
+
+-- ---- after an answer
+
+module _ {A B : Type 0} (a : Answer A) (f : A → Answer B) where
+  pub after-given : (x : A) (b : Answer B) → a ≡ given x → b ≡ f x → b ≡ (a >>= f)
+  after-given x b e q = rw e q
+
+  pub after-refused : (n : ℕ) → a ≡ refused n → refused n ≡ (a >>= f)
+  after-refused n e = rw e
+
+-- ---- conditions by number, in the order in which they are tried
+
 -- the answer a, once these conditions were tried
 abbrev pub trying : {A : Type 0} → Conditions → Answer A → Answer A
 trying [] a = a

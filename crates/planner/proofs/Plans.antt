@@ -2,8 +2,9 @@
 use mathlib.Core.Path.{_≡_, refl, sym, ap, _∙_, subst}
 use mathlib.Core.Bool.{Bool, true, false, not}
 use mathlib.Core.List.{List, [], _∷_}
-use Prim.Native.Nat.{ℕ, zero, suc, _^_, _<_}
-use lib.Dec.{T}
+use Prim.Native.Nat.{ℕ, zero, suc, _^_, _≤_, _<_}
+use borrow.Author.Tests.{leb-false, le-leb, lt-leb, not-false}
+use lib.Dec.{leb}
 use lib.ListN.{getD}
 use Rattle.lists.proofs.Tests.{true-T}
 use Rattle.plant.specs.declared.Plant.{Plant}
@@ -21,7 +22,7 @@ use Rattle.listing.specs.Field.{Bytes}
 use Rattle.listing.specs.Listing.{decode}
 use Rattle.listing.specs.Answers.{verdictAnswer, readAnswer, plantPart, Reads}
 use Rattle.listing.proofs.RoundTrip.{decode-sound}
-use Rattle.planner.specs.Planning.{notConnected, joined, planning}
+use Rattle.planner.specs.Planning.{notConnected, joined, planning, switchOutOfRange, planningAt}
 use Rattle.planner.specs.Answers.{Ready}
 
 -- a slice of bytes holds bytes
@@ -60,7 +61,7 @@ module _ (s : List ℕ) where
   -- a plant that can be planned is sound and connected
   pub plan-ready : (p : Plant) → Bytes s → planning s ≡ given p → Sound p × Connected p
   unfolding planning joined notConnected
-  plan-ready p b e = (sound, connected-is p (sound-valid p sound) .0 (true-T (connected p) (not-false′ (connected p) (subst (λ (x : Plant). not (connected x) ≡ false) same (u .0)))))
+  plan-ready p b e = (sound, connected-is p (sound-valid p sound) .0 (true-T (connected p) (not-false (connected p) (subst (λ (x : Plant). not (connected x) ≡ false) same (u .0)))))
     where
       q : (x : Plant) × (decode s ≡ given x) × (refuse 9 (not (connected x)) (given x) ≡ given p)
       q = then-given (decode s) joined p e
@@ -73,10 +74,6 @@ module _ (s : List ℕ) where
 
       sound : Sound p
       sound = decode-sound s p b (q .1 ∙ u .1)
-
-      not-false′ : (t : Bool) → not t ≡ false → t ≡ true
-      not-false′ true f = refl
-      not-false′ false f = sym f
 
 -- where the verdict is sound, the plant is sound and connected
 pub plan-answer : (s : List ℕ) (r : Decoded) → Bytes s → Reads (planning s) r → Reads (planning s) r × Ready r
@@ -95,3 +92,40 @@ module _ (s : List ℕ) (r : Decoded) (q : Reads (decode s) r) where
 
   pub becomes-refused : (t : Decoded) → r .verdict ≡ verdict.Sound → connected (r .plant) ≡ false → Reads (refused 9) t → Reads (planning s) t
   becomes-refused t e f u = subst (λ (a : Answer Plant). Reads a t) (sym (plan-apart s (r .plant) (read-sound (decode s) r q e) f)) u
+
+-- ---- refusals 1 to 9, then 11
+
+module _ (s : List ℕ) (x : ℕ) (r : Decoded) (q : Reads (planning s) r) where
+  pub at-inside : r .verdict ≡ verdict.Sound → x < r .plant .switches → Reads (planningAt s x) r
+  unfolding planningAt switchOutOfRange
+  at-inside e h =
+      let g = read-sound (planning s) r q e in
+      subst (λ (a : Answer Plant). Reads a r) (g ∙ sym (rw (g, lt-leb (r .plant .switches) x h) refl)) q
+
+  pub at-outside : (t : Decoded) → r .verdict ≡ verdict.Sound → r .plant .switches ≤ x → Reads (refused 11) t → Reads (planningAt s x) t
+  unfolding planningAt switchOutOfRange
+  at-outside t e h u = subst (λ (a : Answer Plant). Reads a t) (sym (rw (read-sound (planning s) r q e, le-leb (r .plant .switches) x h) refl)) u
+
+  pub at-refused : (k : Refusal) → r .verdict ≡ verdict.Refused k → Reads (planningAt s x) r
+  unfolding planningAt
+  at-refused k e =
+      let g = read-refused (planning s) r q k e in
+      subst (λ (a : Answer Plant). Reads a r) (g ∙ sym (rw g refl)) q
+
+-- the plant that can be planned has the switch
+module _ (s : List ℕ) (x : ℕ) (p : Plant) where
+  pub given-at : planning s ≡ given p → x < p .switches → planningAt s x ≡ given p
+  unfolding planningAt switchOutOfRange
+  given-at e h = rw (e, lt-leb (p .switches) x h) refl
+
+  pub at-given : planningAt s x ≡ given p → (planning s ≡ given p) × (x < p .switches)
+  unfolding planningAt switchOutOfRange
+  at-given e =
+      let q = then-given (planning s) (λ r. refuse 11 (leb (r .switches) x) (given r)) p e in
+      let u = refuse-given 11 (leb (q .0 .switches) x) (given (q .0)) p (q .2) in
+      let same = given-given (q .0) p (u .1) in
+      (q .1 ∙ ap given same, subst (λ (r : Plant). x < r .switches) same (leb-false (q .0 .switches) x (u .0)))
+
+-- a refused plant is not sound
+pub none-ready : (n : ℕ) (r : Decoded) → Reads (refused n) r → Ready r
+none-ready n r q e = absurd (given-refused (r .plant) n (sym (read-sound (refused n) r q e)))

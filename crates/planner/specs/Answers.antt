@@ -1,9 +1,10 @@
 -- What each answer of the planner's calls stands for: values, or the number of a refusal.
 use mathlib.Core.Path.{_≡_}
-use mathlib.Core.List.{[]}
+use mathlib.Core.Bool.{Bool, false}
+use mathlib.Core.List.{List, []}
 use Prim.Native.Nat.{ℕ}
+use lib.ListN.{replicate}
 use Rattle.plant.specs.Refusals.{Answer, given, refused, _>>=_, numberOf}
-use Rattle.plant.specs.declared.Plant.{Plant}
 use Rattle.model.specs.Limits.{maxLinks}
 use Rattle.model.specs.Sound.{Sound}
 use Rattle.walks.specs.Graph.{Connected}
@@ -12,8 +13,6 @@ use Rattle.listing.specs.declared.Verdict.the-variants as verdict
 use Rattle.listing.specs.Answers.{verdictAnswer}
 use Rattle.table.specs.declared.Table.{Table}
 use Rattle.table.specs.Rules.{tableWith}
-use Rattle.graph.specs.Flags.{Flags}
-use Rattle.planner.specs.Calls.{bridgeIn}
 use Rattle.planner.specs.declared.Bridged.{Bridged}
 use Rattle.planner.specs.declared.Tabled.{Tabled}
 use Rattle.planner.specs.declared.Numbers.{Numbers}
@@ -44,10 +43,17 @@ pub record Tables (a : Answer Table) (r : Tabled) : Type 0 where
 
 -- ---- the bridges
 
--- the verdict of planning, and a flag for each link place
-pub record Bridges (a : Answer Plant) (r : Bridged) : Type 0 where
-  pub answer : verdictAnswer (r .verdict) ≡ (a >>= λ p. given tt)
-  pub flags : Flags maxLinks (bridgeIn a) (r .flags)
+abbrev pub bridgesAnswer : Bridged → Answer (List Bool)
+bridgesAnswer r = verdictAnswer (r .verdict) >>= λ _. given (r .flags)
+
+-- the flags part of the answer: at a refusal none is set
+abbrev pub flagsPart : Answer (List Bool) → List Bool
+flagsPart (given fs) = fs
+flagsPart (refused n) = replicate maxLinks false
+
+pub record Bridges (a : Answer (List Bool)) (r : Bridged) : Type 0 where
+  pub answer : bridgesAnswer r ≡ a
+  pub flags : r .flags ≡ flagsPart a
 
 -- ---- the numbers of a plant, and the trail
 

@@ -5,8 +5,10 @@ use Prim.Native.Nat.{ℕ}
 use lib.Dec.{ltb}
 use lib.ListN.{length, drop}
 use Rattle.lists.specs.Tests.{choose}
+use Rattle.lists.specs.Numbers.{range}
 use Rattle.plant.specs.declared.Plant.{Plant}
 use Rattle.plant.specs.Refusals.{Answer, given, refused, refuse, _>>=_}
+use Rattle.model.specs.Limits.{maxLinks}
 use Rattle.listing.specs.Listing.{decode}
 use Rattle.listing.specs.Writing.{soundPlant, bufferShort}
 use Rattle.walks.specs.Graph.{bridge, liveLinks, bridges, arcsUsed}
@@ -40,10 +42,12 @@ tabling s = planning s >>= λ p. given (tableOf p)
 
 -- ---- the bridges: 1 to 9
 
--- is link l a bridge of the plant? At a refusal none is
-abbrev pub bridgeIn : Answer Plant → ℕ → Bool
-bridgeIn (given p) l = bridge p l
-bridgeIn (refused n) l = false
+-- a flag for each link place: is it a bridge?
+unfoldable pub bridgeFlags : Plant → List Bool
+bridgeFlags p = map (bridge p) (range 0 maxLinks)
+
+unfoldable pub bridging : List ℕ → Answer (List Bool)
+bridging s = planning s >>= λ p. given (bridgeFlags p)
 
 -- ---- the numbers of a plant: 1 to 9
 

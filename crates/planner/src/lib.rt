@@ -10,8 +10,8 @@ ghost use Rattle.model.specs.Sound.{Sound};
 ghost use Rattle.walks.specs.Graph.{Connected};
 ghost use Rattle.listing.specs.Writing.{bufferAfter};
 ghost use Rattle.listing.specs.Answers.{Reads, writeAnswer};
-ghost use Rattle.planner.specs.Planning.{planning};
-ghost use Rattle.planner.specs.Calls.{rewriting, overlaid, rereading, tabling, numbersOf, summing, laying, laidOut, trailing, trailedBy};
+ghost use Rattle.planner.specs.Planning.{planning, planningAt};
+ghost use Rattle.planner.specs.Calls.{rewriting, overlaid, rereading, tabling, bridging, numbersOf, summing, laying, laidOut, trailing, trailedBy};
 ghost use Rattle.planner.specs.Answers.{Ready, Tables, Bridges, summaryAnswer, trailAnswer};
 
 // The forwarding table of a listing. At a refusal it has no rule.
@@ -59,6 +59,24 @@ pub fn plan(listing: &[u8]) -> Decoded
                 return d;
             }
             listing::refused_reading(Refusal::NotConnected)
+        }
+        Verdict::Refused(_) => d,
+    }
+}
+
+// The plant of a listing that can be planned and has the named switch: refusals 1 to 9, then 11.
+pub fn plan_at(listing: &[u8], switch: u8) -> Decoded
+    ensures { λ r. ⌜ Reads (planningAt (now (listing .entry)) switch) r ⌝ }
+    ensures { λ r. ⌜ Ready r ⌝ }
+{
+    let d = plan(listing);
+    let v = d.verdict;
+    match v {
+        Verdict::Sound => {
+            if switch < d.plant.switches {
+                return d;
+            }
+            listing::refused_reading(Refusal::SwitchOutOfRange)
         }
         Verdict::Refused(_) => d,
     }
@@ -118,7 +136,7 @@ pub fn forwarding_table(listing: &[u8]) -> Tabled
 
 // The bridges of a listing: refusals 1 to 9.
 pub fn find_bridges(listing: &[u8]) -> Bridged
-    ensures { λ r. ⌜ Bridges (planning (now (listing .entry))) r ⌝ }
+    ensures { λ r. ⌜ Bridges (bridging (now (listing .entry))) r ⌝ }
 {
     let d = plan(listing);
     let v = d.verdict;

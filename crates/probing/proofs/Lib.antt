@@ -1,4 +1,3 @@
-pub mod Answering
 pub mod Lent
 pub mod Searching
 pub mod Results

@@ -34,7 +34,7 @@ use Rattle.probing.specs.declared.Ordered.{Ordered}
 use Rattle.probing.specs.Conditions.{trailDiffers}
 use Rattle.probing.specs.Calls.{outcomeOf, orderIn, outSpan, link, namedIn}
 use Rattle.probing.specs.Answers.{Orders, orderPart}
-use Rattle.probing.proofs.Answering.{fails}
+use Rattle.model.proofs.Answers.{fails}
 use Rattle.probing.proofs.Lent.{trail-same}
 
 -- ---- a packet that is no probe

@@ -1,7 +1,6 @@
 // The calls on packets and probes that are given a listing (document 01, "Rules, packets, ring" and "Search"). Each begins with the refusals of planning and that of
 // a named switch; the others follow in the order of their numbers.
 use distance::LABELS;
-use listing::Decoded;
 use listing::Verdict;
 use order::Order;
 use order::Span;
@@ -16,18 +15,15 @@ ghost use Prim.Native.Nat.{_≤_};
 ghost use Rattle.plant.specs.Refusals.{given, refused, numberOf};
 ghost use Rattle.model.specs.Sound.{Sound};
 ghost use Rattle.walks.specs.Graph.{Connected};
-ghost use Rattle.listing.specs.Answers.{Reads};
 ghost use Rattle.routes.specs.Plants.{trailOf};
 ghost use Rattle.rings.specs.Injection.{orderOf};
 ghost use Rattle.trail.specs.Steps.{Planned};
 ghost use Rattle.packet.specs.Runs.{endOf};
 ghost use Rattle.search.specs.Search.{askedOf};
 ghost use Rattle.search.specs.Sound.{Good};
-ghost use Rattle.planner.specs.Answers.{Ready};
 ghost use Rattle.probing.specs.Conditions.{trailDiffers, statesShort, searchUnsound, probeWanted};
 ghost use Rattle.probing.specs.Calls.{runIn, running, outcomeOf, checkIn, checking, orderIn, ordering, outSpan, outwardIn, outgoing, probeIn, probing, namedIn, nameIn, naming};
 ghost use Rattle.probing.specs.Answers.{ranAnswer, probedAnswer, Orders, outwardAnswer, namedAnswer};
-ghost use Rattle.planner.specs.Planning.{planningAt};
 
 // How the run of a packet comes out: it has ended, or it is lost.
 pub enum Ran {
@@ -63,24 +59,6 @@ pub enum Named {
 }
 
 // ---- the refusals
-
-// The plant of a listing that has the named switch: refusals 1 to 9, then 11.
-pub fn plan_at(listing: &[u8], switch: u8) -> Decoded
-    ensures { λ r. ⌜ Reads (planningAt (now (listing .entry)) switch) r ⌝ }
-    ensures { λ r. ⌜ Ready r ⌝ }
-{
-    let d = planner::plan(listing);
-    let v = d.verdict;
-    match v {
-        Verdict::Sound => {
-            if switch < d.plant.switches {
-                return d;
-            }
-            listing::refused_reading(Refusal::SwitchOutOfRange)
-        }
-        Verdict::Refused(_) => d,
-    }
-}
 
 // Refusal 12: is the lent trail, in its whole length, another than the plant's?
 fn differs(p: Plant, used: [bool; LABELS], trail: &[u16]) -> bool
@@ -139,7 +117,7 @@ fn run_in(p: Plant, switch: u8, labels: &[u16], states: &[u8]) -> Ran
 pub fn run(listing: &[u8], switch: u8, labels: &[u16], states: &[u8]) -> Ran
     ensures { λ r. ⌜ ranAnswer r ≡ running (now (listing .entry)) switch (now (labels .entry)) (now (states .entry)) ⌝ }
 {
-    let d = plan_at(listing, switch);
+    let d = planner::plan_at(listing, switch);
     let v = d.verdict;
     match v {
         Verdict::Sound => {
@@ -182,7 +160,7 @@ fn check_in(p: Plant, switch: u8, trail: &[u16], states: &[u8]) -> Probed
 pub fn full_check(listing: &[u8], switch: u8, trail: &[u16], states: &[u8]) -> Probed
     ensures { λ r. ⌜ probedAnswer r ≡ checking (now (listing .entry)) switch (now (trail .entry)) (now (states .entry)) ⌝ }
 {
-    let d = plan_at(listing, switch);
+    let d = planner::plan_at(listing, switch);
     let v = d.verdict;
     match v {
         Verdict::Sound => {
@@ -225,7 +203,7 @@ fn order_in(p: Plant, switch: u8, trail: &[u16]) -> Ordered
 pub fn order_of_links(listing: &[u8], switch: u8, trail: &[u16]) -> Ordered
     ensures { λ r. ⌜ Orders (ordering (now (listing .entry)) switch (now (trail .entry))) r ⌝ }
 {
-    let d = plan_at(listing, switch);
+    let d = planner::plan_at(listing, switch);
     let v = d.verdict;
     match v {
         Verdict::Sound => {
@@ -270,7 +248,7 @@ fn outward_in(p: Plant, switch: u8, trail: &[u16], search: Search) -> Outward
 pub fn outward_labels(listing: &[u8], switch: u8, trail: &[u16], search: Search) -> Outward
     ensures { λ r. ⌜ outwardAnswer r ≡ outgoing (now (listing .entry)) switch (now (trail .entry)) search ⌝ }
 {
-    let d = plan_at(listing, switch);
+    let d = planner::plan_at(listing, switch);
     let v = d.verdict;
     match v {
         Verdict::Sound => {
@@ -308,7 +286,7 @@ fn probe_in(p: Plant, switch: u8, trail: &[u16], states: &[u8], search: Search) 
 pub fn run_probe(listing: &[u8], switch: u8, trail: &[u16], states: &[u8], search: Search) -> Probed
     ensures { λ r. ⌜ probedAnswer r ≡ probing (now (listing .entry)) switch (now (trail .entry)) (now (states .entry)) search ⌝ }
 {
-    let d = plan_at(listing, switch);
+    let d = planner::plan_at(listing, switch);
     let v = d.verdict;
     match v {
         Verdict::Sound => {
@@ -358,7 +336,7 @@ fn name_in(p: Plant, switch: u8, trail: &[u16], search: Search) -> Named
 pub fn link_named(listing: &[u8], switch: u8, trail: &[u16], search: Search) -> Named
     ensures { λ r. ⌜ namedAnswer r ≡ naming (now (listing .entry)) switch (now (trail .entry)) search ⌝ }
 {
-    let d = plan_at(listing, switch);
+    let d = planner::plan_at(listing, switch);
     let v = d.verdict;
     match v {
         Verdict::Sound => {

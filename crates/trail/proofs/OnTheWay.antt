@@ -30,7 +30,7 @@ use Rattle.trail.specs.Steps.{Planned, firstHopsOf, nearestIn, goalIn, n
 use Rattle.walks.proofs.Valid.{sound-valid}
 use Rattle.trail.proofs.Trails.{all-joined}
 use Rattle.trail.proofs.Walkers.{walker-is}
-use Rattle.lists.proofs.Arrays.{getD-flat}
+use Rattle.lists.proofs.Members.{getD-same}
 
 -- ---- flags as marks
 
@@ -46,7 +46,7 @@ flag-set m a h = λ i b. at b (eq? b a) i
     at b (inr e) = getD-set-other m a b true false e ∙ sym (or-no (eqb b a) (getD m b false) (λ t. e (eqb→eq b a t)))
 
 pub flag-none : (n : ℕ) → flag (replicate n false) ≡ unmarked
-flag-none n = λ i b. getD-flat n b false i
+flag-none n = λ i b. getD-same n b false i
 
 module _ {p : Plant} {us : List Bool} (ok : Planned p us) where
   abbrev S : ℕ

@@ -8,6 +8,7 @@ use native.Mathlib.Omega.{arith}
 use lib.Dec.{T}
 use lib.ListN.{length-map}
 use Rattle.lists.specs.Tests.{choose}
+use Rattle.lists.proofs.Agree.{in-map}
 use Rattle.lists.proofs.Tests.{T-or}
 use Rattle.lists.specs.Members.{In, memb}
 use Rattle.lists.proofs.Members.{in→memb}
@@ -32,11 +33,6 @@ bits true true c x y t e = refl
 bits true false true x y t e = e
 bits true false false x y t e = omega arith
 bits false b c x y t e = absurd t
-
-in-map : (f : ℕ → ℕ) (a : ℕ) (l : List ℕ) → In a l → In (f a) (map f l)
-in-map f a [] h = absurd h
-in-map f a (b ∷ l) (inl e) = inl (ap f e)
-in-map f a (b ∷ l) (inr h) = inr (in-map f a l h)
 
 module _ (p : Plant) (ok : Valid p) where
   -- ---- one or two arcs of each link

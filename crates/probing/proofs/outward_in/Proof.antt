@@ -3,7 +3,7 @@ use mathlib.Core.Path.{sym, ap, _∙_}
 use Rattle.plant.specs.Refusals.{given}
 use Rattle.planner.proofs.Trailing.{planned}
 use Rattle.probing.specs.Calls.{outwardIn}
-use Rattle.probing.proofs.Answering.{holds, fails, after-given, after-refused}
+use Rattle.model.proofs.Answers.{holds, fails, after-given, after-refused}
 use Rattle.probing.proofs.Lent.{trail-same}
 use Rattle.probing.proofs.Searching.{probe-given, probe-among, probe-refused}
 use borrow.Author.Needs.{needs}

@@ -1,8 +1,8 @@
--- The plant of a listing at a named switch. Assumes nothing.
-use Rattle.probing.proofs.Answering.{at-inside, at-outside, at-refused, none-ready}
+-- `planner::plan_at` meets its contract. Assumes nothing.
+use Rattle.planner.proofs.Plans.{at-inside, at-outside, at-refused, none-ready}
 use borrow.Author.Needs.{needs}
-use Rattle.probing.proofs.plan_at.Statement.{statement}
-use Rattle.probing.proofs.plan_at.Tie as tie
+use Rattle.planner.proofs.plan_at.Statement.{statement}
+use Rattle.planner.proofs.plan_at.Tie as tie
 
 plan-requires : tie.Need-plan-requires
 plan-requires c κs = search needs
