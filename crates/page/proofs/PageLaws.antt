@@ -6,12 +6,14 @@ use native.Mathlib.Omega.{arith}
 use lib.ListN.{length, take, drop, length-append}
 use lib.Seq.{take-append-seam}
 use Rattle.plant.specs.declared.Plant.{Plant}
-use Rattle.plant.specs.Refusals.{Answer, given, refused}
+use Rattle.model.specs.Sound.{Sound}
+use Rattle.walks.specs.Graph.{Connected}
 use Rattle.routes.specs.Plants.{trailOf}
 use Rattle.trail.specs.Filled.{filledWith}
 use Rattle.table.specs.declared.Rule.{Rule}
 use Rattle.table.specs.declared.Table.{Table}
-use Rattle.table.specs.Rules.{tableWith, rulesOf, tableOf}
+use Rattle.table.specs.Rules.{maxRules, tableWith, rulesOf, tableOf}
+use Rattle.table.proofs.Rules.{few-rules}
 use Rattle.text.specs.Lines.{each, summaryLine, ruleLine, ruleLines, trailLine, pageOf}
 use Rattle.text.specs.Laid.{Laid}
 use Rattle.text.proofs.LaidLaws.{laid-then}
@@ -31,13 +33,13 @@ rules-each (r ∷ rs) = ap (λ (l : List ℕ). ruleBytes r ++ l) (rules-each rs)
 
 -- those of a plant's table
 module _ (p : Plant) (t : Table) (e : t ≡ tableOf p) where
-  pub table-count : t .count ≡ length (rulesOf p)
-  unfolding tableOf tableWith
-  table-count = ap (λ (u : Table). u .count) e
-
-  pub table-rules : take (t .count) (t .rules) ≡ rulesOf p
+  table-rules : take (t .count) (t .rules) ≡ rulesOf p
   unfolding tableOf tableWith
   table-rules = rw e (take-append-seam (rulesOf p) _)
+
+  pub table-few : Sound p → Connected p → t .count ≤ maxRules
+  unfolding tableOf tableWith
+  table-few sound con = rw e (few-rules p sound con)
 
 -- ---- the labels of a trail w that was filled into a buffer
 

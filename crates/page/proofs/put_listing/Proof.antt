@@ -1,9 +1,8 @@
 -- `page::put_listing` meets its contract, by the answer of planning. Assumes nothing.
-use mathlib.Core.Path.{sym, ap}
+use mathlib.Core.Path.{sym}
 use native.Mathlib.Omega.{arith}
 use borrow.Author.Needs.{needs}
 use Rattle.planner.proofs.Plans.{read-sound, read-refused}
-use Rattle.page.specs.Output.{outputOf}
 use Rattle.page.proofs.put_listing.Statement.{statement}
 use Rattle.page.proofs.put_listing.Tie as tie
 

@@ -5,10 +5,9 @@ use lib.ListN.{replicate, length-replicate}
 use Rattle.model.specs.Limits.{maxHops}
 use Rattle.routes.specs.Plants.{trailOf}
 use Rattle.trail.proofs.Trails.{hops-limit}
-use Rattle.table.proofs.Rules.{few-rules}
 use Rattle.text.proofs.LaidLaws.{laid-same}
 use Rattle.planner.proofs.Trailing.{planned}
-use Rattle.page.proofs.PageLaws.{table-count, trail-room, plant-laid}
+use Rattle.page.proofs.PageLaws.{table-few, trail-room, plant-laid}
 use Rattle.page.proofs.put_plant.Statement.{statement}
 use Rattle.page.proofs.put_plant.Tie as tie
 
@@ -54,9 +53,8 @@ put-table-requires c κs =
     let t = c .before in
     let n = t .before .before .before in
     let k = n .before .before .before .before .before .before .before .before .before .before .before .before .before .before in
-    let few = few-rules (k .args .p) (k .pre .0 .0) (k .pre .0 .1) in
-    let count = table-count (k .args .p) _ (t .table-of .ensures) in
-    (omega (arith, few, count), omega (arith, few, count, n .put-numbers .ensures .1, laid-same (n .put-numbers .ensures .0), k .pre .1))
+    let few = table-few (k .args .p) _ (t .table-of .ensures) (k .pre .0 .0) (k .pre .0 .1) in
+    (few, omega (arith, n .put-numbers .ensures .1, laid-same (n .put-numbers .ensures .0), k .pre .1))
 
 slice-aggregate-put-trail : tie.Need-slice-aggregate-put-trail
 slice-aggregate-put-trail c = search needs
@@ -72,11 +70,10 @@ put-trail-requires c κs =
     let f = n .before .before .before .before in
     let h = f .before .before .before in
     let k = h .before .before .before .before .before .before .before in
-    let few = few-rules (k .args .p) (k .pre .0 .0) (k .pre .0 .1) in
-    let count = table-count (k .args .p) _ (t .table-of .ensures) in
+    let few = table-few (k .args .p) _ (t .table-of .ensures) (k .pre .0 .0) (k .pre .0 .1) in
     let short = hops-limit (k .args .p) (k .pre .0 .0) (k .pre .0 .1) in (
-      trail-room (trailOf (k .args .p)) (replicate maxHops 0) _ _ (f .fill .ensures) (h .hops .ensures),
-      omega (arith, few, count, short, h .hops .ensures, n .put-numbers .ensures .1, r .put-table .ensures .1, laid-same (n .put-numbers .ensures .0), laid-same (r .put-table .ensures .0), k .pre .1),
+      omega (arith, trail-room (trailOf (k .args .p)) (replicate maxHops 0) _ _ (f .fill .ensures) (h .hops .ensures)),
+      omega (arith, h .hops .ensures, n .put-numbers .ensures .1, r .put-table .ensures .1, laid-same (n .put-numbers .ensures .0), laid-same (r .put-table .ensures .0), k .pre .1),
     )
 
 same-length : tie.Need-same-length
