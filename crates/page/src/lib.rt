@@ -6,6 +6,7 @@ use planner::Numbers;
 use plant::Plant;
 use table::Rule;
 use table::Table;
+ghost use mathlib.Core.Path.{_≡_};
 ghost use mathlib.Core.List.{map};
 ghost use Prim.Native.Nat.{_+_, _*_, _≤_};
 ghost use lib.ListN.{length, take};
@@ -99,11 +100,18 @@ pub fn put_listing(listing: &[u8], buf: &mut [u8]) -> usize
     }
 }
 
-// The output for a listing is written to standard output.
+// The bytes are written to standard output. They are the output for the listing, which is there for the contract alone.
+fn write_output(bytes: &[u8], listing: &[u8])
+    requires { ⌜ now bytes ≡ printed (now listing) ⌝ }
+{
+    io::write_all(STDOUT_FILENO, bytes);
+}
+
+// The output for a listing is made and written to standard output.
 pub fn print_listing(listing: &[u8]) {
     let mut bytes = [0u8; PAGE];
     let n = put_listing(listing, &mut bytes);
-    io::write_all(STDOUT_FILENO, &bytes[..n]);
+    write_output(&bytes[..n], listing);
 }
 
 // The plan of the listing that a file holds.
