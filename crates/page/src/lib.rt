@@ -18,8 +18,8 @@ ghost use Rattle.text.specs.Sizes.{summaryMost, ruleMost};
 ghost use Rattle.text.specs.Laid.{Laid};
 ghost use Rattle.page.specs.Output.{triple, plantOutput, printed, pageMost};
 
-// The most bytes of a page.
-const PAGE: usize = text::SUMMARY
+// The most bytes of a page: `pageMost` of specs/Output.antt.
+pub const PAGE: usize = text::SUMMARY
     + table::RULES * text::RULE
     + text::TRAIL
     + Plant::MAX_HOPS * text::LABEL;
