@@ -1,126 +1,117 @@
-// Prints the plan of a listing to standard output: a line of numbers, the forwarding table and the trail; or its refusal. The text is made by crate `text`,
-// whose contracts say the bytes.
+// The plan of a listing as text: a line of numbers, the forwarding table and the trail; or its refusal. The whole text is made as bytes in a lent buffer,
+// and one function writes it to standard output.
 use libc::STDOUT_FILENO;
 use listing::Verdict;
 use planner::Numbers;
 use plant::Plant;
-use plant::Refusal;
 use table::Rule;
 use table::Table;
-ghost use Prim.Native.Nat.{_≤_};
-ghost use lib.ListN.{length};
+ghost use mathlib.Core.Path.{_≡_};
+ghost use mathlib.Core.List.{map};
+ghost use Prim.Native.Nat.{_+_, _*_, _≤_};
+ghost use lib.ListN.{length, take};
 ghost use Rattle.model.specs.Sound.{Sound};
 ghost use Rattle.walks.specs.Graph.{Connected};
+ghost use Rattle.table.specs.Rules.{maxRules};
+ghost use Rattle.text.specs.Lines.{summaryLine, ruleLine, ruleLines};
+ghost use Rattle.text.specs.Sizes.{summaryMost, ruleMost};
+ghost use Rattle.text.specs.Laid.{Laid};
+ghost use Rattle.page.specs.Output.{triple, plantOutput, printed, pageMost};
 
-// A place for the longest line of numbers.
-const LINE: usize = 80;
+// The most bytes of a page: `pageMost` of specs/Output.antt.
+pub const PAGE: usize = text::SUMMARY
+    + table::RULES * text::RULE
+    + text::TRAIL
+    + Plant::MAX_HOPS * text::LABEL;
 
-// Labels that are printed at once.
-const CHUNK: usize = 512;
-
-fn print_refusal(k: Refusal) {
-    let mut line = [0u8; LINE];
-    let n = text::put_refusal(&mut line, k.number() as u32);
-    io::write_all(STDOUT_FILENO, &line[..n]);
-}
-
-fn print_numbers(n: Numbers) {
-    let mut line = [0u8; LINE];
-    let end = text::put_summary(
-        &mut line,
+// The line of numbers, at the front of the buffer.
+fn put_numbers(n: Numbers, buf: &mut [u8]) -> usize
+    requires { ⌜ summaryMost ≤ length (now buf) ⌝ }
+    ensures { λ r. ⌜ Laid (now (buf .entry)) 0 (summaryLine (n .switches) (n .links) (n .bridges) (n .rules) (n .hops)) (now (buf .exit)) r ⌝ }
+    ensures { λ r. ⌜ r ≤ summaryMost ⌝ }
+{
+    text::put_summary(
+        buf,
         0,
         n.switches as u32,
         n.links as u32,
         n.bridges as u32,
         n.rules as u32,
         n.hops as u32,
-    );
-    io::write_all(STDOUT_FILENO, &line[..end]);
+    )
 }
 
-fn print_rule(r: Rule) {
-    let mut line = [0u8; LINE];
-    let n = text::put_rule(&mut line, 0, r.from as u32, r.label as u32, r.to as u32);
-    io::write_all(STDOUT_FILENO, &line[..n]);
+// The line of a rule.
+fn put_rule(r: Rule, buf: &mut [u8], at: usize) -> usize
+    requires { ⌜ at + ruleMost ≤ length (now buf) ⌝ }
+    ensures { λ n. ⌜ Laid (now (buf .entry)) at (ruleLine (r .from) (r .label) (r .to)) (now (buf .exit)) n ⌝ }
+    ensures { λ n. ⌜ n ≤ at + ruleMost ⌝ }
+{
+    text::put_rule(buf, at, r.from as u32, r.label as u32, r.to as u32)
 }
 
-fn print_table(t: Table) {
+// A line for each rule of a table.
+fn put_table(t: Table, buf: &mut [u8], at: usize) -> usize
+    requires { ⌜ (t .count ≤ maxRules) × (at + t .count * ruleMost ≤ length (now buf)) ⌝ }
+    ensures { λ r. ⌜ Laid (now (buf .entry)) at (ruleLines (map triple (take (t .count) (t .rules)))) (now (buf .exit)) r ⌝ }
+    ensures { λ r. ⌜ r ≤ at + t .count * ruleMost ⌝ }
+{
     let n = t.count as usize;
-    let mut i: usize = 0;
-    while i < table::RULES {
-        if i < n {
-            print_rule(t.rules[i]);
-        }
-        i += 1;
-    }
-}
-
-// The smaller of two numbers.
-fn smaller(a: usize, b: usize) -> usize
-    ensures { λ r. ⌜ (r ≤ a) × (r ≤ b) ⌝ }
-{
-    if a < b {
-        return a;
-    }
-    b
-}
-
-// So many labels from the front of a slice, each after a space.
-fn print_labels(labels: &[u16], count: usize)
-    requires { ⌜ (count ≤ length (now labels)) × (count ≤ 512) ⌝ }
-{
-    let mut bytes = io::buffer();
-    let n = text::put_labels(&mut bytes, 0, labels, count);
-    io::write_all(STDOUT_FILENO, &bytes[..n]);
-}
-
-fn print_trail(labels: &[u16], hops: usize) {
-    io::write_all(STDOUT_FILENO, b"trail");
-    let n = smaller(hops, labels.len());
+    let mut next = at;
     let mut i: usize = 0;
     while i < n {
-        let m = smaller(n - i, CHUNK);
-        print_labels(&labels[i..], m);
-        i += CHUNK;
+        next = put_rule(t.rules[i], buf, next);
+        i += 1;
     }
-    io::write_all(STDOUT_FILENO, b"\n");
+    next
 }
 
-// The plan of a plant. The bridges, the arcs in use and the distances are found once.
-fn print_plant(p: Plant)
+// The page of a plant that can be planned. The bridges, the arcs in use and the distances are found once.
+fn put_plant(p: Plant, buf: &mut [u8]) -> usize
     requires { ⌜ Sound p × Connected p ⌝ }
+    requires { ⌜ pageMost ≤ length (now buf) ⌝ }
+    ensures { λ r. ⌜ Laid (now (buf .entry)) 0 (plantOutput p) (now (buf .exit)) r ⌝ }
 {
     let b = graph::bridges(p);
     let used = graph::arcs_with(p, b);
     let t = distance::distances(p, used);
     let via = trail::first_hops(p, used, t);
     let hops = trail::hops(p, used, t, &via);
-    let bridges = graph::count_set(&b);
-    let rules = graph::count_set(&used);
-    print_numbers(Numbers {
-        switches: p.switches,
-        links: p.count,
-        bridges: bridges as u16,
-        rules: rules as u16,
-        hops,
-    });
-    print_table(table::table_of(p, used));
     let mut labels = [0u16; Plant::MAX_HOPS];
     trail::fill(p, used, t, &via, &mut labels);
-    print_trail(&labels, hops as usize);
+    let rules = put_numbers(planner::numbers_with(p, b, used, hops), buf);
+    let end = put_table(table::table_of(p, used), buf, rules);
+    text::put_trail(buf, end, &labels, hops as usize)
 }
 
-// The plan of a listing, or its refusal.
-pub fn print_listing(listing: &[u8]) {
+// The output for a listing, at the front of a buffer that has room for the longest page; the places after it keep their contents.
+pub fn put_listing(listing: &[u8], buf: &mut [u8]) -> usize
+    requires { ⌜ pageMost ≤ length (now buf) ⌝ }
+    ensures { λ r. ⌜ Laid (now (buf .entry)) 0 (printed (now (listing .entry))) (now (buf .exit)) r ⌝ }
+{
     let d = planner::plan(listing);
     let v = d.verdict;
     match v {
         Verdict::Sound => {
             let p = d.plant;
-            print_plant(p);
+            put_plant(p, buf)
         }
-        Verdict::Refused(k) => print_refusal(k),
+        Verdict::Refused(k) => text::put_refusal(buf, k.number() as u32),
     }
+}
+
+// The bytes are written to standard output. They are the output for the listing, which is there for the contract alone.
+fn write_output(bytes: &[u8], listing: &[u8])
+    requires { ⌜ now bytes ≡ printed (now listing) ⌝ }
+{
+    io::write_all(STDOUT_FILENO, bytes);
+}
+
+// The output for a listing is made and written to standard output.
+pub fn print_listing(listing: &[u8]) {
+    let mut bytes = [0u8; PAGE];
+    let n = put_listing(listing, &mut bytes);
+    write_output(&bytes[..n], listing);
 }
 
 // The plan of the listing that a file holds.

@@ -1,4 +1,5 @@
 // The planner's calls that are given a listing. Each begins with the refusals of reading (1 to 8) or of planning (1 to 9).
+use distance::LABELS;
 use listing::Decoded;
 use listing::Verdict;
 use listing::Written;
@@ -6,8 +7,13 @@ use plant::Plant;
 use plant::Refusal;
 use table::Table;
 ghost use mathlib.Core.Path.{_≡_};
+ghost use Prim.Native.Nat.{_*_};
+ghost use lib.ListN.{length};
+ghost use Rattle.model.specs.Limits.{maxLinks};
 ghost use Rattle.model.specs.Sound.{Sound};
-ghost use Rattle.walks.specs.Graph.{Connected};
+ghost use Rattle.walks.specs.Graph.{Connected, bridge, used};
+ghost use Rattle.graph.specs.Flags.{Flags};
+ghost use Rattle.routes.specs.Plants.{trailOf};
 ghost use Rattle.listing.specs.Writing.{bufferAfter};
 ghost use Rattle.listing.specs.Answers.{Reads, writeAnswer};
 ghost use Rattle.planner.specs.Planning.{planning, planningAt};
@@ -158,6 +164,24 @@ pub fn find_bridges(listing: &[u8]) -> Bridged
     }
 }
 
+// The numbers of a plant, from the flags of its bridges and of its arcs in use and the hops of its trail.
+pub fn numbers_with(p: Plant, b: [bool; Plant::MAX_LINKS], u: [bool; LABELS], hops: u16) -> Numbers
+    requires { ⌜ Sound p ⌝ }
+    requires { ⌜ Flags maxLinks (bridge p) b × Flags (2 * maxLinks) (used p) u ⌝ }
+    requires { ⌜ hops ≡ length (trailOf p) ⌝ }
+    ensures { λ r. ⌜ r ≡ numbersOf p ⌝ }
+{
+    let bridges = graph::count_set(&b);
+    let rules = graph::count_set(&u);
+    Numbers {
+        switches: p.switches,
+        links: p.count,
+        bridges: bridges as u16,
+        rules: rules as u16,
+        hops,
+    }
+}
+
 // The numbers of a plant that can be planned.
 fn numbers_of(p: Plant) -> Numbers
     requires { ⌜ Sound p × Connected p ⌝ }
@@ -168,15 +192,7 @@ fn numbers_of(p: Plant) -> Numbers
     let t = distance::distances(p, used);
     let via = trail::first_hops(p, used, t);
     let hops = trail::hops(p, used, t, &via);
-    let bridges = graph::count_set(&b);
-    let rules = graph::count_set(&used);
-    Numbers {
-        switches: p.switches,
-        links: p.count,
-        bridges: bridges as u16,
-        rules: rules as u16,
-        hops,
-    }
+    numbers_with(p, b, used, hops)
 }
 
 // Switches, links, bridges, rules and hops of a listing: refusals 1 to 9.

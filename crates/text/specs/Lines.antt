@@ -26,14 +26,18 @@ refusedWord = ascii "refused"
 
 -- ---- lines
 
+-- the bytes of each, one after the other
+abbrev pub each : {A : Type 0} → (A → List ℕ) → List A → List ℕ
+each f [] = []
+each f (x ∷ xs) = f x ++ each f xs
+
 -- a number after a space
 abbrev pub spaced : ℕ → List ℕ
 spaced n = space ∷ decimal n
 
 -- numbers, each after a space
 abbrev pub spacedAll : List ℕ → List ℕ
-spacedAll [] = []
-spacedAll (n ∷ ns) = spaced n ++ spacedAll ns
+spacedAll ns = each spaced ns
 
 -- a word, numbers and the line's end; the bare word where there is no number
 unfoldable pub line : List ℕ → List ℕ → List ℕ
@@ -49,8 +53,7 @@ ruleLine from label to = line ruleWord (from ∷ label ∷ to ∷ [])
 
 -- one line for each rule
 abbrev pub ruleLines : List (ℕ × ℕ × ℕ) → List ℕ
-ruleLines [] = []
-ruleLines (r ∷ rs) = ruleLine (r .0) (r .1) (r .2) ++ ruleLines rs
+ruleLines rs = each (λ r. ruleLine (r .0) (r .1) (r .2)) rs
 
 -- the labels of the trail
 abbrev pub trailLine : List ℕ → List ℕ

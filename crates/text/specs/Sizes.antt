@@ -16,13 +16,17 @@ spacedMost numbers digits = numbers * (1 + digits)
 abbrev pub lineMost : ℕ → ℕ → ℕ → ℕ
 lineMost letters numbers digits = letters + spacedMost numbers digits + 1
 
--- ---- the lines of the output, with numbers of 32 bits
+-- ---- the lines of the output: with numbers of 32 bits, and of 16 bits in the trail
 
 abbrev pub summaryMost : ℕ
 summaryMost = lineMost 5 5 digits32
 
 abbrev pub ruleMost : ℕ
 ruleMost = lineMost 4 3 digits32
+
+-- with so many labels
+abbrev pub trailMost : ℕ → ℕ
+trailMost labels = lineMost 5 labels digits16
 
 abbrev pub refusalMost : ℕ
 refusalMost = lineMost 7 1 digits32

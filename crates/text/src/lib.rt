@@ -4,9 +4,23 @@ ghost use Prim.Native.Nat.{_+_, _≤_};
 ghost use mathlib.Core.List.{_∷_, []};
 ghost use lib.ListN.{length, take};
 ghost use Rattle.text.specs.Decimal.{decimal};
-ghost use Rattle.text.specs.Lines.{newline, spaced, spacedAll, line, summaryLine, ruleLine, refusalOf};
-ghost use Rattle.text.specs.Sizes.{digits16, digits32, spacedMost, lineMost, summaryMost, ruleMost, refusalMost};
+ghost use Rattle.text.specs.Lines.{newline, spaced, spacedAll, line, summaryLine, ruleLine, trailLine, refusalOf};
+ghost use Rattle.text.specs.Sizes.{digits16, digits32, spacedMost, lineMost, summaryMost, ruleMost, trailMost, refusalMost};
 ghost use Rattle.text.specs.Laid.{Room, Laid};
+
+// The most digits of a number of 16 bits, and of 32 bits.
+const DIGITS_16: usize = 5;
+
+const DIGITS_32: usize = 10;
+
+// The most bytes of a line: its word, its numbers, each after a space, and its end. The trail line takes TRAIL, and LABEL for each label.
+pub const SUMMARY: usize = 5 + 5 * (1 + DIGITS_32) + 1;
+
+pub const RULE: usize = 4 + 3 * (1 + DIGITS_32) + 1;
+
+pub const TRAIL: usize = 5 + 1;
+
+pub const LABEL: usize = 1 + DIGITS_16;
 
 // The bytes of a word.
 pub fn put_word(buf: &mut [u8], at: usize, word: &[u8]) -> usize
@@ -70,8 +84,8 @@ fn put_numbers(buf: &mut [u8], at: usize, ns: &[u32]) -> usize
     next
 }
 
-// The first `count` of these labels, each after a space: what follows the word of the trail line, in one piece or in several.
-pub fn put_labels(buf: &mut [u8], at: usize, labels: &[u16], count: usize) -> usize
+// The first `count` of these labels, each after a space.
+fn put_labels(buf: &mut [u8], at: usize, labels: &[u16], count: usize) -> usize
     requires { ⌜ (count ≤ length (now labels)) × (at + spacedMost count digits16 ≤ length (now buf)) ⌝ }
     ensures { λ r. ⌜ Laid (now (buf .entry)) at (spacedAll (take count (now (labels .entry)))) (now (buf .exit)) r ⌝ }
     ensures { λ r. ⌜ r ≤ at + spacedMost count digits16 ⌝ }
@@ -83,6 +97,16 @@ pub fn put_labels(buf: &mut [u8], at: usize, labels: &[u16], count: usize) -> us
         i += 1;
     }
     next
+}
+
+// The trail line of the first `count` of these labels.
+pub fn put_trail(buf: &mut [u8], at: usize, labels: &[u16], count: usize) -> usize
+    requires { ⌜ (count ≤ length (now labels)) × (at + trailMost count ≤ length (now buf)) ⌝ }
+    ensures { λ r. ⌜ Laid (now (buf .entry)) at (trailLine (take count (now (labels .entry)))) (now (buf .exit)) r ⌝ }
+{
+    let first = put_word(buf, at, b"trail");
+    let end = put_labels(buf, first, labels, count);
+    end_line(buf, end)
 }
 
 // A line of a word and numbers.

@@ -1,37 +1,34 @@
--- `page::print_listing` meets its contract. Assumes nothing.
+-- `page::print_listing` meets its contract: what is laid at the front of the buffer is what it hands on to be written. Assumes nothing.
+use Rattle.text.proofs.LaidLaws.{laid-front}
 use borrow.Author.Needs.{needs}
 use Rattle.page.proofs.print_listing.Statement.{statement}
 use Rattle.page.proofs.print_listing.Tie as tie
 
-plan-requires : tie.Need-plan-requires
-plan-requires c κs = search needs
+slice-aggregate-put-listing : tie.Need-slice-aggregate-put-listing
+slice-aggregate-put-listing c = search needs
 
-enum-told : tie.Need-enum-told
-enum-told c = search needs
+put-listing-requires : tie.Need-put-listing-requires
+put-listing-requires c κs = search needs
 
-print-plant-requires : tie.Need-print-plant-requires
-print-plant-requires c κs = c .before .before .before .plan .ensures .1 (c .before .enum-told .given .1)
+array-share-prefix-bytes : tie.Need-array-share-prefix-bytes
+array-share-prefix-bytes c = search needs
 
-enum-known-v : tie.Need-enum-known-v
-enum-known-v c = search needs
+slice-aggregate-write-output : tie.Need-slice-aggregate-write-output
+slice-aggregate-write-output c = search needs
 
-print-refusal-requires : tie.Need-print-refusal-requires
-print-refusal-requires c κs = search needs
+write-output-requires : tie.Need-write-output-requires
+write-output-requires c κs = laid-front _ _ _ _ (c .before .before .put-listing .ensures)
 
 returns : tie.Need-returns
 returns c = search needs
-
-returns-2 : tie.Need-returns-2
-returns-2 c = search needs
 
 pub print-listing-spec : {M : Type 1} → statement M
 print-listing-spec =
     tie.close
     (tie.spec
-    plan-requires
-    enum-told
-    print-plant-requires
-    enum-known-v
-    print-refusal-requires
-    returns
-    returns-2)
+    slice-aggregate-put-listing
+    put-listing-requires
+    array-share-prefix-bytes
+    slice-aggregate-write-output
+    write-output-requires
+    returns)

@@ -1,15 +1,16 @@
 -- `text::put_labels` meets its contract: before each turn the labels before i are laid. Assumes nothing.
-use Prim.Native.Nat.{_-_}
+use Prim.Native.Nat.{_+_, _-_}
 use native.Mathlib.Omega.{arith}
 use borrow.Author.Needs.{needs}
+use Rattle.text.specs.Lines.{spaced}
 use Rattle.text.specs.Sizes.{digits16}
 use Rattle.text.proofs.LaidLaws.{laid-same}
-use Rattle.text.proofs.PutLaws.{Turns, turns-none, turns-room, turns-next, turns-all}
+use Rattle.text.proofs.PutLaws.{Turns, turns-none, turns-all, number-room, number-next}
 use Rattle.text.proofs.put_labels.Statement.{statement}
 use Rattle.text.proofs.put_labels.Tie as tie
 
 abbrev Inv-loop : tie.InvT-loop
-Inv-loop buf₀ at labels count next₀ i₀ buf next i = Turns buf₀ at labels digits16 count buf next i
+Inv-loop buf₀ at labels count next₀ i₀ buf next i = Turns spaced buf₀ at labels (1 + digits16) count buf next i
 
 abbrev μ-loop : tie.MeasureT-loop
 μ-loop buf₀ at labels count next₀ i₀ buf next i = count - i
@@ -30,7 +31,7 @@ put-number-requires : tie.Need-put-number-requires Inv-loop μ-loop
 put-number-requires c κs =
     let l = c .before .before .before in
     let s = l .before .before .before in
-    turns-room (l .loop .inv) (s .pre .0) (s .pre .1) (omega arith) (c .before .before .loop-test .taken) (omega (arith, c .shared-slice-known2 .given (l .loop .i)))
+    number-room digits16 (l .loop .inv) (s .pre .0) (s .pre .1) (omega arith) (c .before .before .loop-test .taken) (omega (arith, c .shared-slice-known2 .given (l .loop .i)))
 
 add-i : tie.Need-add-i Inv-loop μ-loop
 add-i c = search needs
@@ -43,7 +44,7 @@ loop-again c =
     let p = c .before .before in
     let l = p .before .before .before .before in
     let s = l .before .before .before in
-    turns-next (l .loop .inv) (s .pre .0) (s .pre .1) (omega arith) (p .before .before .before .loop-test .taken) (omega (arith, p .before .shared-slice-known2 .given (l .loop .i))) (p .put-number .ensures)
+    number-next digits16 (l .loop .inv) (s .pre .0) (s .pre .1) (omega arith) (p .before .before .before .loop-test .taken) (omega (arith, p .before .shared-slice-known2 .given (l .loop .i))) (p .put-number .ensures)
 
 same-length : tie.Need-same-length Inv-loop μ-loop
 same-length c = laid-same (c .before .loop .inv .laid)
