@@ -8,7 +8,7 @@ use crate::search::Search;
 use crate::trail::Trail;
 
 pub use crate::listing::{read, write};
-pub use crate::search::quantity;
+pub use crate::search::{allowance, quantity};
 
 /// What the first line of the program `rules` shows.
 #[derive(Clone, Copy, Debug, PartialEq, Eq)]
@@ -211,6 +211,19 @@ pub fn perform(listing: &[u8], switch: u8, calls: &[u8]) -> Answer<(Search, usiz
         }
     }
     Ok((state, probes))
+}
+
+/// Reads a listing and writes its plant's listing to the front of the buffer;
+/// refusals 1 to 8, 16.
+pub fn rewrite(listing: &[u8], buffer: &mut [u8]) -> Answer<usize> {
+    write(&read(listing)?, buffer)
+}
+
+/// Writes a plant's listing to the front of the buffer and reads it from
+/// there; refusals 5, 6, 7, 16.
+pub fn reread(plant: &Plant, buffer: &mut [u8]) -> Answer<Plant> {
+    let length = write(plant, buffer)?;
+    read(&buffer[..length])
 }
 
 /// What the program `rules` prints for a listing.

@@ -10,7 +10,7 @@ use crate::search::Search;
 use std::io::Write;
 
 /// The calls by their number in the case format.
-pub const NAMES: [&str; 18] = [
+pub const NAMES: [&str; 21] = [
     "",
     "read",
     "write",
@@ -29,6 +29,9 @@ pub const NAMES: [&str; 18] = [
     "give",
     "perform",
     "quantity",
+    "rewrite",
+    "reread",
+    "allowance",
 ];
 
 /// The input does not follow the format at this byte.
@@ -38,6 +41,13 @@ pub struct Malformed(pub usize);
 /// What a lent buffer holds before the call.
 pub fn prefilled(place: usize) -> u8 {
     ((place * 7 + 3) % 251) as u8
+}
+
+/// A buffer of so many bytes as it is lent.
+fn lend(bytes: &mut Vec<u8>, places: u16) -> &mut [u8] {
+    bytes.clear();
+    bytes.extend((0..usize::from(places)).map(prefilled));
+    bytes
 }
 
 /// Count and checksum of a list of numbers: h = 0, then for each number v
@@ -66,6 +76,10 @@ impl Sum {
         numbers.into_iter().for_each(|number| sum.add(number));
         sum
     }
+
+    pub fn of_bytes(bytes: &[u8]) -> Sum {
+        Sum::of(bytes.iter().map(|byte| u32::from(*byte)))
+    }
 }
 
 impl std::fmt::Display for Sum {
@@ -82,6 +96,30 @@ impl std::fmt::Display for Search {
             Search::AllUp => write!(f, "AllUp"),
             Search::Down(place) => write!(f, "Down {place}"),
         }
+    }
+}
+
+/// A plant's header values, and its links by their checksum.
+struct Shown<'a>(&'a Plant);
+
+impl std::fmt::Display for Shown<'_> {
+    fn fmt(&self, f: &mut std::fmt::Formatter) -> std::fmt::Result {
+        let Shown(plant) = self;
+        let links = plant.records().iter().flat_map(|link| {
+            [
+                u32::from(link.first),
+                u32::from(link.second),
+                u32::from(link.tag),
+            ]
+        });
+        write!(
+            f,
+            "{} {} {} {}",
+            plant.switches,
+            plant.links,
+            plant.start,
+            Sum::of(links)
+        )
     }
 }
 
@@ -225,29 +263,12 @@ impl Answerer {
         };
         let labels = &mut self.labels;
         Ok(match call {
-            1 => calls::read(input.string()?).map(|plant| {
-                let links = plant.records().iter().flat_map(|link| {
-                    [
-                        u32::from(link.first),
-                        u32::from(link.second),
-                        u32::from(link.tag),
-                    ]
-                });
-                put(format_args!(
-                    "{} {} {} {}",
-                    plant.switches,
-                    plant.links,
-                    plant.start,
-                    Sum::of(links)
-                ))
-            }),
+            1 => calls::read(input.string()?).map(|plant| put(format_args!("{}", Shown(&plant)))),
             2 => {
                 let plant = input.plant()?;
-                let places = usize::from(input.word()?);
-                self.bytes.clear();
-                self.bytes.extend((0..places).map(prefilled));
-                let answer = calls::write(&plant, &mut self.bytes);
-                *lent = Some(Sum::of(self.bytes.iter().map(|byte| u32::from(*byte))));
+                let buffer = lend(&mut self.bytes, input.word()?);
+                let answer = calls::write(&plant, buffer);
+                *lent = Some(Sum::of_bytes(buffer));
                 answer.map(|length| put(format_args!("{length}")))
             }
             3 => calls::summary(input.string()?).map(|sum| {
@@ -351,6 +372,24 @@ impl Answerer {
             }
             17 => calls::quantity(input.word()?, input.byte()?)
                 .map(|number| put(format_args!("{number}"))),
+            18 => {
+                let listing = input.string()?;
+                let buffer = lend(&mut self.bytes, input.word()?);
+                let answer = calls::rewrite(listing, buffer);
+                *lent = Some(Sum::of_bytes(buffer));
+                answer.map(|length| put(format_args!("{length}")))
+            }
+            19 => {
+                let plant = input.plant()?;
+                let buffer = lend(&mut self.bytes, input.word()?);
+                let answer = calls::reread(&plant, buffer);
+                *lent = Some(Sum::of_bytes(buffer));
+                answer.map(|plant| put(format_args!("{}", Shown(&plant))))
+            }
+            20 => {
+                put(format_args!("{}", calls::allowance(input.word()?)));
+                Ok(())
+            }
             _ => return Err(Malformed(called_at)),
         })
     }

@@ -152,6 +152,26 @@ fn allowance_rule() {
 }
 
 #[test]
+fn allowances() {
+    for links in 0..=u16::MAX {
+        // Doubled from 1 until it is no longer below the number of links.
+        let most = u32::from(links).min(256);
+        let mut reach = 1;
+        let mut doublings = 0;
+        while reach < most {
+            reach *= 2;
+            doublings += 1;
+        }
+        assert_eq!(calls::allowance(links), doublings);
+    }
+    let some = [0, 1, 2, 3, 4, 5, 128, 129, 256, 257, 512, 65535];
+    assert_eq!(
+        some.map(calls::allowance),
+        [0, 0, 1, 2, 2, 3, 7, 8, 8, 8, 8, 8]
+    );
+}
+
+#[test]
 fn quantity_rule() {
     for rules in (0..=u16::MAX).step_by(7).chain([u16::MAX]) {
         for percent in 0..=100 {
@@ -839,6 +859,146 @@ fn round_trips() {
     assert_eq!(longest.len(), Plant::MAX_LISTING);
 }
 
+/// The writer restated: a field is given unless its value is what its absence
+/// means.
+fn plain_write(plant: &Plant) -> Result<Vec<u8>, u8> {
+    fn put(bytes: &mut Vec<u8>, fields: [(bool, &[u8]); 3]) {
+        let weighed = fields.iter().zip([1, 2, 4]);
+        bytes.push(weighed.map(|(field, bit)| u8::from(field.0) * bit).sum());
+        for (_, field) in fields.iter().filter(|field| field.0) {
+            bytes.extend(*field);
+        }
+    }
+    fn two(number: u16) -> [u8; 2] {
+        [(number % 256) as u8, (number / 256) as u8]
+    }
+    let mut places = plant.link.iter();
+    let links: Vec<&Link> = places.by_ref().take(usize::from(plant.links)).collect();
+    if plant.switches < 1
+        || plant.switches > 64
+        || plant.links > 256
+        || plant.start >= plant.switches
+        || !places.all(|place| (place.first, place.second, place.tag) == (0, 0, 0))
+    {
+        return Err(5);
+    }
+    let mut bytes = Vec::new();
+    put(
+        &mut bytes,
+        [
+            (plant.switches != 1, &[plant.switches]),
+            (plant.links != 0, &two(plant.links)),
+            (plant.start != 0, &[plant.start]),
+        ],
+    );
+    let mut before = (0, 0);
+    for link in links {
+        if link.first.max(link.second) >= plant.switches {
+            return Err(6);
+        }
+        if link.first == link.second {
+            return Err(7);
+        }
+        put(
+            &mut bytes,
+            [
+                (link.first != before.0, &[link.first]),
+                (link.second != before.1, &[link.second]),
+                (link.tag != 0, &two(link.tag)),
+            ],
+        );
+        before = (link.first, link.second);
+    }
+    Ok(bytes)
+}
+
+/// A buffer of some length around a number of bytes, as it is lent.
+fn some_buffer(chance: &mut Chance, length: usize) -> Vec<u8> {
+    let less = length.saturating_sub(1);
+    let any = chance.below(length + 20);
+    let places = chance.of(&[length, length + 1, less, any]);
+    (0..places).map(prefilled).collect()
+}
+
+/// The buffer after the bytes were put to its front, or refusal 16.
+fn put_to_front(bytes: &[u8], buffer: &[u8]) -> Result<Vec<u8>, u8> {
+    if buffer.len() < bytes.len() {
+        return Err(16);
+    }
+    Ok([bytes, &buffer[bytes.len()..]].concat())
+}
+
+#[test]
+fn rewriting() {
+    let mut chance = Chance::new(9);
+    let mut seen = [0; 18];
+    for round in 0..40_000 {
+        let (switches, links) = chance.of(&[(3, 4), (6, 9), (12, 20)]);
+        let plant = make::joined(&mut chance, switches, links).mixed(&mut chance);
+        let bytes = match round % 4 {
+            0 => make::noise(&mut chance),
+            1 => make::listing_of(&plant),
+            _ => make::damaged(&mut chance, &plant),
+        };
+        let mut buffer = some_buffer(&mut chance, bytes.len());
+        // What can be read gives the same bytes.
+        let wanted = plain_read(&bytes).and_then(|_| put_to_front(&bytes, &buffer));
+        let untouched = buffer.clone();
+        let answer = calls::rewrite(&bytes, &mut buffer).map_err(Refusal::number);
+        let (after, told) = match wanted {
+            Ok(after) => (after, Ok(bytes.len())),
+            Err(refusal) => (untouched, Err(refusal)),
+        };
+        assert_eq!(answer, told, "{bytes:02x?}");
+        assert_eq!(buffer, after);
+        seen[usize::from(answer.err().unwrap_or(0))] += 1;
+    }
+    for refusal in (0..=8).chain([16]) {
+        assert!(seen[refusal] > 50, "{seen:?}");
+    }
+}
+
+#[test]
+fn writing_and_rereading() {
+    let mut chance = Chance::new(10);
+    let mut seen = [0; 18];
+    for _ in 0..40_000 {
+        let (switches, links) = chance.of(&[(3, 4), (6, 9), (12, 20), (64, 256)]);
+        let mut plant = make::joined(&mut chance, switches, links).mixed(&mut chance);
+        let length = make::listing_of(&plant).len();
+        for _ in 0..chance.of(&[0, 1, 1, 2, 3]) {
+            make::spoil(&mut chance, &mut plant, &mut 0);
+        }
+        let mut buffer = some_buffer(&mut chance, length);
+        let bytes = plain_write(&plant);
+        let wanted = bytes
+            .clone()
+            .and_then(|bytes| put_to_front(&bytes, &buffer));
+        let untouched = buffer.clone();
+        let mut other = buffer.clone();
+        let length = listing::write(&plant, &mut buffer).map_err(Refusal::number);
+        let again = calls::reread(&plant, &mut other).map_err(Refusal::number);
+        // What was written is read as the same plant.
+        match wanted {
+            Ok(after) => {
+                assert_eq!(length.map(Ok), Ok(bytes.map(|bytes| bytes.len())));
+                assert_eq!(again, Ok(plant));
+                assert_eq!((&buffer, &other), (&after, &after));
+                seen[0] += 1;
+            }
+            Err(refusal) => {
+                assert_eq!(length, Err(refusal));
+                assert_eq!(again, Err(refusal));
+                assert_eq!((&buffer, &other), (&untouched, &untouched));
+                seen[usize::from(refusal)] += 1;
+            }
+        }
+    }
+    for refusal in [0, 5, 6, 7, 16] {
+        assert!(seen[refusal] > 50, "{seen:?}");
+    }
+}
+
 #[test]
 fn writer_refusals() {
     let triangle = listing::read(TRIANGLE).unwrap();
@@ -966,6 +1126,30 @@ fn case_lines() {
         (on(16).byte(0).string(&[]), "Checking 3 0".into()),
         (Case::new(17).word(5).byte(10), "6".into()),
         (Case::new(17).word(5).byte(101), "refused 17".into()),
+        (on(18).word(14), format!("12 {}", sum(&written))),
+        (on(18).word(11), format!("refused 16 {}", sum(&wide[..11]))),
+        (
+            Case::new(18).string(&[0x08]).word(2),
+            format!("refused 2 {}", sum(&wide[..2])),
+        ),
+        (
+            Case::new(19).plant(&plant, 3).word(14),
+            format!(
+                "3 3 0 {} {}",
+                sum(&[0, 1, 0, 1, 2, 0, 2, 0, 0]),
+                sum(&written)
+            ),
+        ),
+        (
+            Case::new(19).plant(&plant, 2).word(14),
+            format!("refused 7 {}", sum(&wide)),
+        ),
+        (
+            Case::new(19).plant(&plant, 3).word(11),
+            format!("refused 16 {}", sum(&wide[..11])),
+        ),
+        (Case::new(20).word(9), "4".into()),
+        (Case::new(20).word(0xffff), "8".into()),
     ];
     for (case, answer) in cases {
         assert_eq!(line(&case), answer + "\n", "{:?}", case.bytes);

@@ -7,7 +7,7 @@ use reference::calls;
 use reference::cases::{Answerer, Case, NAMES};
 use reference::make::{self, Chance, Sketch};
 use reference::net::Net;
-use reference::plant::{Link, Plant};
+use reference::plant::Plant;
 use reference::search::Search;
 use reference::trail::Trail;
 use std::fs::File;
@@ -34,7 +34,7 @@ struct Out {
     count: usize,
     sizes: [usize; 2],
     /// Answers by call and refusal, 0 for none.
-    table: [[usize; 18]; 18],
+    table: [[usize; 18]; NAMES.len()],
 }
 
 impl Out {
@@ -329,8 +329,26 @@ fn labels(chance: &mut Chance, subject: &Subject) -> (u8, Vec<u16>) {
     (begin, labels)
 }
 
-/// A plant value to be written: most often sound.
-fn written(chance: &mut Chance) -> Case {
+/// How many bytes are lent for a listing of so many.
+fn listing_places(chance: &mut Chance, length: usize) -> usize {
+    let spare = chance.below(30);
+    let short = chance.below(length + 1);
+    let less = length.saturating_sub(1);
+    chance.of(&[
+        length,
+        length,
+        length + 1,
+        less,
+        less,
+        length + spare,
+        length + spare,
+        short,
+        0,
+    ])
+}
+
+/// A plant value to be written, in one of calls 2 and 19: most often sound.
+fn written(chance: &mut Chance, call: u8) -> Case {
     let (switches, links) = limits(chance);
     let mut plant = make::joined(chance, switches, links).mixed(chance);
     if chance.percent(10) {
@@ -340,77 +358,13 @@ fn written(chance: &mut Chance) -> Case {
     let length = make::listing_of(&plant).len();
     if chance.percent(45) {
         for _ in 0..chance.of(&[1, 1, 1, 2, 3]) {
-            spoil(chance, &mut plant, &mut given);
+            make::spoil(chance, &mut plant, &mut given);
         }
     } else if chance.percent(10) {
         given = (given + chance.below(3)).min(LINKS);
     }
-    let spare = chance.below(30);
-    let short = chance.below(length + 1);
-    let places = chance.of(&[
-        length,
-        length,
-        length + 1,
-        length - 1,
-        length - 1,
-        length + spare,
-        length + spare,
-        short,
-        0,
-    ]);
-    Case::new(2).plant(&plant, given).word(places)
-}
-
-/// Makes a plant value unsound, if not always.
-fn spoil(chance: &mut Chance, plant: &mut Plant, given: &mut usize) {
-    let links = usize::from(plant.links).min(LINKS);
-    match chance.below(10) {
-        0 => plant.switches = chance.of(&[0, 65, 128, 255]),
-        1 => plant.start = chance.of(&[plant.switches, 64, 255]),
-        2 => plant.links = chance.of(&[257, 258, 512, 0x8000, 0xffff]),
-        3 | 4 => {
-            // A place past the last link is not zero.
-            if links < LINKS {
-                let place = (links + chance.of(&[0, 0, 1, 5])).min(LINKS - 1);
-                match chance.below(3) {
-                    0 => plant.link[place].first = 1,
-                    1 => plant.link[place].second = 1,
-                    _ => plant.link[place].tag = chance.of(&[1, 256]),
-                }
-                *given = (*given).max(place + 1);
-            }
-        }
-        // A place short of the last link is all zero.
-        5 => {
-            if links > 0 {
-                let place = chance.below(links);
-                plant.link[place] = Link::default();
-            }
-        }
-        6 | 7 => {
-            if links > 0 {
-                let place = chance.below(links);
-                let end = chance.of(&[plant.switches, 64, 255]);
-                if chance.percent(50) {
-                    plant.link[place].first = end;
-                } else {
-                    plant.link[place].second = end;
-                }
-            }
-        }
-        8 => {
-            if links > 0 {
-                let place = chance.below(links);
-                plant.link[place].first = plant.link[place].second;
-            }
-        }
-        // More links than are told.
-        _ => {
-            if links < LINKS {
-                plant.links = links as u16 + 1;
-            }
-        }
-    }
+    let places = listing_places(chance, length);
+    Case::new(call).plant(&plant, given).word(places)
 }
 
 /// A list of calls: 0 asks, 1 gives home, any other gives lost.
@@ -487,7 +441,7 @@ fn drawn(chance: &mut Chance, call: u8) -> Case {
             let subject = subject(chance, 30);
             case.string(&subject.listing)
         }
-        2 => written(chance),
+        2 | 19 => written(chance, call),
         3..=5 => case.string(&subject(chance, 78).listing),
         6 => {
             let subject = subject(chance, 78);
@@ -546,7 +500,7 @@ fn drawn(chance: &mut Chance, call: u8) -> Case {
             };
             case.string(&subject.listing).byte(begin).string(&list)
         }
-        _ => {
+        17 => {
             let rules = if chance.percent(50) {
                 usize::from(chance.word())
             } else {
@@ -558,6 +512,16 @@ fn drawn(chance: &mut Chance, call: u8) -> Case {
                 chance.within(101, 255)
             };
             case.word(rules).byte(percent as u8)
+        }
+        18 => {
+            let subject = subject(chance, 40);
+            let places = listing_places(chance, subject.listing.len());
+            case.string(&subject.listing).word(places)
+        }
+        _ => {
+            let any = usize::from(chance.word());
+            let small = chance.below(2 * LINKS);
+            case.word(chance.of(&[any, small]))
         }
     }
 }
@@ -632,6 +596,16 @@ fn fixed(chance: &mut Chance, out: &mut Out) -> io::Result<()> {
         for call in [1, 3, 4, 5] {
             out.put(Case::new(call).string(&listing))?;
         }
+        let length = listing.len();
+        for places in length.saturating_sub(1)..=length + 1 {
+            out.put(Case::new(18).string(&listing).word(places))?;
+        }
+        if let Ok(plant) = calls::read(&listing) {
+            let links = usize::from(plant.links);
+            for places in length - 1..=length + 1 {
+                out.put(Case::new(19).plant(&plant, links).word(places))?;
+            }
+        }
         let hops = calls::summary(&listing).map_or(1, |sum| sum.hops);
         for places in hops.saturating_sub(1)..=hops + 1 {
             out.put(Case::new(6).string(&listing).word(places))?;
@@ -680,7 +654,7 @@ fn fixed(chance: &mut Chance, out: &mut Out) -> io::Result<()> {
         };
         let plant = make::exact(chance, switches, links).mixed(chance);
         let subject = Subject::new(plant);
-        let call = [3, 6, 5, 16, 1, 7, 4, 13][links % 8];
+        let call = [3, 6, 5, 16, 1, 7, 4, 13, 18, 19][links % 10];
         out.put(about(chance, call, &subject))?;
     }
     // The limits: 64 switches with 256 links.
@@ -690,7 +664,7 @@ fn fixed(chance: &mut Chance, out: &mut Out) -> io::Result<()> {
     }
     let length = subject.listing.len();
     for places in [length - 1, length, Plant::MAX_LISTING, length + 100] {
-        out.put(Case::new(2).plant(&subject.plant, LINKS).word(places))?;
+        lend_bytes(out, &subject.plant, places)?;
     }
     // The longest listing: every field given.
     let longest = make::longest_listing();
@@ -699,7 +673,7 @@ fn fixed(chance: &mut Chance, out: &mut Out) -> io::Result<()> {
         out.put(Case::new(call).string(&listing))?;
     }
     for places in [listing.len() - 1, listing.len(), listing.len() + 1] {
-        out.put(Case::new(2).plant(&longest, LINKS).word(places))?;
+        lend_bytes(out, &longest, places)?;
     }
 
     // The longest trails.
@@ -785,6 +759,14 @@ fn fixed(chance: &mut Chance, out: &mut Out) -> io::Result<()> {
         }
     }
 
+    // The allowance of every number of links, and of some past them.
+    for links in (0..=LINKS + 2).chain([
+        319, 320, 511, 512, 513, 1023, 1024, 1025, 4095, 4096, 4097, 0x7fff, 0x8000, 0x8001,
+        0xff00, 0xff01, 0xfffe, 0xffff,
+    ]) {
+        out.put(Case::new(20).word(links))?;
+    }
+
     // Order quantities.
     for rules in [
         0, 1, 2, 3, 5, 7, 10, 20, 50, 99, 100, 101, 199, 200, 255, 256, 257, 319, 512, 1000,
@@ -795,9 +777,9 @@ fn fixed(chance: &mut Chance, out: &mut Out) -> io::Result<()> {
         }
     }
 
-    // Several refusals at once, so that their order shows: of the writer,
+    // Several refusals at once, so that their order shows: of writing a plant,
     // a self-link and an end outside, at times a place past the last link.
-    for _ in 0..100 {
+    for round in 0..160 {
         let mut plant = make::exact(chance, 4, 6).mixed(chance);
         let (one, other) = (chance.below(6), chance.below(6));
         plant.link[one].second = plant.link[one].first;
@@ -808,7 +790,8 @@ fn fixed(chance: &mut Chance, out: &mut Out) -> io::Result<()> {
             plant.link[given - 1].tag = 1;
         }
         let places = chance.of(&[0, 10, 40]);
-        out.put(Case::new(2).plant(&plant, given).word(places))?;
+        let call = [2, 19][round % 2];
+        out.put(Case::new(call).plant(&plant, given).word(places))?;
     }
     // Of the calls with a lent trail, any of 9 and 11 to 15.
     for _ in 0..200 {
@@ -850,6 +833,15 @@ fn fixed(chance: &mut Chance, out: &mut Out) -> io::Result<()> {
     Ok(())
 }
 
+/// The cases of the calls that are lent so many bytes for a plant with as many
+/// links as there can be.
+fn lend_bytes(out: &mut Out, plant: &Plant, places: usize) -> io::Result<()> {
+    let listing = make::listing_of(plant);
+    out.put(Case::new(2).plant(plant, LINKS).word(places))?;
+    out.put(Case::new(18).string(&listing).word(places))?;
+    out.put(Case::new(19).plant(plant, LINKS).word(places))
+}
+
 /// A case of a call about a sound subject, with sound arguments.
 fn about(chance: &mut Chance, call: u8, subject: &Subject) -> Case {
     let links = subject.links();
@@ -882,12 +874,17 @@ fn about(chance: &mut Chance, call: u8, subject: &Subject) -> Case {
             .labels(&subject.trail)
             .search(right(chance, links, 90)),
         13 => case.byte(begin),
+        18 => case.word(subject.listing.len()),
+        19 => Case::new(19)
+            .plant(&subject.plant, links)
+            .word(subject.listing.len()),
         _ => case.byte(begin).string(&true_list(chance, subject)),
     }
 }
 
 /// How often each call is drawn, from call 1.
-const WEIGHTS: [usize; 17] = [14, 9, 7, 5, 5, 9, 9, 7, 6, 8, 9, 7, 4, 2, 3, 6, 2];
+const WEIGHTS: [usize; NAMES.len() - 1] =
+    [14, 9, 7, 5, 5, 9, 9, 7, 6, 8, 9, 7, 4, 2, 3, 6, 2, 7, 7, 1];
 
 fn make(folder: &Path, seed: u64, most: usize) -> io::Result<Out> {
     std::fs::create_dir_all(folder)?;
@@ -899,7 +896,7 @@ fn make(folder: &Path, seed: u64, most: usize) -> io::Result<Out> {
         most,
         count: 0,
         sizes: [0; 2],
-        table: [[0; 18]; 18],
+        table: [[0; 18]; NAMES.len()],
     };
     let mut chance = Chance::new(seed);
     fixed(&mut chance, &mut out)?;

@@ -467,6 +467,58 @@ pub fn damaged(chance: &mut Chance, plant: &Plant) -> Vec<u8> {
     bytes
 }
 
+/// Makes a plant value unsound, if not always.
+pub fn spoil(chance: &mut Chance, plant: &mut Plant, given: &mut usize) {
+    let links = usize::from(plant.links).min(Plant::MAX_LINKS);
+    match chance.below(10) {
+        0 => plant.switches = chance.of(&[0, 65, 128, 255]),
+        1 => plant.start = chance.of(&[plant.switches, 64, 255]),
+        2 => plant.links = chance.of(&[257, 258, 512, 0x8000, 0xffff]),
+        3 | 4 => {
+            // A place past the last link is not zero.
+            if links < Plant::MAX_LINKS {
+                let place = (links + chance.of(&[0, 0, 1, 5])).min(Plant::MAX_LINKS - 1);
+                match chance.below(3) {
+                    0 => plant.link[place].first = 1,
+                    1 => plant.link[place].second = 1,
+                    _ => plant.link[place].tag = chance.of(&[1, 256]),
+                }
+                *given = (*given).max(place + 1);
+            }
+        }
+        // A place short of the last link is all zero.
+        5 => {
+            if links > 0 {
+                let place = chance.below(links);
+                plant.link[place] = Link::default();
+            }
+        }
+        6 | 7 => {
+            if links > 0 {
+                let place = chance.below(links);
+                let end = chance.of(&[plant.switches, 64, 255]);
+                if chance.percent(50) {
+                    plant.link[place].first = end;
+                } else {
+                    plant.link[place].second = end;
+                }
+            }
+        }
+        8 => {
+            if links > 0 {
+                let place = chance.below(links);
+                plant.link[place].first = plant.link[place].second;
+            }
+        }
+        // More links than are told.
+        _ => {
+            if links < Plant::MAX_LINKS {
+                plant.links = links as u16 + 1;
+            }
+        }
+    }
+}
+
 /// A byte that is more often small than not.
 fn small(chance: &mut Chance) -> u8 {
     match chance.below(4) {

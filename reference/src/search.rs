@@ -83,6 +83,12 @@ pub const ALLOWANCE: [u8; Plant::MAX_LINKS + 1] = {
     table
 };
 
+/// The allowance of a number of links; a number above the most links counts
+/// as the most.
+pub fn allowance(links: u16) -> u8 {
+    ALLOWANCE[usize::from(links.min(MAX))]
+}
+
 /// A rules and a spare of p percent, rounded up; refusal 17.
 pub fn quantity(rules: u16, percent: u8) -> Answer<u32> {
     if percent > 100 {

@@ -75,17 +75,16 @@ pub fn of_rules(t: Table) -> u32 {
     h
 }
 
-pub fn of_order(o: Order) -> u32 {
-    let n = o.count as usize;
-    let mut h: u32 = 0;
-    let mut i: usize = 0;
-    while i < Plant::MAX_LINKS {
-        if i < n {
-            h = with(h, o.links[i]);
-        }
-        i += 1;
+// The first n labels, or all if there are fewer.
+fn front<'a>(s: &'a [u16], n: usize) -> &'a [u16] {
+    if s.len() < n {
+        return s;
     }
-    h
+    &s[0..n]
+}
+
+pub fn of_order(o: Order) -> u32 {
+    with_labels(0, front(&o.links, o.count as usize))
 }
 
 // What a place of a lent buffer holds before the call.

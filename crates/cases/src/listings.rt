@@ -1,7 +1,8 @@
-// Calls 1 to 6: reading and writing a listing, and its plan.
+// Calls 1 to 6, 18 and 19: reading and writing a listing, and its plan.
 use crate::checksum;
 use crate::input;
 use crate::show;
+use listing::Decoded;
 use listing::Verdict;
 use listing::Written;
 use planner::Numbers;
@@ -18,8 +19,7 @@ fn show_plant(p: Plant) {
     show::list(3 * (p.count as u64), checksum::of_links(p));
 }
 
-fn read(listing: &[u8]) {
-    let d = reading::read(listing);
+fn show_decoded(d: Decoded) {
     let v = d.verdict;
     match v {
         Verdict::Sound => {
@@ -30,23 +30,35 @@ fn read(listing: &[u8]) {
     }
 }
 
-fn write_into(p: Plant, buffer: &mut [u8]) {
-    checksum::fill_bytes(buffer);
-    match listing::write(p, buffer) {
+fn show_written(w: Written) {
+    match w {
         Written::Length(length) => show::number(length as u64),
         Written::Refused(k) => show::refusal(k),
     }
+}
+
+// Call 2, 18 or 19 with a lent buffer.
+fn show_call(call: u8, s: &[u8], at: usize, buffer: &mut [u8]) {
+    match call {
+        2 => show_written(listing::write(input::plant(s, at), buffer)),
+        18 => show_written(planner::rewrite(input::string(s, at), buffer)),
+        _ => show_decoded(planner::reread(input::plant(s, at), buffer)),
+    }
+}
+
+// The same, and the buffer's checksum after it.
+fn call_into(call: u8, s: &[u8], at: usize, buffer: &mut [u8]) {
+    checksum::fill_bytes(buffer);
+    show_call(call, s, at, buffer);
     show::word(b" ");
     show::list(buffer.len() as u64, checksum::of_bytes(buffer));
 }
 
-// The buffer's length follows the plant.
-fn write(s: &[u8], at: usize) -> usize {
-    let p = input::plant(s, at);
-    let from = input::past_plant(s, at);
+// The buffer's length follows the plant or the listing.
+fn call_lent(call: u8, s: &[u8], at: usize, from: usize) -> usize {
     let n = input::number(s, from) as usize;
     let mut buffer = input::byte_places();
-    write_into(p, &mut buffer[..n]);
+    call_into(call, s, at, &mut buffer[0..n]);
     input::past(s, from, 2)
 }
 
@@ -111,21 +123,24 @@ fn trail(s: &[u8], at: usize) -> usize {
     let from = input::past_string(s, at);
     let n = input::number(s, from) as usize;
     let mut buffer = input::label_places();
-    trail_into(listing, &mut buffer[..n]);
+    trail_into(listing, &mut buffer[0..n]);
     input::past(s, from, 2)
 }
 
 // Prints the answer of one of these calls with its arguments at a place; the place after them.
 pub fn answer(call: u8, s: &[u8], at: usize) -> usize {
-    if call == 2 {
-        return write(s, at);
+    if call == 2 || call == 19 {
+        return call_lent(call, s, at, input::past_plant(s, at));
     }
     if call == 6 {
         return trail(s, at);
     }
+    if call == 18 {
+        return call_lent(call, s, at, input::past_string(s, at));
+    }
     let listing = input::string(s, at);
     match call {
-        1 => read(listing),
+        1 => show_decoded(reading::read(listing)),
         3 => summary(listing),
         4 => bridges(listing),
         5 => rules(listing),

@@ -20,6 +20,9 @@
 // 15 give            search, outcome                          search
 // 16 perform         listing, switch, calls                   search, number of probes
 // 17 order quantity  rules (two bytes), spare                 quantity
+// 18 rewrite         listing, buffer length                   length
+// 19 reread          plant, buffer length                     as of read
+// 20 allowance       links (two bytes)                        allowance
 //
 // A plant is its switches, links (two bytes) and start, a two-byte number of link places, and first end, second end and tag (two bytes) of each; the other link
 // places are zero. A refusal is the word `refused` and its number. The line of a call that is lent a buffer ends with the buffer's checksum after the call.
@@ -48,6 +51,9 @@ fn answer(s: &[u8], at: usize) -> usize {
     }
     if call < 13 {
         return packets::answer(call, s, from);
+    }
+    if call == 18 || call == 19 {
+        return listings::answer(call, s, from);
     }
     searches::answer(call, s, from)
 }

@@ -1,4 +1,4 @@
-// Calls 13 to 17: the search and the order quantity.
+// Calls 13 to 17 and 20: the search, its allowance and the order quantity.
 use crate::input;
 use crate::show;
 use demands::Begun;
@@ -71,6 +71,11 @@ fn order_quantity(s: &[u8], at: usize) -> usize {
     input::past(s, from, 1)
 }
 
+fn allowance(s: &[u8], at: usize) -> usize {
+    show::number(allowance::allowance(input::number(s, at)) as u64);
+    input::past(s, at, 2)
+}
+
 // Prints the answer of one of these calls with its arguments at a place; the place after them.
 pub fn answer(call: u8, s: &[u8], at: usize) -> usize {
     match call {
@@ -79,6 +84,7 @@ pub fn answer(call: u8, s: &[u8], at: usize) -> usize {
         15 => give(s, at),
         16 => perform(s, at),
         17 => order_quantity(s, at),
+        20 => allowance(s, at),
         _ => s.len(),
     }
 }
