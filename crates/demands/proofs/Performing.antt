@@ -4,7 +4,7 @@ use mathlib.Core.List.{List}
 use Prim.Native.Nat.{ℕ}
 use Rattle.plant.specs.declared.Plant.{Plant}
 use Rattle.plant.specs.Refusals.{Answer, given}
-use Rattle.model.proofs.Answers.{given-given, after-given}
+use Rattle.model.proofs.Answers.{given-given}
 use Rattle.listing.specs.Field.{Bytes}
 use Rattle.walks.specs.Graph.{liveLinks}
 use Rattle.planner.specs.Planning.{planningAt}

@@ -9,6 +9,7 @@ use lib.ListN.{length, drop}
 use Rattle.lists.specs.Tests.{choose}
 use Rattle.lists.specs.Members.{In, memb, Distinct}
 use Rattle.lists.specs.Count.{count}
+use Rattle.lists.specs.Numbers.{range, keep}
 use Rattle.plant.specs.declared.Plant.{Plant}
 use Rattle.plant.specs.Links.{live}
 use Rattle.plant.specs.Refusals.{Answer, given, refused}
@@ -18,8 +19,11 @@ use Rattle.listing.specs.Field.{Bytes}
 use Rattle.listing.specs.Listing.{decode, encode}
 use Rattle.listing.specs.Writing.{written, bufferAfter}
 use Rattle.listing.specs.Conditions.{conditions, plantIn, AnswersReading, writerConditions}
-use Rattle.walks.specs.Graph.{Crosses, ClosedWalk, Connected, liveLinks, bridges}
-use Rattle.routes.specs.Plants.{trailOf}
+use Rattle.walks.specs.Arcs.{tail, head}
+use Rattle.walks.specs.Graph.{Crosses, ClosedWalk, Connected, Bridge, visited, bridge, used, liveLinks, bridges}
+use Rattle.walks.specs.ByLinks.{visitLinks}
+use Rattle.routes.specs.Meaning.{Fewest}
+use Rattle.routes.specs.Plants.{distanceOf, trailOf}
 use Rattle.rings.specs.Rules.{upBy}
 use Rattle.rings.specs.Injection.{orderOf, probeRun}
 use Rattle.rings.specs.FirstDown.{FirstDown}
@@ -101,7 +105,20 @@ pub record Demand1 : Type 0 where
   pub write-kept : (p : Plant) (b : List ℕ) (n : ℕ) → written p b ≡ refused n → bufferAfter p b ≡ b
   pub reread-kept : (p : Plant) (b : List ℕ) (n : ℕ) → rereading p b ≡ refused n → bufferAfter p b ≡ b
 
--- ---- demand 2: the round trips and the trail
+-- ---- demand 2: the definitions are document 01's, the round trips and the trail
+
+-- what bridges, the visit, distances and the trail of a plant that can be planned are, in document 01's words
+pub record PlanIs (p : Plant) : Type 0 where
+  -- "a bridge is a link without which its two ends are not joined"
+  pub bridges : (l : ℕ) → T (live p l) → T (bridge p l) ↔ Bridge p l
+  -- "at each switch the links are tried by rising number, and a link to an unvisited switch is entered before the next is tried"
+  pub visit : visitLinks p (keep (live p) (range 0 (p .count))) (p .switches) (p .start) (record { ord = p .start ∷ []; ent = [] }) ≡ visited p
+  -- "the fewest hops over arcs in use between every two switches"
+  pub distances : (u v : ℕ) → u < p .switches → v < p .switches
+      → Fewest (p .switches) (2 * p .count) (tail p) (head p) (used p) u v (distanceOf p u v)
+  -- the trail leg by leg; it is a closed walk from the start over exactly the arcs in use, of at most 20,479 hops
+  pub by-legs : trailOf p ≡ legsOf p
+  pub trail : IsTrail p (trailOf p)
 
 pub record Demand2 : Type 0 where
   -- what was read is written as the bytes that were read, and what was written is read as the plant that was written
@@ -112,8 +129,8 @@ pub record Demand2 : Type 0 where
       → (rewriting s b ≡ given (length s)) × (overlaid s b (rewriting s b) ≡ s ++ drop (length s) b)
   pub reread : (p : Plant) (b : List ℕ) → Sound p → length (encode p) ≤ length b
       → (rereading p b ≡ given p) × (bufferAfter p b ≡ encode p ++ drop (length (encode p)) b)
-  -- the trail of a plant that can be planned is document 01's, leg by leg; it is a closed walk from the start over exactly the arcs in use
-  pub trail : (s : List ℕ) (p : Plant) → Bytes s → planning s ≡ given p → IsTrail p (trailOf p) × (legsOf p ≡ trailOf p)
+  -- the plan of a listing is document 01's
+  pub plan : (s : List ℕ) (p : Plant) → Bytes s → planning s ≡ given p → PlanIs p
   -- a buffer with enough places begins with the whole trail, and places past it stay
   pub laid : (s b : List ℕ) (p : Plant) → planning s ≡ given p → length (trailOf p) ≤ length b
       → (trailing s b ≡ given (length (trailOf p))) × (trailedBy (planning s) b ≡ trailOf p ++ drop (length (trailOf p)) b)

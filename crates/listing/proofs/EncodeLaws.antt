@@ -1,23 +1,22 @@
 -- The writer's loops over the links of a plant: what is left to size or to lay gives what the whole listing gives. Assumes nothing.
-use mathlib.Core.Path.{_≡_, refl, sym, ap, ap₂, _∙_, subst}
-use mathlib.Core.Bool.{Bool, true, false}
-use mathlib.Core.List.{List, [], _∷_, _++_}
-use Prim.Native.Nat.{ℕ, zero, suc, _+_, _-_, _*_, _≤_, _<_}
+use mathlib.Core.Path.{_≡_, refl, sym, ap, _∙_}
+use mathlib.Core.List.{List, [], _++_}
+use Prim.Native.Nat.{ℕ, _+_, _*_, _≤_, _<_}
 use native.Mathlib.Omega.{arith}
 use borrow.Author.Tests.{lt-ltb, le-ltb}
 use lib.ListN.{length, getD, drop, length-append}
-use lib.Seq.{sets, length-sets}
+use lib.Seq.{sets}
 use Rattle.lists.proofs.Arrays.{sets-append, sets-front, laid}
 use Rattle.plant.specs.declared.Link.{Link}
 use Rattle.plant.specs.declared.Plant.{Plant}
 use Rattle.plant.specs.declared.Refusal.{Refusal}
 use Rattle.plant.specs.Links.{zeroLink}
-use Rattle.plant.specs.Refusals.{Answer, given, refused, refuse, _>>=_, numberOf}
+use Rattle.plant.specs.Refusals.{given, refused, numberOf}
 use Rattle.model.specs.Limits.{maxLinks}
 use Rattle.listing.specs.declared.Verdict.{Verdict}
 use Rattle.listing.specs.declared.Verdict.the-variants as verdict
 use Rattle.listing.specs.Listing.{linksOf, headerBytes, linkBytes, linksBytes, encode}
-use Rattle.listing.specs.Writing.{soundPlant, bufferShort, written, leaves, bufferAfter}
+use Rattle.listing.specs.Writing.{soundPlant, bufferShort, written, bufferAfter}
 use Rattle.listing.specs.Answers.{verdictAnswer}
 use Rattle.listing.proofs.WriteLaws.{links-next, links-done}
 

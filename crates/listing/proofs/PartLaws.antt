@@ -1,17 +1,16 @@
 -- A part as the code reads it, at places of the listing, against its definition on the bytes from there on. Assumes nothing.
-use mathlib.Core.Path.{_≡_, refl, sym, ap, ap₂, _∙_, subst}
-use mathlib.Core.Bool.{Bool, true, false, not, _&&_, _||_}
-use mathlib.Core.List.{List, [], _∷_, _++_}
-use Prim.Native.Nat.{ℕ, zero, suc, _+_, _-_, _*_, _/_, _%_, _^_, _≤_, _<_}
+use mathlib.Core.Path.{_≡_, refl, sym, ap, _∙_}
+use mathlib.Core.Bool.{Bool, true, false, _||_}
+use mathlib.Core.List.{List, [], _∷_}
+use Prim.Native.Nat.{ℕ, _+_, _-_, _/_, _%_, _^_, _≤_, _<_}
 use native.Mathlib.Omega.{arith}
-use borrow.Author.Tests.{lt-ltb, le-ltb, le-leb, lt-leb, eq-eqb, ne-eqb}
-use lib.Dec.{eqb, leb, ltb}
-use lib.ListN.{length, getD, take, drop, length-drop}
+use borrow.Author.Tests.{lt-ltb, le-ltb, le-leb, lt-leb, ne-eqb}
+use lib.ListN.{length, getD, drop, length-drop}
 use lib.Seq.{drop-drop, getD-drop}
-use Rattle.plant.specs.Refusals.{Answer, given, refused, refuse}
+use Rattle.plant.specs.Refusals.{given, refused, refuse}
 use Rattle.listing.specs.declared.Field.{Field}
 use Rattle.listing.specs.declared.Fields.{Fields}
-use Rattle.listing.specs.Part.{taken, size, valueOf, values, someRedundant, mapByte, mapMissing, mapUndefined, fieldMissing, fieldRedundant, fieldValues, afterPart, part}
+use Rattle.listing.specs.Part.{taken, size, valueOf, mapByte, mapMissing, mapUndefined, fieldMissing, fieldRedundant, fieldValues, afterPart, part}
 use Rattle.listing.specs.Answers.{fieldList, fieldsOf, anyRepeats}
 
 or-false-right : (a b c : Bool) → a || (b || (c || false)) ≡ a || (b || c)

@@ -1,11 +1,11 @@
 -- Bytes laid into a buffer one after the other: what is left to lay gives what the whole gives. Assumes nothing.
-use mathlib.Core.Path.{_≡_, refl, sym, ap, ap₂, _∙_, subst}
+use mathlib.Core.Path.{_≡_, refl, sym, ap, ap₂, _∙_}
 use mathlib.Core.List.{List, [], _∷_, _++_, append-nil}
-use Prim.Native.Nat.{ℕ, zero, suc, _+_, _-_, _*_, _/_, _%_, _≤_, _<_}
+use Prim.Native.Nat.{ℕ, suc, _+_, _-_, _/_, _%_, _≤_, _<_}
 use native.Mathlib.Omega.{arith}
 use borrow.Author.Tests.{eq-eqb, ne-eqb}
-use lib.ListN.{length, set, drop, length-append, length-set}
-use lib.Seq.{sets, sets-eq, length-sets}
+use lib.ListN.{length, set, length-append, length-set}
+use lib.Seq.{sets}
 use Rattle.lists.proofs.Arrays.{sets-append, laid}
 use Rattle.listing.specs.Field.{bytesOf}
 use Rattle.listing.specs.declared.Field.{Field}

@@ -1,17 +1,15 @@
 -- The header, a link and the links as the code reads them, at places of the listing, against their definitions. Assumes nothing.
-use mathlib.Core.Path.{_≡_, refl, sym, ap, ap₂, _∙_, subst}
-use mathlib.Core.Bool.{Bool, true, false, not, _&&_, _||_}
-use mathlib.Core.List.{List, [], _∷_, _++_}
-use Prim.Native.Nat.{ℕ, zero, suc, _+_, _-_, _^_, _≤_, _<_}
-use native.Mathlib.Omega.{arith}
+use mathlib.Core.Path.{_≡_, refl, sym, ap, _∙_, subst}
+use mathlib.Core.Bool.{false}
+use mathlib.Core.List.{List}
+use Prim.Native.Nat.{ℕ, _^_, _≤_, _<_}
 use borrow.Author.Tests.{leb-true, ltb-true, eqb-false, not-false}
-use lib.Dec.{eqb, leb, ltb}
-use lib.ListN.{length, getD, take, drop}
+use lib.ListN.{getD, drop}
 use Rattle.lists.proofs.Tests.{and-true}
 use Rattle.plant.specs.declared.Link.{Link}
 use Rattle.plant.specs.declared.Plant.{Plant}
 use Rattle.plant.specs.Links.{plantWith}
-use Rattle.plant.specs.Refusals.{Answer, given, refused, refuse, _>>=_, numberOf}
+use Rattle.plant.specs.Refusals.{Answer, given, refused, refuse, numberOf}
 use Rattle.plant.specs.declared.Refusal.{Refusal}
 use Rattle.model.proofs.Answers.{given-given, refuse-given, then-given}
 use Rattle.model.specs.Limits.{maxSwitches, maxLinks}
@@ -22,7 +20,7 @@ use Rattle.listing.specs.declared.Part.the-variants as part-is
 use Rattle.listing.specs.declared.Header.{Header}
 use Rattle.listing.specs.declared.Header.the-variants as header-is
 use Rattle.listing.specs.Part.{part}
-use Rattle.listing.specs.Listing.{field, headerFields, headerFrom, headerOutOfRange, judgedHeader, linkFields, linkFrom, valueOutOfRange, endOutOfRange, selfLink, soundLink, judged, linkOf, header, link, afterHeader, decode}
+use Rattle.listing.specs.Listing.{field, headerFields, headerFrom, headerOutOfRange, judgedHeader, linkFields, valueOutOfRange, endOutOfRange, selfLink, soundLink, judged, linkOf, header, link, afterHeader, decode}
 use Rattle.listing.specs.Answers.{fieldList, partAnswer, Fits, headerAnswer}
 
 -- ---- header

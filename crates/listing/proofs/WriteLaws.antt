@@ -1,11 +1,11 @@
 -- The writer's loops over the link places: what is left of the places gives what the whole gives. Assumes nothing.
-use mathlib.Core.Path.{_≡_, refl, sym, ap, ap₂, _∙_, subst}
-use mathlib.Core.Bool.{Bool, true, false, not, _&&_, _||_}
-use mathlib.Core.List.{List, [], _∷_, _++_, map}
-use Prim.Native.Nat.{ℕ, zero, suc, _+_, _-_, _≤_, _<_}
+use mathlib.Core.Path.{_≡_, refl, sym, ap, ap₂, _∙_}
+use mathlib.Core.Bool.{true, false}
+use mathlib.Core.List.{List, [], _∷_}
+use Prim.Native.Nat.{ℕ, _+_, _≤_, _<_}
 use native.Mathlib.Numerals.{add-one}
 use native.Mathlib.Omega.{arith}
-use lib.ListN.{length, getD, take, drop, drop-of-length-le}
+use lib.ListN.{length, getD, drop, drop-of-length-le}
 use lib.Seq.{drop-cons, getD-take}
 use Rattle.lists.proofs.Tests.{or-false}
 use Rattle.lists.specs.Members.{all}
@@ -13,12 +13,12 @@ use Rattle.plant.specs.declared.Link.{Link}
 use Rattle.plant.specs.declared.Plant.{Plant}
 use Rattle.plant.specs.declared.Refusal.{Refusal}
 use Rattle.plant.specs.Links.{zeroLink}
-use Rattle.plant.specs.Refusals.{Answer, given, refused, refuse, _>>=_, numberOf}
+use Rattle.plant.specs.Refusals.{given, refused, numberOf}
 use Rattle.model.proofs.Answers.{refuse-given}
 use Rattle.model.specs.Limits.{maxLinks}
 use Rattle.listing.specs.declared.Verdict.{Verdict}
 use Rattle.listing.specs.declared.Verdict.the-variants as verdict
-use Rattle.listing.specs.Listing.{valueOutOfRange, soundLink, linksOf, linkBytes, linksBytes}
+use Rattle.listing.specs.Listing.{valueOutOfRange, soundLink, linksOf}
 use Rattle.listing.specs.Writing.{isZero, plantOutOfRange, soundLinks, soundPlant}
 use Rattle.listing.specs.Answers.{verdictAnswer}
 use Rattle.listing.proofs.ReadLaws.{in-range}

@@ -1,13 +1,13 @@
 -- The listing (document 01, "Listing bytes" and refusals 1 to 8): from bytes to a plant, and from a plant to bytes.
-use mathlib.Core.Bool.{Bool, true, false, not, _&&_, _||_}
+use mathlib.Core.Bool.{Bool, not, _&&_}
 use mathlib.Core.List.{List, [], _∷_, _++_}
-use Prim.Native.Nat.{ℕ, zero, suc, _+_, _-_}
+use Prim.Native.Nat.{ℕ, zero, suc, _-_}
 use lib.Dec.{eqb, leb, ltb}
-use lib.ListN.{length, getD, take, drop, replicate}
+use lib.ListN.{length, getD, take, replicate}
 use Rattle.plant.specs.declared.Link.{Link}
 use Rattle.plant.specs.declared.Plant.{Plant}
 use Rattle.plant.specs.Links.{zeroLink, plantWith}
-use Rattle.plant.specs.Refusals.{Answer, given, refused, refuse, _>>=_}
+use Rattle.plant.specs.Refusals.{Answer, given, refuse, _>>=_}
 use Rattle.model.specs.Limits.{maxSwitches, maxLinks}
 use Rattle.listing.specs.declared.Field.{Field}
 use Rattle.listing.specs.Part.{part, partBytes}

@@ -1,5 +1,5 @@
 -- What the writer answers and leaves in the lent buffer: refusals 5, 6, 7 and 16 in checking order, for any plant value.
-use mathlib.Core.Bool.{Bool, true, false, not, _&&_, _||_}
+use mathlib.Core.Bool.{Bool, not, _&&_, _||_}
 use mathlib.Core.List.{List, [], _∷_, _++_}
 use Prim.Native.Nat.{ℕ}
 use lib.Dec.{eqb, ltb}

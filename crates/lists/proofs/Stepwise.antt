@@ -1,5 +1,5 @@
 -- One number more: what holds of all numbers below i + 1, a test at each of them, how many pass, and the first that passes. Assumes nothing.
-use mathlib.Core.Path.{_≡_, refl, sym, ap, _∙_, subst}
+use mathlib.Core.Path.{_≡_, sym, ap, _∙_, subst}
 use mathlib.Core.Logic.{_⊎_, inl, inr}
 use mathlib.Core.Bool.{Bool, true, false}
 use Prim.Native.Nat.{ℕ, zero, suc, _+_, _≤_, _<_}
@@ -8,7 +8,7 @@ use native.Mathlib.Omega.{arith}
 use lib.Dec.{T}
 use Rattle.lists.specs.Tests.{choose}
 use Rattle.lists.proofs.Tests.{choose-true, choose-false, if-true, if-false, T-or, eq?, T-true, true-T, false-T, not-true-false}
-use Rattle.lists.specs.Count.{bit, count}
+use Rattle.lists.specs.Count.{count}
 use Rattle.lists.specs.Numbers.{every}
 use Rattle.lists.proofs.Numbers.{every-at, at-every}
 use Rattle.lists.specs.Least.{leastFrom}

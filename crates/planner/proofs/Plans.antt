@@ -1,8 +1,8 @@
 -- Laws of planning: what the answer of a reading says of the listing, and what a plant that can be planned is. Assumes nothing.
 use mathlib.Core.Path.{_≡_, refl, sym, ap, _∙_, subst}
-use mathlib.Core.Bool.{Bool, true, false, not}
+use mathlib.Core.Bool.{true, false, not}
 use mathlib.Core.List.{List, [], _∷_}
-use Prim.Native.Nat.{ℕ, zero, suc, _^_, _≤_, _<_}
+use Prim.Native.Nat.{ℕ, suc, _^_, _≤_, _<_}
 use borrow.Author.Tests.{leb-false, le-leb, lt-leb, not-false}
 use lib.Dec.{leb}
 use lib.ListN.{getD}
@@ -20,7 +20,7 @@ use Rattle.listing.specs.declared.Verdict.{Verdict}
 use Rattle.listing.specs.declared.Verdict.the-variants as verdict
 use Rattle.listing.specs.Field.{Bytes}
 use Rattle.listing.specs.Listing.{decode}
-use Rattle.listing.specs.Answers.{verdictAnswer, readAnswer, plantPart, Reads}
+use Rattle.listing.specs.Answers.{verdictAnswer, Reads}
 use Rattle.listing.proofs.RoundTrip.{decode-sound}
 use Rattle.planner.specs.Planning.{notConnected, joined, planning, switchOutOfRange, planningAt}
 use Rattle.planner.specs.Answers.{Ready}

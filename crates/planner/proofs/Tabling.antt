@@ -1,11 +1,10 @@
 -- The forwarding table of a listing: what the call answers, by the answer of planning. Assumes nothing.
-use mathlib.Core.Path.{_≡_, refl, sym, ap, _∙_, subst}
+use mathlib.Core.Path.{_≡_, refl, sym, ap, _∙_}
 use mathlib.Core.List.{List, []}
 use Prim.Native.Nat.{ℕ}
 use Rattle.plant.specs.declared.Plant.{Plant}
 use Rattle.plant.specs.declared.Refusal.{Refusal}
-use Rattle.plant.specs.Refusals.{given, refused, _>>=_, numberOf}
-use Rattle.listing.specs.declared.Verdict.{Verdict}
+use Rattle.plant.specs.Refusals.{given, refused, numberOf}
 use Rattle.listing.specs.declared.Verdict.the-variants as verdict
 use Rattle.table.specs.declared.Table.{Table}
 use Rattle.table.specs.Rules.{tableWith, tableOf}

@@ -1,5 +1,5 @@
 -- The trail of a listing and the numbers of a plant: what the calls answer, by the answer of planning. Assumes nothing.
-use mathlib.Core.Path.{_≡_, refl, sym, ap, ap₂, _∙_, subst}
+use mathlib.Core.Path.{_≡_, refl, sym, ap, _∙_}
 use mathlib.Core.Bool.{Bool, true, false}
 use mathlib.Core.List.{List}
 use Prim.Native.Nat.{ℕ, _*_, _≤_, _<_}
@@ -8,17 +8,16 @@ use borrow.Author.Tests.{lt-ltb, le-ltb}
 use lib.ListN.{length}
 use Rattle.lists.proofs.Count.{count-all}
 use Rattle.plant.specs.declared.Plant.{Plant}
-use Rattle.plant.specs.Refusals.{Answer, given, refused, refuse, _>>=_}
+use Rattle.plant.specs.Refusals.{Answer, given, refused}
 use Rattle.model.specs.Limits.{maxLinks}
 use Rattle.model.specs.Sound.{Sound}
-use Rattle.walks.specs.Graph.{Connected, bridge, used, liveLinks, bridges, arcsUsed}
+use Rattle.walks.specs.Graph.{Connected, bridge, used, bridges, arcsUsed}
 use Rattle.walks.proofs.Live.{all-live}
 use Rattle.graph.specs.Flags.{Flags, countSet}
 use Rattle.graph.proofs.Uses.{bridges-counted, arcs-counted}
 use Rattle.routes.specs.Plants.{trailOf}
 use Rattle.trail.specs.Steps.{Planned}
 use Rattle.trail.specs.Filled.{filledWith}
-use Rattle.planner.specs.declared.Numbers.{Numbers}
 use Rattle.planner.specs.Planning.{planning}
 use Rattle.planner.specs.Calls.{numbersOf, summing, placesShort, laying, laidOut, trailing, trailedBy}
 

@@ -5,7 +5,6 @@ use mathlib.Core.List.{List, [], _∷_, _++_, map}
 use Prim.Native.Nat.{ℕ, _+_}
 use lib.ListN.{take, replicate}
 use Rattle.plant.specs.declared.Link.{Link}
-use Rattle.plant.specs.declared.Plant.{Plant}
 use Rattle.plant.specs.Links.{plantWith, live}
 use Rattle.plant.specs.Refusals.{Answer, given, refused, _>>=_}
 use Rattle.listing.specs.Part.{taken, valueOf, repeats, mapMissing, mapUndefined, fieldMissing, fieldRedundant, fieldValues, afterPart, part}

@@ -2,15 +2,14 @@
 use mathlib.Core.Bool.{Bool, not, _&&_}
 use mathlib.Core.List.{List}
 use Prim.Native.Nat.{ℕ}
-use lib.Dec.{leb, ltb}
+use lib.Dec.{ltb}
 use lib.ListN.{length}
 use Rattle.plant.specs.declared.Plant.{Plant}
-use Rattle.plant.specs.Refusals.{Answer, given, refuse, _>>=_}
+use Rattle.plant.specs.Refusals.{Answer, given, refuse}
 use Rattle.routes.specs.Plants.{trailOf}
 use Rattle.trail.specs.Filled.{sameList}
 use Rattle.search.specs.declared.Search.{Search}
 use Rattle.search.specs.Search.{sound, soundFor, ended, wanted}
-use Rattle.planner.specs.Planning.{planning}
 
 -- 12: the lent trail, in its whole length, differs from the listing's trail
 unfoldable pub trailDiffers : Plant → List ℕ → Bool

@@ -1,23 +1,20 @@
 -- Laws of the forwarding table: one rule more, how many rules there are, and that there is a place for each. Assumes nothing.
-use mathlib.Core.Path.{_≡_, refl, sym, ap, ap₂, _∙_, subst}
-use mathlib.Core.Bool.{Bool, true, false}
+use mathlib.Core.Path.{_≡_, refl, sym, ap, ap₂, _∙_}
+use mathlib.Core.Bool.{true, false}
 use mathlib.Core.List.{List, [], _∷_, _++_, map, append-assoc}
-use Prim.Native.Nat.{ℕ, zero, suc, _+_, _-_, _*_, _/_, _%_, _≤_, _<_}
+use Prim.Native.Nat.{ℕ, suc, _+_, _-_, _*_, _/_, _%_, _≤_, _<_}
 use native.Mathlib.Omega.{arith}
-use lib.Dec.{T}
 use lib.ListN.{length, set, replicate, length-append, length-map}
 use lib.Seq.{set-at}
 use Rattle.lists.proofs.Tests.{true-T, false-T}
 use Rattle.lists.specs.Numbers.{range, keep}
 use Rattle.lists.proofs.Kept.{kept-yes, kept-no, kept-length, kept-room}
 use Rattle.plant.specs.declared.Plant.{Plant}
-use Rattle.model.specs.Limits.{maxSwitches, maxLinks}
 use Rattle.model.specs.Sound.{Sound}
 use Rattle.plant.specs.Links.{first, second}
 use Rattle.walks.specs.Arcs.{side, tail, head}
-use Rattle.walks.specs.Graph.{Connected, used, liveLinks, bridges, arcsUsed}
-use Rattle.walks.proofs.Live.{all-live}
-use Rattle.walks.proofs.Counting.{arcs-in-use, arcs-in-use-all, few-bridges}
+use Rattle.walks.specs.Graph.{Connected, used, bridges, arcsUsed}
+use Rattle.walks.proofs.Counting.{arcs-in-use-all, few-bridges}
 use Rattle.walks.proofs.Valid.{sound-valid}
 use Rattle.table.specs.declared.Rule.{Rule}
 use Rattle.table.specs.declared.Table.{Table}

@@ -1,6 +1,6 @@
 -- The most bytes that numbers and lines take, by the digits of the numbers. Assumes nothing.
 use mathlib.Core.List.{List, [], _∷_}
-use Prim.Native.Nat.{ℕ, _+_, _^_, _≤_, _<_}
+use Prim.Native.Nat.{ℕ, _^_, _≤_, _<_}
 use native.Mathlib.Omega.{arith}
 use lib.ListN.{length, length-append}
 use Rattle.text.specs.Lines.{spacedAll, ruleWord, plantWord, trailWord, refusedWord, line, summaryLine, ruleLine, trailLine, refusalOf}

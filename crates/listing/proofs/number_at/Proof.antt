@@ -1,7 +1,6 @@
 -- `listing::number_at` meets its contract. The loop goes from the high byte down: n is the number in the bytes from i on. Assumes nothing.
 use native.Mathlib.Omega.{arith}
 use borrow.Author.Needs.{needs}
-use Rattle.listing.specs.Field.{number}
 use Rattle.listing.proofs.FieldLaws.{From, from-end, from-next, from-start, from-room}
 use Rattle.listing.proofs.number_at.Statement.{statement}
 use Rattle.listing.proofs.number_at.Tie as tie
