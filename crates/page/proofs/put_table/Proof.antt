@@ -2,7 +2,6 @@
 use Prim.Native.Nat.{_-_}
 use native.Mathlib.Omega.{arith}
 use borrow.Author.Needs.{needs}
-use lib.ListN.{length, take}
 use Rattle.lists.specs.Arrays.{sized}
 use Rattle.table.specs.Rules.{maxRules, zeroRule}
 use Rattle.text.specs.Sizes.{ruleMost}
