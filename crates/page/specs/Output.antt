@@ -1,4 +1,4 @@
--- The bytes that the program `rules` prints (document 01, "Edges and marked cases"), by the definitions of the plan, and how many there can be. Assumes nothing.
+-- The bytes that the program `rules` prints (document 01, "Edges and marked cases"), by the definitions of the plan, and the most of them. Assumes nothing.
 use mathlib.Core.List.{List, map}
 use Prim.Native.Nat.{ℕ, _+_, _*_}
 use lib.ListN.{length}

@@ -100,14 +100,14 @@ pub fn put_listing(listing: &[u8], buf: &mut [u8]) -> usize
     }
 }
 
-// The bytes are written to standard output. They are the output for the listing, which is there for the contract alone.
+// Writes the output for a listing to standard output. The listing is handed over for the contract alone, which says what the bytes are.
 fn write_output(bytes: &[u8], listing: &[u8])
     requires { ⌜ now bytes ≡ printed (now listing) ⌝ }
 {
     io::write_all(STDOUT_FILENO, bytes);
 }
 
-// The output for a listing is made and written to standard output.
+// Makes the output for a listing and writes it to standard output.
 pub fn print_listing(listing: &[u8]) {
     let mut bytes = [0u8; PAGE];
     let n = put_listing(listing, &mut bytes);
