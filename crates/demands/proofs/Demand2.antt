@@ -18,7 +18,7 @@ use Rattle.walks.proofs.Tests.{bridge-is}
 use Rattle.walks.proofs.ByLinks.{visited-by-links}
 use Rattle.routes.specs.Plants.{trailOf}
 use Rattle.routes.proofs.Plants.{distance-fewest}
-use Rattle.trail.proofs.Trails.{trail-is, trail-by-legs}
+use Rattle.trail.proofs.Trails.{trail-is, trail-closed, trail-by-legs}
 use Rattle.planner.specs.Calls.{rewriting, overlaid, rereading}
 use Rattle.planner.proofs.Plans.{plan-ready}
 use Rattle.planner.proofs.Trailing.{lay-enough, laid-enough, trail-given, left-given}
@@ -41,6 +41,7 @@ plan-is p ok con =
       distances = distance-fewest p valid;
       by-legs = sym (trail-by-legs p ok con);
       trail = trail-is p ok con;
+      closed = trail-closed p ok con;
     }
 
 pub demand-2 : Demand2

@@ -119,6 +119,7 @@ pub record PlanIs (p : Plant) : Type 0 where
   -- the trail leg by leg; it is a closed walk from the start over exactly the arcs in use, of at most 20,479 hops
   pub by-legs : trailOf p ≡ legsOf p
   pub trail : IsTrail p (trailOf p)
+  pub closed : ClosedWalk p (trailOf p)
 
 pub record Demand2 : Type 0 where
   -- what was read is written as the bytes that were read, and what was written is read as the plant that was written

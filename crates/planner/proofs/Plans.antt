@@ -39,10 +39,6 @@ module _ (a : Answer Plant) (r : Decoded) (q : Reads a r) where
   pub read-refused : (k : Refusal) → r .verdict ≡ verdict.Refused k → a ≡ refused (numberOf k)
   read-refused k e = sym (q .answer) ∙ ap (λ (v : Verdict). verdictAnswer v >>= λ _. given (r .plant)) e
 
--- a verdict is not both
-pub not-sound : (k : Refusal) (v : Verdict) → v ≡ verdict.Refused k → v ≡ verdict.Sound → ⊥
-not-sound k v e f = given-refused tt (numberOf k) (sym (ap verdictAnswer f) ∙ ap verdictAnswer e)
-
 -- ---- refusals 1 to 9
 
 module _ (s : List ℕ) where

@@ -1,4 +1,3 @@
 pub mod DecimalLaws
-pub mod SizeLaws
 pub mod LaidLaws
 pub mod PutLaws
