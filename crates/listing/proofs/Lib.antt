@@ -12,3 +12,4 @@ pub mod ConditionLaws
 pub mod RoundTrip
 pub mod WriteRoundTrip
 pub mod Longest
+pub mod Front

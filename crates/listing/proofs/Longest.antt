@@ -20,16 +20,20 @@ use Rattle.listing.proofs.Refusing.{decode-gives}
 use Rattle.listing.proofs.RoundTrip.{none-of, write-read}
 use Rattle.listing.proofs.WriteRoundTrip.{sound-exactly}
 
--- a header with all its fields, and as many records with all theirs as a plant can have
+-- a record with all its fields
+abbrev pub longestRecord : ℕ
+longestRecord = 1 + widths (linkFields zeroLink)
+
+-- a header with all its fields, and as many such records as a plant can have
 abbrev pub longestListing : ℕ
-longestListing = 1 + widths headerFields + maxLinks * (1 + widths (linkFields zeroLink))
+longestListing = 1 + widths headerFields + maxLinks * longestRecord
 
 pub longest-is : longestListing ≡ 1285
 longest-is = refl
 
 -- ---- none is longer
 
-links-length : (n : ℕ) (before : Link) (s : List ℕ) → length s ≤ n * 5 + length (afterLinks n before s)
+links-length : (n : ℕ) (before : Link) (s : List ℕ) → length s ≤ n * longestRecord + length (afterLinks n before s)
 links-length zero before s = omega arith
 links-length (suc n) before s = omega (arith, read-length (linkFields before) s, links-length n (linkIn before s) (afterPart (linkFields before) s))
 
@@ -39,7 +43,7 @@ longest s p e =
     let k = headerIn s .count in
     omega (arith, read-length headerFields s, links-length k zeroLink (afterPart headerFields s), ap length (n .at-end), n .in-range .few-links)
 
-linksBytes-length : (before : Link) (ls : List Link) → length (linksBytes before ls) ≤ length ls * 5
+linksBytes-length : (before : Link) (ls : List Link) → length (linksBytes before ls) ≤ length ls * longestRecord
 unfolding linkBytes
 linksBytes-length before [] = omega arith
 linksBytes-length before (l ∷ ls) = rw length-append (omega (arith, part-longest (linkFields before) (l .first ∷ l .second ∷ l .tag ∷ []), linksBytes-length l ls))

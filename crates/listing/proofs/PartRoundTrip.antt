@@ -280,14 +280,17 @@ pub part-longest : (fs : List Field) (vs : List ℕ) → length (partBytes fs vs
 unfolding partBytes
 part-longest fs vs = omega (arith, body-length fs vs)
 
-size-length : (fs : List Field) (m : ℕ) → size m fs ≤ widths fs
+pub taken-length : (f : Field) (b : ℕ) → taken f b ≤ f .width
 unfolding taken
-size-length [] m = omega arith
-size-length (f ∷ fs) m = omega (arith, one (eqb (m % 2) 0), size-length fs (m / 2))
+taken-length f b = go (eqb b 0)
   where
-    one : (b : Bool) → choose b 0 (f .width) ≤ f .width
-    one true = omega arith
-    one false = omega arith
+    go : (c : Bool) → choose c 0 (f .width) ≤ f .width
+    go true = omega arith
+    go false = omega arith
+
+pub size-length : (fs : List Field) (m : ℕ) → size m fs ≤ widths fs
+size-length [] m = omega arith
+size-length (f ∷ fs) m = omega (arith, taken-length f (m % 2), size-length fs (m / 2))
 
 -- a part that was read, and the bytes after it
 pub read-length : (fs : List Field) (s : List ℕ) → length s ≤ 1 + widths fs + length (afterPart fs s)

@@ -39,7 +39,7 @@ module _ (switches : ℕ) where
       judge r = judged switches (linkFrom (r .0)) (r .1)
 
   -- k is what follows the records
-  links-tried : {B : Type 0} (n : ℕ) (before : Link) (s : List ℕ) (k : List Link × List ℕ → Answer B)
+  pub links-tried : {B : Type 0} (n : ℕ) (before : Link) (s : List ℕ) (k : List Link × List ℕ → Answer B)
       → (links switches n before s >>= k) ≡ trying (linksConditions switches n before s) (k (linksIn n before s, afterLinks n before s))
   unfolding links
   links-tried zero before s k = refl
@@ -60,11 +60,16 @@ module _ (switches : ℕ) where
 
 -- ---- the listing
 
-decode-tried : (s : List ℕ) → decode s ≡ trying (conditions s) (given (plantIn s))
-unfolding decode afterHeader finish conditions plantIn
-decode-tried s =
+pub decode-header : (s : List ℕ) → decode s ≡ trying (headerConditions s) (afterHeader (headerIn s) (afterPart headerFields s))
+unfolding decode
+decode-header s =
     ap (λ (a : Answer (Plant × List ℕ)). a >>= λ h. afterHeader (h .0) (h .1)) (header-tried s)
-    ∙ trying-then (headerConditions s) (given (h, t)) (λ h. afterHeader (h .0) (h .1))
+    ∙ trying-then (headerConditions s) (given (headerIn s, afterPart headerFields s)) (λ h. afterHeader (h .0) (h .1))
+
+decode-tried : (s : List ℕ) → decode s ≡ trying (conditions s) (given (plantIn s))
+unfolding afterHeader finish conditions plantIn
+decode-tried s =
+    decode-header s
     ∙ ap (trying (headerConditions s)) (links-tried (h .switches) (h .count) zeroLink t (λ r. finish h (r .0) (r .1)) ∙ sym (trying-append (linksConditions (h .switches) (h .count) zeroLink t) ((8, bytesRemain (afterLinks (h .count) zeroLink t)) ∷ []) (given (plantIn s))))
   where
     h : Plant

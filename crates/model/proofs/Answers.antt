@@ -69,6 +69,15 @@ trying-then {A} {B} (c ∷ cs) a f = go (c .1) (trying-then cs a f)
     go true e = refl
     go false e = e
 
+-- an answer matters only where none of the conditions that are tried before it holds
+pub trying-when : {A : Type 0} (cs : Conditions) (a b : Answer A) → (NoneHolds cs → a ≡ b) → trying cs a ≡ trying cs b
+trying-when [] a b h = h tt
+trying-when {A} (c ∷ cs) a b h = go (c .1) (λ e. trying-when cs a b (λ k. h (e, k)))
+  where
+    go : (t : Bool) → (t ≡ false → trying cs a ≡ trying cs b) → refuse (c .0) t (trying cs a) ≡ refuse (c .0) t (trying cs b)
+    go true f = refl
+    go false f = f refl
+
 pub none-append : (cs ds : Conditions) → NoneHolds (cs ++ ds) → NoneHolds cs × NoneHolds ds
 none-append [] ds h = (tt, h)
 none-append (c ∷ cs) ds h = let r = none-append cs ds (h .1) in ((h .0, r .0), r .1)

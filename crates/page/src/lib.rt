@@ -116,9 +116,7 @@ pub fn print_listing(listing: &[u8]) {
 
 // The plan of the listing that a file holds.
 //
-// The buffer has more places than the longest sound listing has bytes (1,285). Of a longer file the reader sees the first part only, and that decides: a
-// part of a listing ends at the latest where the longest sound listing ends, so that each of refusals 1 to 7 is found before the buffer's end, and if there
-// is none of them, bytes remain there too, which is refusal 8.
+// The buffer has more places than the longest sound listing has bytes, so that of a longer file what it holds decides: `printed-buffer` of proofs/Front.antt.
 pub fn print_file(file: i32) {
     let mut input = io::buffer();
     let n = io::read_full(file, &mut input);
