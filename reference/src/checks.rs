@@ -112,21 +112,7 @@ fn marked_quantities() {
 
 #[test]
 fn table_one_plant() {
-    // Source document 003, Table I, with s1 as switch 0.
-    let sketch = Sketch {
-        switches: 7,
-        pairs: vec![
-            (0, 4),
-            (4, 1),
-            (1, 2),
-            (2, 5),
-            (5, 6),
-            (6, 3),
-            (3, 2),
-            (5, 4),
-            (1, 0),
-        ],
-    };
+    let sketch = make::table_one();
     let listing = make::listing_of(&sketch.plain());
     let sum = calls::summary(&listing).unwrap();
     assert_eq!((sum.links, sum.bridges, sum.rules), (9, 0, 9));

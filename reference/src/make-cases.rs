@@ -5,7 +5,7 @@
 
 use reference::calls;
 use reference::cases::{Answerer, Case, NAMES};
-use reference::make::{self, Chance, Sketch};
+use reference::make::{self, Chance};
 use reference::net::Net;
 use reference::plant::Plant;
 use reference::search::Search;
@@ -528,20 +528,7 @@ fn drawn(chance: &mut Chance, call: u8) -> Case {
 
 /// The listings that document 01 names, with their triangle and the like.
 fn named_listings() -> Vec<Vec<u8>> {
-    let table_one = Sketch {
-        switches: 7,
-        pairs: vec![
-            (0, 4),
-            (4, 1),
-            (1, 2),
-            (2, 5),
-            (5, 6),
-            (6, 3),
-            (3, 2),
-            (5, 4),
-            (1, 0),
-        ],
-    };
+    let table_one = make::table_one();
     let mut listings: Vec<Vec<u8>> = [
         &[][..],
         &[0x00],

@@ -107,6 +107,24 @@ pub fn cycle(switches: usize) -> Sketch {
     sketch
 }
 
+/// The plant of source document 003, Table I, with s1 as switch 0.
+pub fn table_one() -> Sketch {
+    Sketch {
+        switches: 7,
+        pairs: vec![
+            (0, 4),
+            (4, 1),
+            (1, 2),
+            (2, 5),
+            (5, 6),
+            (6, 3),
+            (3, 2),
+            (5, 4),
+            (1, 0),
+        ],
+    }
+}
+
 /// A path and so many links from its last switch back to its first. Its
 /// trail goes round once for each of them.
 pub fn long(switches: usize, back: usize) -> Sketch {
