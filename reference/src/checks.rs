@@ -4,7 +4,7 @@
 use crate::calls::{self, Named};
 use crate::cases::{prefilled, Answerer, Case, Sum};
 use crate::listing;
-use crate::make::{self, Chance, Sketch};
+use crate::make::{self, Chance};
 use crate::net::Net;
 use crate::packet::{self, Fate, Order};
 use crate::plant::{Link, Plant, Refusal};
