@@ -6,3 +6,4 @@ pub mod Whole
 pub mod FromStart
 pub mod Filled
 pub mod Uses
+pub mod Cycles

@@ -1,3 +1,4 @@
 pub mod Flags
 pub mod Shows
 pub mod Steps
+pub mod Cycles

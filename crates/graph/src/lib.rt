@@ -1,13 +1,14 @@
 // The depth-first visit of a plant, by value, and what follows from it: which switches are reached, bridges, and arcs in use.
 ghost use mathlib.Core.Path.{_≡_};
-ghost use mathlib.Core.Bool.{false};
-ghost use Prim.Native.Nat.{_*_, _<_};
+ghost use mathlib.Core.Bool.{true};
+ghost use Prim.Native.Nat.{_+_, _*_, _<_};
 ghost use Rattle.model.specs.Limits.{maxSwitches, maxLinks};
 ghost use Rattle.model.specs.Sound.{Sound};
 ghost use Rattle.plant.specs.Links.{live};
 ghost use Rattle.walks.specs.Graph.{others, visitFrom, visited, connected, bridge, used};
 ghost use Rattle.graph.specs.Flags.{Flags, countSet};
 ghost use Rattle.graph.specs.Shows.{Shows};
+ghost use Rattle.graph.specs.Cycles.{EntryLinks, closes, Covered};
 ghost use Rattle.graph.specs.Steps.{farEnd, takesPart, enterOf, beginOf, At, Went, inUse};
 use plant::Link;
 use plant::Plant;
@@ -154,30 +155,140 @@ pub fn is_bridge(p: Plant, l: usize) -> bool
     !v.seen[j]
 }
 
-// Can link l be a bridge, after the visit v from the start? A link at a visited switch that the visit did not enter is none.
-fn may_be_bridge(p: Plant, v: Visited, l: usize) -> bool
+// The link by which the visit v from the start entered each switch. Of the two ends of an entered link, the one with the higher number was entered by it.
+fn entry_links(p: Plant, v: Visited) -> [usize; Plant::MAX_SWITCHES as usize]
+    requires { ⌜ Sound p ⌝ }
+    requires { ⌜ Shows v (visited p) ⌝ }
+    ensures { λ r. ⌜ EntryLinks p maxLinks r ⌝ }
+{
+    let mut up = [0usize; Plant::MAX_SWITCHES as usize];
+    let mut l: usize = 0;
+    while l < Plant::MAX_LINKS {
+        if v.entered[l] {
+            let k = p.links[l];
+            let x = k.first as usize;
+            let y = k.second as usize;
+            if v.rank[x] < v.rank[y] {
+                up[y] = l;
+            } else {
+                up[x] = l;
+            }
+        }
+        l += 1;
+    }
+    up
+}
+
+// Does link l close a cycle with the links that the visit v from the start entered?
+fn closes_cycle(p: Plant, v: Visited, l: usize) -> bool
     requires { ⌜ Sound p ⌝ }
     requires { ⌜ Shows v (visited p) ⌝ }
     requires { ⌜ l < maxLinks ⌝ }
-    ensures { λ r. ⌜ (r ≡ false → bridge p l ≡ false) ⌝ }
+    ensures { λ r. ⌜ r ≡ closes p l ⌝ }
 {
+    if !is_live(p, l) {
+        return false;
+    }
+    if v.entered[l] {
+        return false;
+    }
     let k = p.links[l];
     let x = k.first as usize;
-    v.entered[l] || !v.seen[x]
+    v.seen[x]
 }
 
-// A flag for each link: is it a bridge? Only links that can be one are tested.
+// The flags of the links on a cycle, with those of the cycle that link k closes. From the two ends of k, the one with the higher number goes back over the
+// link by which it was entered, until the two meet. The sum of their numbers falls.
+fn climb(
+    p: Plant,
+    v: Visited,
+    up: [usize; Plant::MAX_SWITCHES as usize],
+    c0: [bool; Plant::MAX_LINKS],
+    k: usize,
+) -> [bool; Plant::MAX_LINKS]
+    requires { ⌜ Sound p ⌝ }
+    requires { ⌜ Shows v (visited p) ⌝ }
+    requires { ⌜ EntryLinks p maxLinks up ⌝ }
+    requires { ⌜ k < maxLinks ⌝ }
+    requires { ⌜ Covered p k c0 ⌝ }
+    requires { ⌜ closes p k ≡ true ⌝ }
+    ensures { λ r. ⌜ Covered p (k + 1) r ⌝ }
+{
+    let mut c = c0;
+    let ends = p.links[k];
+    let mut x = ends.first;
+    let mut y = ends.second;
+    while x != y {
+        let i = x as usize;
+        let j = y as usize;
+        if v.rank[i] < v.rank[j] {
+            let l = up[j];
+            c[l] = true;
+            y = far(p.links[l], y);
+        } else {
+            let l = up[i];
+            c[l] = true;
+            x = far(p.links[l], x);
+        }
+    }
+    c
+}
+
+// A flag for each link: is it entered, and on a cycle that another link closes?
+fn covered_links(
+    p: Plant,
+    v: Visited,
+    up: [usize; Plant::MAX_SWITCHES as usize],
+) -> [bool; Plant::MAX_LINKS]
+    requires { ⌜ Sound p ⌝ }
+    requires { ⌜ Shows v (visited p) ⌝ }
+    requires { ⌜ EntryLinks p maxLinks up ⌝ }
+    ensures { λ r. ⌜ Covered p maxLinks r ⌝ }
+{
+    let mut c = [false; Plant::MAX_LINKS];
+    let mut k: usize = 0;
+    while k < Plant::MAX_LINKS {
+        if closes_cycle(p, v, k) {
+            let more = climb(p, v, up, c, k);
+            c = more;
+        }
+        k += 1;
+    }
+    c
+}
+
+// Is link l a bridge, by the visit v from the start and the flags of the links on a cycle? An entered link is one if it is on no cycle, and another link at
+// a visited switch is none. A link that the visit did not come to is tested by a visit of its own.
+fn is_bridge_by(p: Plant, v: Visited, c: [bool; Plant::MAX_LINKS], l: usize) -> bool
+    requires { ⌜ Sound p ⌝ }
+    requires { ⌜ Shows v (visited p) ⌝ }
+    requires { ⌜ Covered p maxLinks c ⌝ }
+    requires { ⌜ l < maxLinks ⌝ }
+    ensures { λ r. ⌜ r ≡ bridge p l ⌝ }
+{
+    if v.entered[l] {
+        return !c[l];
+    }
+    let k = p.links[l];
+    let x = k.first as usize;
+    if v.seen[x] {
+        return false;
+    }
+    is_bridge(p, l)
+}
+
+// A flag for each link: is it a bridge?
 pub fn bridges(p: Plant) -> [bool; Plant::MAX_LINKS]
     requires { ⌜ Sound p ⌝ }
     ensures { λ r. ⌜ Flags maxLinks (bridge p) r ⌝ }
 {
     let v = visit_start(p);
+    let up = entry_links(p, v);
+    let c = covered_links(p, v, up);
     let mut b = [false; Plant::MAX_LINKS];
     let mut l: usize = 0;
     while l < Plant::MAX_LINKS {
-        if may_be_bridge(p, v, l) {
-            b[l] = is_bridge(p, l);
-        }
+        b[l] = is_bridge_by(p, v, c, l);
         l += 1;
     }
     b

@@ -7,6 +7,7 @@ pub mod Visited
 pub mod Tests
 pub mod Orientation
 pub mod Counting
+pub mod Cycles
 pub mod Fewest
 pub mod Attained
 pub mod ByLinks
