@@ -123,6 +123,10 @@ module _ (p : Plant) where
                   absurd (omega (arith, good .up (2 * l) h, ap (rk p) (tail-even p l), ap (rk p) (head-even p l), shows .ranks (first p l), shows .ranks (second p l)))
               go (inr h) = rw (head-odd p l) at (entry-put (2 * l + 1) h (odd-half l))
 
+    -- past the links of the plant there is nothing to tell
+    pub entry-all : {n : ℕ} {up : List ℕ} → EntryLinks p n up → p .count ≤ n → EntryLinks p maxLinks up
+    entry-all e l = record { places = e .places; tells = λ a h k. e .tells a h (omega (arith, live-below p (a / 2) (entered-arc p ok a h))) }
+
     -- ---- links that close a cycle
 
     module _ (l : ℕ) where
@@ -280,6 +284,14 @@ module _ (p : Plant) where
       places = c .places;
       sure = c .sure;
       all = λ a h f. upto {P = λ m. closes p m ≡ true → Level p a (first p m) (second p m)} (c .all a h f) (λ q. absurd (not-both _ q e));
+    }
+
+    -- past the links of the plant none closes a cycle
+    pub covered-all : {n : ℕ} {flags : List Bool} → Covered p n flags → p .count ≤ n → Covered p maxLinks flags
+    covered-all c l = record {
+      places = c .places;
+      sure = c .sure;
+      all = λ a h f k i e. c .all a h f k (omega (arith, live-below p k (closes-live k e))) e;
     }
 
     -- an entered link is a bridge where it has no flag

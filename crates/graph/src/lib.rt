@@ -162,8 +162,9 @@ fn entry_links(p: Plant, v: Visited) -> [usize; Plant::MAX_SWITCHES as usize]
     ensures { λ r. ⌜ EntryLinks p maxLinks r ⌝ }
 {
     let mut up = [0usize; Plant::MAX_SWITCHES as usize];
+    let n = p.count as usize;
     let mut l: usize = 0;
-    while l < Plant::MAX_LINKS {
+    while l < n {
         if v.entered[l] {
             let k = p.links[l];
             let x = k.first as usize;
@@ -246,8 +247,9 @@ fn covered_links(
     ensures { λ r. ⌜ Covered p maxLinks r ⌝ }
 {
     let mut c = [false; Plant::MAX_LINKS];
+    let n = p.count as usize;
     let mut k: usize = 0;
-    while k < Plant::MAX_LINKS {
+    while k < n {
         if closes_cycle(p, v, k) {
             let more = climb(p, v, up, c, k);
             c = more;
@@ -286,8 +288,9 @@ pub fn bridges(p: Plant) -> [bool; Plant::MAX_LINKS]
     let up = entry_links(p, v);
     let c = covered_links(p, v, up);
     let mut b = [false; Plant::MAX_LINKS];
+    let n = p.count as usize;
     let mut l: usize = 0;
-    while l < Plant::MAX_LINKS {
+    while l < n {
         b[l] = is_bridge_by(p, v, c, l);
         l += 1;
     }

@@ -9,10 +9,10 @@ use Rattle.graph.proofs.bridges.Statement.{statement}
 use Rattle.graph.proofs.bridges.Tie as tie
 
 abbrev Inv-loop : tie.InvT-loop
-Inv-loop p v c b₀ l₀ b l = (l ≤ maxLinks) × Filled maxLinks (bridge p) l b
+Inv-loop p v c b₀ n l₀ b l = (l ≤ n) × Filled maxLinks (bridge p) l b
 
 abbrev μ-loop : tie.MeasureT-loop
-μ-loop p v c b₀ l₀ b l = maxLinks - l
+μ-loop p v c b₀ n l₀ b l = n - l
 
 visit-start-requires : tie.Need-visit-start-requires Inv-loop μ-loop
 visit-start-requires c κs = c .pre
@@ -23,16 +23,19 @@ entry-links-requires c κs = (c .before .pre, c .visit-start .ensures)
 covered-links-requires : tie.Need-covered-links-requires Inv-loop μ-loop
 covered-links-requires c κs = (c .before .before .pre, (c .before .visit-start .ensures, c .entry-links .ensures))
 
+cast-n : tie.Need-cast-n Inv-loop μ-loop
+cast-n c = omega arith
+
 loop-holds : tie.Need-loop-holds Inv-loop μ-loop
-loop-holds c = (omega arith, filled-none maxLinks (bridge (c .before .before .before .args .p)))
+loop-holds c = (omega arith, filled-none maxLinks (bridge (c .before .before .before .before .args .p)))
 
 is-bridge-by-requires : tie.Need-is-bridge-by-requires Inv-loop μ-loop
 is-bridge-by-requires c κs =
-    let s = c .before .before .before .before in
-    (s .before .pre, (s .visit-start .ensures, (c .before .before .covered-links .ensures, c .loop-test .taken)))
+    let s = c .before .before .before .before .before in
+    (s .before .pre, (s .visit-start .ensures, (c .before .before .before .covered-links .ensures, omega (arith, s .before .pre .few-links))))
 
 array-write-b : tie.Need-array-write-b Inv-loop μ-loop
-array-write-b c = omega arith
+array-write-b c = omega (arith, c .before .before .before .before .before .before .before .pre .few-links)
 
 add-l : tie.Need-add-l Inv-loop μ-loop
 add-l c = omega arith
@@ -43,14 +46,14 @@ loop-less c = omega arith
 loop-again : tie.Need-loop-again Inv-loop μ-loop
 loop-again c =
     let k = c .before .before .loop in
-    let p = c .before .before .before .before .before .before .args .p in
-    (omega arith, filled-put maxLinks (bridge p) (k .l) (k .b) (k .inv .1) _ (c .before .loop-test .taken) (c .is-bridge-by .ensures))
+    let s = c .before .before .before .before .before .before .before in
+    (omega arith, filled-put maxLinks (bridge (s .args .p)) (k .l) (k .b) (k .inv .1) _ (omega (arith, s .pre .few-links)) (c .is-bridge-by .ensures))
 
 returns : tie.Need-returns Inv-loop μ-loop
 returns c =
     let k = c .before .loop in
-    let s = c .before .before .before .before .before in
-    filled-all maxLinks (bridge (s .args .p)) (k .l) (k .b) (k .inv .1) (λ l h. bridge-past (s .args .p) l (omega (arith, s .pre .few-links)))
+    let s = c .before .before .before .before .before .before in
+    filled-all maxLinks (bridge (s .args .p)) (k .l) (k .b) (k .inv .1) (λ l h. bridge-past (s .args .p) l (omega arith))
 
 pub bridges-spec : {M : Type 1} → statement M
 bridges-spec =
@@ -61,6 +64,7 @@ bridges-spec =
     visit-start-requires
     entry-links-requires
     covered-links-requires
+    cast-n
     loop-holds
     is-bridge-by-requires
     array-write-b

@@ -1,31 +1,33 @@
 -- `graph::covered_links` meets its contract. The loop's invariant: the links below k that close a cycle are climbed from. Assumes nothing.
-use mathlib.Core.Path.{_≡_, sym, _∙_}
+use mathlib.Core.Path.{sym, _∙_}
 use mathlib.Core.Logic.{⊎-elim}
 use Prim.Native.Nat.{_-_, _≤_}
 use native.Mathlib.Omega.{arith}
-use Rattle.model.specs.Limits.{maxLinks}
 use Rattle.graph.specs.Cycles.{Covered}
-use Rattle.graph.proofs.Cycles.{covered-none, covered-pass}
+use Rattle.graph.proofs.Cycles.{covered-none, covered-pass, covered-all}
 use Rattle.graph.proofs.covered_links.Statement.{statement}
 use Rattle.graph.proofs.covered_links.Tie as tie
 
 abbrev Inv-loop : tie.InvT-loop
-Inv-loop p v up c₀ k₀ c k = (k ≤ maxLinks) × Covered p k c
+Inv-loop p v up c₀ n k₀ c k = (k ≤ n) × Covered p k c
 
 abbrev μ-loop : tie.MeasureT-loop
-μ-loop p v up c₀ k₀ c k = maxLinks - k
+μ-loop p v up c₀ n k₀ c k = n - k
+
+cast-n : tie.Need-cast-n Inv-loop μ-loop
+cast-n c = omega arith
 
 loop-holds : tie.Need-loop-holds Inv-loop μ-loop
-loop-holds c = (omega arith, covered-none (c .args .p) (c .pre .0))
+loop-holds c = (omega arith, covered-none (c .before .args .p) (c .before .pre .0))
 
 closes-cycle-requires : tie.Need-closes-cycle-requires Inv-loop μ-loop
-closes-cycle-requires c κs = let s = c .before .before in (s .pre .0, (s .pre .1 .0, c .loop-test .taken))
+closes-cycle-requires c κs = let h = c .before .before .before .pre in (h .0, (h .1 .0, omega (arith, h .0 .few-links)))
 
 climb-requires : tie.Need-climb-requires Inv-loop μ-loop
 climb-requires c κs =
-    let s = c .before .before .before .before in
+    let s = c .before .before .before .before .before in
     let k = c .before .before .before .loop in
-    (s .pre .0, (s .pre .1 .0, (s .pre .1 .1, (c .before .before .loop-test .taken, (k .inv .1, sym (c .before .closes-cycle .ensures) ∙ c .if1 .taken)))))
+    (s .pre .0, (s .pre .1 .0, (s .pre .1 .1, (omega (arith, s .pre .0 .few-links), (k .inv .1, sym (c .before .closes-cycle .ensures) ∙ c .if1 .taken)))))
 
 add-k : tie.Need-add-k Inv-loop μ-loop
 add-k c = omega arith
@@ -35,7 +37,7 @@ loop-less c = omega arith
 
 loop-again : tie.Need-loop-again Inv-loop μ-loop
 loop-again c =
-    let s = c .before .before .before .before in
+    let s = c .before .before .before .before .before in
     let k = c .before .before .before .loop in (
       omega arith,
       ⊎-elim (λ w. rw (w .2) (w .1 .ensures))
@@ -43,10 +45,7 @@ loop-again c =
     )
 
 returns : tie.Need-returns Inv-loop μ-loop
-returns c =
-    let k = c .before .loop in
-    let e : k .k ≡ maxLinks = omega arith in
-    rw e at (k .inv .1)
+returns c = covered-all _ (c .before .before .before .pre .0) (c .before .loop .inv .1) (c .loop-test .left)
 
 pub covered-links-spec : {M : Type 1} → statement M
 covered-links-spec =
@@ -54,6 +53,7 @@ covered-links-spec =
     (tie.spec
     Inv-loop
     μ-loop
+    cast-n
     loop-holds
     closes-cycle-requires
     climb-requires

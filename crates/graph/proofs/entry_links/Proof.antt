@@ -1,31 +1,32 @@
 -- `graph::entry_links` meets its contract. The loop's invariant: the links below l are told. Assumes nothing.
-use mathlib.Core.Path.{_≡_}
 use mathlib.Core.Logic.{⊎-elim}
 use Prim.Native.Nat.{_-_, _≤_}
 use native.Mathlib.Omega.{arith}
-use Rattle.model.specs.Limits.{maxLinks}
 use Rattle.graph.specs.Cycles.{EntryLinks}
-use Rattle.graph.proofs.Cycles.{entry-none, entry-pass, entered-ends, entry-second, entry-first}
+use Rattle.graph.proofs.Cycles.{entry-none, entry-pass, entered-ends, entry-second, entry-first, entry-all}
 use Rattle.graph.proofs.entry_links.Statement.{statement}
 use Rattle.graph.proofs.entry_links.Tie as tie
 
 abbrev Inv-loop : tie.InvT-loop
-Inv-loop p v up₀ l₀ up l = (l ≤ maxLinks) × EntryLinks p l up
+Inv-loop p v up₀ n l₀ up l = (l ≤ n) × EntryLinks p l up
 
 abbrev μ-loop : tie.MeasureT-loop
-μ-loop p v up₀ l₀ up l = maxLinks - l
+μ-loop p v up₀ n l₀ up l = n - l
+
+cast-n : tie.Need-cast-n Inv-loop μ-loop
+cast-n c = omega arith
 
 loop-holds : tie.Need-loop-holds Inv-loop μ-loop
 loop-holds c = (omega arith, entry-none (c .args .t1) (c .pre .0))
 
 element-copy-out-if1 : tie.Need-element-copy-out-if1 Inv-loop μ-loop
-element-copy-out-if1 c = omega arith
+element-copy-out-if1 c = omega (arith, c .before .before .pre .0 .few-links)
 
 mul-k : tie.Need-mul-k Inv-loop μ-loop
-mul-k c = omega arith
+mul-k c = omega (arith, c .before .before .before .before .pre .0 .few-links)
 
 element-copy-out-k : tie.Need-element-copy-out-k Inv-loop μ-loop
-element-copy-out-k c = omega arith
+element-copy-out-k c = omega (arith, c .before .before .before .before .pre .0 .few-links)
 
 cast-x : tie.Need-cast-x Inv-loop μ-loop
 cast-x c = omega arith
@@ -86,10 +87,7 @@ loop-again c =
     )
 
 returns : tie.Need-returns Inv-loop μ-loop
-returns c =
-    let k = c .before .loop in
-    let e : k .l ≡ maxLinks = omega arith in
-    rw e at (k .inv .1)
+returns c = entry-all _ (c .before .before .pre .0) (c .before .loop .inv .1) (c .loop-test .left)
 
 pub entry-links-spec : {M : Type 1} → statement M
 entry-links-spec =
@@ -97,6 +95,7 @@ entry-links-spec =
     (tie.spec
     Inv-loop
     μ-loop
+    cast-n
     loop-holds
     element-copy-out-if1
     mul-k
