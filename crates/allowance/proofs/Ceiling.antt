@@ -11,7 +11,7 @@ use Rattle.lists.specs.Tests.{choose}
 use Rattle.lists.proofs.Tests.{eq?}
 use Rattle.lists.specs.Least.{least}
 use Rattle.lists.proofs.Least.{least-top, least-passes, least-le}
-use Rattle.model.specs.Limits.{maxLinks}
+use Rattle.limits.specs.Limits.{maxLinks}
 use Rattle.allowance.specs.Allowance.{enough, allowance, clipped}
 
 pub clipped-fits : (n : ℕ) → n ≤ maxLinks → clipped n ≡ n

@@ -4,7 +4,7 @@ use Prim.Native.Nat.{ℕ, _^_}
 use lib.Dec.{leb}
 use Rattle.lists.specs.Tests.{choose}
 use Rattle.lists.specs.Least.{least}
-use Rattle.model.specs.Limits.{maxLinks}
+use Rattle.limits.specs.Limits.{maxLinks}
 
 -- are 2 ^ k at least n?
 abbrev pub enough : ℕ → ℕ → Bool

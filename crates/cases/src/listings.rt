@@ -2,8 +2,8 @@
 use crate::checksum;
 use crate::input;
 use crate::show;
+use answers::Verdict;
 use listing::Decoded;
-use listing::Verdict;
 use listing::Written;
 use planner::Numbers;
 use planner::Summary;
@@ -22,7 +22,7 @@ fn show_plant(p: Plant) {
 fn show_decoded(d: Decoded) {
     let v = d.verdict;
     match v {
-        Verdict::Sound => {
+        Verdict::Accepted => {
             let p = d.plant;
             show_plant(p);
         }
@@ -81,7 +81,7 @@ fn bridges(listing: &[u8]) {
     let b = planner::find_bridges(listing);
     let v = b.verdict;
     match v {
-        Verdict::Sound => {
+        Verdict::Accepted => {
             let d = planner::plan(listing);
             let n = d.plant.count;
             let flags = b.flags;
@@ -99,7 +99,7 @@ fn rules(listing: &[u8]) {
     let t = planner::forwarding_table(listing);
     let v = t.verdict;
     match v {
-        Verdict::Sound => {
+        Verdict::Accepted => {
             let table = t.table;
             show_table(table);
         }

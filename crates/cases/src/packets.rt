@@ -2,7 +2,7 @@
 use crate::checksum;
 use crate::input;
 use crate::show;
-use listing::Verdict;
+use answers::Verdict;
 use order::Order;
 use order::Span;
 use probing::Named;
@@ -47,7 +47,7 @@ fn order(listing: &[u8], switch: u8, trail: &[u16]) {
     let r = probing::order_of_links(listing, switch, trail);
     let v = r.verdict;
     match v {
-        Verdict::Sound => {
+        Verdict::Accepted => {
             let o = r.order;
             show_order(o);
         }

@@ -1,6 +1,6 @@
 // Prints parts of a line.
+use answers::Refusal;
 use libc::STDOUT_FILENO;
-use plant::Refusal;
 use search::Search;
 
 pub fn word(text: &[u8]) {

@@ -3,7 +3,7 @@ use mathlib.Core.Path.{_≡_}
 use mathlib.Core.List.{List}
 use Prim.Native.Nat.{ℕ}
 use Rattle.plant.specs.declared.Plant.{Plant}
-use Rattle.plant.specs.Refusals.{given, refused}
+use Rattle.answers.specs.Answers.{given, refused}
 use Rattle.walks.proofs.Live.{all-live}
 use Rattle.planner.specs.Planning.{planningAt}
 use Rattle.search.specs.declared.Search.{Search}

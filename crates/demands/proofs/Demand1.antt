@@ -8,9 +8,9 @@ use native.Mathlib.Omega.{arith}
 use lib.ListN.{length}
 use Rattle.lists.proofs.Tests.{true-T, false-T, not-true-false}
 use Rattle.plant.specs.declared.Plant.{Plant}
-use Rattle.plant.specs.Refusals.{Answer, given, refused, refuse, _>>=_}
-use Rattle.model.specs.Answers.{Conditions}
-use Rattle.model.proofs.Answers.{given-refused, refused-refused, trying, trying-append, trying-then, then-assoc, none-trying, refused-exactly, otherwise-none}
+use Rattle.answers.specs.Answers.{Answer, given, refused, refuse, _>>=_}
+use Rattle.answers.specs.Checks.{Conditions, trying}
+use Rattle.answers.proofs.Checks.{given-refused, refused-refused, trying-append, trying-then, then-assoc, none-trying, refused-exactly, otherwise-none}
 use Rattle.listing.specs.Field.{Bytes}
 use Rattle.listing.specs.Listing.{decode, encode}
 use Rattle.listing.specs.Writing.{soundPlant, bufferShort, written}

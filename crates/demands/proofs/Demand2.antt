@@ -6,8 +6,8 @@ use native.Mathlib.Omega.{arith}
 use borrow.Author.Tests.{le-ltb}
 use lib.ListN.{length}
 use Rattle.plant.specs.declared.Plant.{Plant}
-use Rattle.plant.specs.Refusals.{given}
-use Rattle.model.specs.Sound.{Sound}
+use Rattle.answers.specs.Answers.{given}
+use Rattle.limits.specs.Sound.{Sound}
 use Rattle.listing.specs.Listing.{decode, encode}
 use Rattle.listing.specs.Writing.{bufferShort}
 use Rattle.listing.proofs.RoundTrip.{read-write, write-read}

@@ -3,7 +3,7 @@ use mathlib.Core.Path.{_≡_, sym, ap}
 use mathlib.Core.List.{List}
 use Prim.Native.Nat.{ℕ}
 use Rattle.plant.specs.declared.Plant.{Plant}
-use Rattle.plant.specs.Refusals.{given}
+use Rattle.answers.specs.Answers.{given}
 use Rattle.listing.specs.Field.{Bytes}
 use Rattle.walks.specs.Graph.{liveLinks}
 use Rattle.walks.proofs.Live.{all-live}

@@ -3,8 +3,8 @@ use mathlib.Core.Path.{_≡_, sym, _∙_, subst}
 use mathlib.Core.List.{List}
 use Prim.Native.Nat.{ℕ}
 use Rattle.plant.specs.declared.Plant.{Plant}
-use Rattle.plant.specs.Refusals.{Answer, given}
-use Rattle.model.proofs.Answers.{given-given}
+use Rattle.answers.specs.Answers.{Answer, given}
+use Rattle.answers.proofs.Checks.{given-given}
 use Rattle.listing.specs.Field.{Bytes}
 use Rattle.walks.specs.Graph.{liveLinks}
 use Rattle.planner.specs.Planning.{planningAt}

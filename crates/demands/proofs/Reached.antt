@@ -9,10 +9,10 @@ use native.Mathlib.Omega.{arith}
 use Rattle.lists.specs.Tests.{choose}
 use Rattle.lists.proofs.Tests.{bool?, eq?}
 use Rattle.plant.specs.declared.Plant.{Plant}
-use Rattle.plant.specs.Refusals.{given}
-use Rattle.model.proofs.Answers.{given-refused, given-given}
-use Rattle.model.specs.Limits.{maxLinks}
-use Rattle.model.specs.Sound.{Sound}
+use Rattle.answers.specs.Answers.{given}
+use Rattle.answers.proofs.Checks.{given-refused, given-given}
+use Rattle.limits.specs.Limits.{maxLinks}
+use Rattle.limits.specs.Sound.{Sound}
 use Rattle.walks.specs.Graph.{Connected, liveLinks}
 use Rattle.search.specs.declared.Search.{Search}
 use Rattle.search.specs.declared.Search.the-variants.{AllUp, Down}

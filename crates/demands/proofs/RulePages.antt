@@ -10,7 +10,7 @@ use Rattle.lists.specs.Members.{In, Distinct}
 use Rattle.lists.specs.Numbers.{range, keep}
 use Rattle.lists.proofs.Numbers.{in-range, keep-in, in-keep, range-distinct, keep-distinct}
 use Rattle.plant.specs.declared.Plant.{Plant}
-use Rattle.model.specs.Sound.{Sound}
+use Rattle.limits.specs.Sound.{Sound}
 use Rattle.walks.specs.Graph.{Connected, used, liveLinks, bridges}
 use Rattle.walks.proofs.Live.{live-below}
 use Rattle.walks.proofs.Orientation.{used-arc}

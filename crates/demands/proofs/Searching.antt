@@ -10,8 +10,8 @@ use lib.Dec.{ltb}
 use Rattle.lists.specs.Tests.{choose}
 use Rattle.lists.proofs.Tests.{eq?, not-both, not-false-true}
 use Rattle.plant.specs.declared.Plant.{Plant}
-use Rattle.model.specs.Limits.{maxLinks}
-use Rattle.model.specs.Sound.{Sound}
+use Rattle.limits.specs.Limits.{maxLinks}
+use Rattle.limits.specs.Sound.{Sound}
 use Rattle.walks.specs.Arcs.{Valid}
 use Rattle.walks.specs.Graph.{Connected, liveLinks}
 use Rattle.walks.proofs.Live.{all-live}

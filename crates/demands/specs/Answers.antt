@@ -3,7 +3,7 @@ use mathlib.Core.Path.{_≡_}
 use mathlib.Core.List.{List}
 use Prim.Native.Nat.{ℕ}
 use Rattle.plant.specs.declared.Plant.{Plant}
-use Rattle.plant.specs.Refusals.{Answer, given, refused, numberOf}
+use Rattle.answers.specs.Answers.{Answer, given, refused, numberOf}
 use Rattle.planner.specs.Planning.{planningAt}
 use Rattle.search.specs.declared.Search.{Search}
 use Rattle.search.specs.declared.Progress.{Progress}

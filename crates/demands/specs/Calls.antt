@@ -1,7 +1,7 @@
 -- What the calls to a search that are given a listing answer: 1 to 9 and then 11, or the result.
 use mathlib.Core.List.{List}
 use Prim.Native.Nat.{ℕ}
-use Rattle.plant.specs.Refusals.{Answer, given, _>>=_}
+use Rattle.answers.specs.Answers.{Answer, given, _>>=_}
 use Rattle.walks.specs.Graph.{liveLinks}
 use Rattle.planner.specs.Planning.{planningAt}
 use Rattle.search.specs.declared.Search.{Search}

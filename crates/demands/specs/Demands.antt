@@ -12,9 +12,9 @@ use Rattle.lists.specs.Count.{count}
 use Rattle.lists.specs.Numbers.{range, keep}
 use Rattle.plant.specs.declared.Plant.{Plant}
 use Rattle.plant.specs.Links.{live}
-use Rattle.plant.specs.Refusals.{Answer, given, refused}
-use Rattle.model.specs.Answers.{Conditions, FirstHolds}
-use Rattle.model.specs.Sound.{Sound}
+use Rattle.answers.specs.Answers.{Answer, given, refused}
+use Rattle.answers.specs.Checks.{Conditions, FirstHolds}
+use Rattle.limits.specs.Sound.{Sound}
 use Rattle.listing.specs.Field.{Bytes}
 use Rattle.listing.specs.Listing.{decode, encode}
 use Rattle.listing.specs.Writing.{written, bufferAfter}

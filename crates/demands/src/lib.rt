@@ -1,7 +1,7 @@
 // The calls to a search that are given a listing: a new search, and a list of calls after it. Each begins with the refusals of planning at a
 // named switch (1 to 9, then 11).
-use listing::Verdict;
-use plant::Refusal;
+use answers::Refusal;
+use answers::Verdict;
 use search::Progress;
 use search::Search;
 ghost use mathlib.Core.Path.{_≡_};
@@ -28,7 +28,7 @@ pub fn new_search(listing: &[u8], switch: u8) -> Begun
     let d = planner::plan_at(listing, switch);
     let v = d.verdict;
     match v {
-        Verdict::Sound => Begun::State(Search::new(d.plant.count)),
+        Verdict::Accepted => Begun::State(Search::new(d.plant.count)),
         Verdict::Refused(k) => Begun::Refused(k),
     }
 }
@@ -40,7 +40,7 @@ pub fn perform(listing: &[u8], switch: u8, calls: &[u8]) -> Performed
     let d = planner::plan_at(listing, switch);
     let v = d.verdict;
     match v {
-        Verdict::Sound => Performed::Done(search::perform(d.plant.count, calls)),
+        Verdict::Accepted => Performed::Done(search::perform(d.plant.count, calls)),
         Verdict::Refused(k) => Performed::Refused(k),
     }
 }

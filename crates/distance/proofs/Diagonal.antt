@@ -8,7 +8,7 @@ use lib.Dec.{eqb, eqb→eq, eqb-refl, ltb, ltb→lt, lt→ltb}
 use lib.ListN.{replicate}
 use Rattle.lists.specs.Tests.{choose}
 use Rattle.lists.proofs.Tests.{choose-true, choose-false, T-true, true-T, same-test, and-right, and-both, and-comm, and-when}
-use Rattle.model.specs.Limits.{maxSwitches}
+use Rattle.limits.specs.Limits.{maxSwitches}
 use Rattle.distance.specs.Distances.{apartOf}
 use Rattle.distance.proofs.Tables.{Holds, holds-table, flat-holds, put, put-cases, put-shape}
 

@@ -10,7 +10,7 @@ use native.Mathlib.Numerals.{add-one}
 use lib.Dec.{T, not-T, eqb, eqb→eq, leb, leb→le, le→leb, nleb→lt}
 use Rattle.lists.specs.Tests.{choose}
 use Rattle.lists.proofs.Tests.{choose-true, choose-false, eq?, eq→eqb, T-or}
-use Rattle.model.specs.Limits.{maxSwitches}
+use Rattle.limits.specs.Limits.{maxSwitches}
 use Rattle.routes.specs.Distance.{dist}
 use Rattle.routes.proofs.Distances.{dist-top, dist-self, dist-zero, dist-hop, dist-down}
 use Rattle.distance.specs.Table.{cell, tableOf}

@@ -9,7 +9,7 @@ use lib.Seq.{getD-set-same, getD-set-other, ext-getD}
 use Rattle.lists.proofs.Tests.{eq?}
 use Rattle.lists.proofs.Numbers.{values-length, values-at}
 use Rattle.lists.specs.Numbers.{range}
-use Rattle.model.specs.Limits.{maxSwitches}
+use Rattle.limits.specs.Limits.{maxSwitches}
 use Rattle.distance.specs.Table.{cell, tableOf}
 
 -- ---- the shape of a table, and its cells

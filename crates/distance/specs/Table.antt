@@ -3,7 +3,7 @@ use mathlib.Core.List.{List, [], map}
 use Prim.Native.Nat.{ℕ}
 use lib.ListN.{getD}
 use Rattle.lists.specs.Numbers.{range}
-use Rattle.model.specs.Limits.{maxSwitches}
+use Rattle.limits.specs.Limits.{maxSwitches}
 
 -- what stands in row i at place j
 abbrev pub cell : List (List ℕ) → ℕ → ℕ → ℕ

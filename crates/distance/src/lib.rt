@@ -1,55 +1,29 @@
 // The fewest hops over arcs in use between every two switches, as a table by value.
 ghost use mathlib.Core.Path.{_≡_};
-ghost use Prim.Native.Nat.{_+_, _%_, _<_};
+ghost use Prim.Native.Nat.{_+_, _<_};
 ghost use lib.ListN.{replicate};
-ghost use Rattle.model.specs.Limits.{maxSwitches};
-ghost use Rattle.model.specs.Sound.{Sound};
-ghost use Rattle.walks.specs.Arcs.{side};
+ghost use Rattle.limits.specs.Limits.{maxSwitches};
+ghost use Rattle.limits.specs.Sound.{Sound};
 ghost use Rattle.distance.specs.Distances.{apartOf, knownOf, distancesOf};
-use plant::Link;
 use plant::Plant;
-
-// A place for each switch that a plant can have.
-pub const PLACES: usize = Plant::MAX_SWITCHES as usize;
-
-// A place for each label that a plant can have.
-pub const LABELS: usize = 2 * Plant::MAX_LINKS;
-
-// The switch that the arc of label a leaves, where l is the link that it crosses.
-pub fn tail_of(l: Link, a: usize) -> u8
-    ensures { λ r. ⌜ r ≡ side (a % 2) (l .first) (l .second) ⌝ }
-{
-    if a % 2 == 0 {
-        return l.first;
-    }
-    l.second
-}
-
-// The switch that it reaches.
-pub fn head_of(l: Link, a: usize) -> u8
-    ensures { λ r. ⌜ r ≡ side (a % 2) (l .second) (l .first) ⌝ }
-{
-    if a % 2 == 0 {
-        return l.second;
-    }
-    l.first
-}
+use plant::head_of;
+use plant::tail_of;
 
 // A table with v in every place.
-fn flat(v: u8) -> [[u8; PLACES]; PLACES]
+fn flat(v: u8) -> [[u8; Plant::PLACES]; Plant::PLACES]
     ensures { λ r. ⌜ r ≡ replicate maxSwitches (replicate maxSwitches v) ⌝ }
 {
-    let row = [v; PLACES];
-    [row; PLACES]
+    let row = [v; Plant::PLACES];
+    [row; Plant::PLACES]
 }
 
 // A table with 0 from each switch to itself, and s elsewhere.
-fn apart(s: u8) -> [[u8; PLACES]; PLACES]
+fn apart(s: u8) -> [[u8; Plant::PLACES]; Plant::PLACES]
     ensures { λ r. ⌜ r ≡ apartOf s ⌝ }
 {
     let mut t = flat(s);
     let mut i: usize = 0;
-    while i < PLACES {
+    while i < Plant::PLACES {
         t[i][i] = 0;
         i += 1;
     }
@@ -57,7 +31,12 @@ fn apart(s: u8) -> [[u8; PLACES]; PLACES]
 }
 
 // From the distances up to k, those up to k + 1: the arcs in use are tried in turn, each for every place.
-fn level(p: Plant, used: [bool; LABELS], t: [[u8; PLACES]; PLACES], k: u8) -> [[u8; PLACES]; PLACES]
+fn level(
+    p: Plant,
+    used: [bool; Plant::LABELS],
+    t: [[u8; Plant::PLACES]; Plant::PLACES],
+    k: u8,
+) -> [[u8; Plant::PLACES]; Plant::PLACES]
     requires { ⌜ Sound p ⌝ }
     requires { ⌜ k + 1 < p .switches ⌝ }
     requires { ⌜ t ≡ knownOf p used k ⌝ }
@@ -73,7 +52,7 @@ fn level(p: Plant, used: [bool; LABELS], t: [[u8; PLACES]; PLACES], k: u8) -> [[
             let x = tail_of(l, a) as usize;
             let y = head_of(l, a) as usize;
             let mut j: usize = 0;
-            while j < PLACES {
+            while j < Plant::PLACES {
                 if u[x][j] == s {
                     if u[y][j] == k {
                         u[x][j] = k + 1;
@@ -88,7 +67,7 @@ fn level(p: Plant, used: [bool; LABELS], t: [[u8; PLACES]; PLACES], k: u8) -> [[
 }
 
 // The fewest hops from each switch to each over the arcs that are flagged; the number of switches where there is no walk.
-pub fn distances(p: Plant, used: [bool; LABELS]) -> [[u8; PLACES]; PLACES]
+pub fn distances(p: Plant, used: [bool; Plant::LABELS]) -> [[u8; Plant::PLACES]; Plant::PLACES]
     requires { ⌜ Sound p ⌝ }
     ensures { λ r. ⌜ r ≡ distancesOf p used ⌝ }
 {

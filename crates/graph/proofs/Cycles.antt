@@ -15,8 +15,8 @@ use Rattle.lists.proofs.Members.{memb→in, in→memb, getD-same}
 use Rattle.lists.proofs.Stepwise.{upto}
 use Rattle.plant.specs.declared.Plant.{Plant}
 use Rattle.plant.specs.Links.{linkAt, first, second, live}
-use Rattle.model.specs.Limits.{maxSwitches, maxLinks}
-use Rattle.model.specs.Sound.{Sound}
+use Rattle.limits.specs.Limits.{maxSwitches, maxLinks}
+use Rattle.limits.specs.Sound.{Sound}
 use Rattle.walks.specs.Arcs.{tail, head, Arc, Valid}
 use Rattle.walks.specs.Visit.{rank}
 use Rattle.walks.specs.Graph.{Crosses, arcs, visited, bridge, entered}

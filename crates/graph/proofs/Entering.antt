@@ -13,7 +13,7 @@ use borrow.Author.Tests.{eq-eqb, ne-eqb}
 use Rattle.lists.proofs.Tests.{eq?, or-swap}
 use Rattle.lists.specs.Members.{memb}
 use Rattle.plant.specs.declared.Plant.{Plant}
-use Rattle.model.specs.Limits.{maxSwitches, maxLinks}
+use Rattle.limits.specs.Limits.{maxSwitches, maxLinks}
 use Rattle.walks.specs.Visit.{St, rank}
 use Rattle.walks.proofs.Visit.{rank-eq, rank-ne}
 use Rattle.walks.proofs.Labels.{even-or-odd}

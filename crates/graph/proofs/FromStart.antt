@@ -12,8 +12,8 @@ use Rattle.lists.specs.Numbers.{range}
 use Rattle.lists.proofs.Numbers.{range-in}
 use Rattle.plant.specs.declared.Plant.{Plant}
 use Rattle.plant.specs.Links.{live}
-use Rattle.model.specs.Limits.{maxLinks}
-use Rattle.model.specs.Sound.{Sound}
+use Rattle.limits.specs.Limits.{maxLinks}
+use Rattle.limits.specs.Sound.{Sound}
 use Rattle.walks.specs.Arcs.{labels}
 use Rattle.walks.specs.Graph.{arcs, others, visitFrom, visited, connected}
 use Rattle.graph.specs.declared.Visited.{Visited}

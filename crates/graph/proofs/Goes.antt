@@ -10,7 +10,7 @@ use Rattle.lists.specs.Members.{In, memb}
 use Rattle.lists.proofs.Members.{memb→in, in→memb}
 use Rattle.plant.specs.declared.Plant.{Plant}
 use Rattle.plant.specs.Links.{linkAt}
-use Rattle.model.specs.Sound.{Sound}
+use Rattle.limits.specs.Sound.{Sound}
 use Rattle.walks.specs.Visit.{St, Scan, done}
 use Rattle.walks.specs.Arcs.{tail, head}
 use Rattle.walks.specs.Graph.{others}

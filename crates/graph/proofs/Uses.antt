@@ -14,8 +14,8 @@ use Rattle.lists.proofs.Members.{memb→in}
 use Rattle.plant.specs.declared.Link.{Link}
 use Rattle.plant.specs.declared.Plant.{Plant}
 use Rattle.plant.specs.Links.{first, second, live}
-use Rattle.model.specs.Limits.{maxSwitches, maxLinks}
-use Rattle.model.specs.Sound.{Sound}
+use Rattle.limits.specs.Limits.{maxSwitches, maxLinks}
+use Rattle.limits.specs.Sound.{Sound}
 use Rattle.walks.specs.Arcs.{tail, head, Valid}
 use Rattle.walks.specs.Visit.{rank}
 use Rattle.walks.specs.Graph.{others, visitFrom, visited, bridge, entered, earlier, used, bridges, arcsUsed}

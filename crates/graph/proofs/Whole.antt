@@ -11,8 +11,8 @@ use borrow.Author.Tests.{eq-eqb}
 use Rattle.lists.proofs.Tests.{eq?}
 use Rattle.lists.proofs.Count.{count-all}
 use Rattle.plant.specs.declared.Plant.{Plant}
-use Rattle.model.specs.Limits.{maxSwitches, maxLinks}
-use Rattle.model.specs.Sound.{Sound}
+use Rattle.limits.specs.Limits.{maxSwitches, maxLinks}
+use Rattle.limits.specs.Sound.{Sound}
 use Rattle.walks.specs.Arcs.{tail, head}
 use Rattle.walks.specs.Visit.{St, rank}
 use Rattle.walks.proofs.Visit.{rank-eq, rank-ne}

@@ -7,7 +7,7 @@ use lib.ListN.{length, getD}
 use Rattle.lists.specs.Members.{In, memb}
 use Rattle.plant.specs.declared.Plant.{Plant}
 use Rattle.plant.specs.Links.{first, second, live}
-use Rattle.model.specs.Limits.{maxSwitches, maxLinks}
+use Rattle.limits.specs.Limits.{maxSwitches, maxLinks}
 use Rattle.walks.specs.Arcs.{head}
 use Rattle.walks.specs.Graph.{visited, bridge, entered}
 use Rattle.walks.specs.Cycles.{Level}

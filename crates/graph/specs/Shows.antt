@@ -6,7 +6,7 @@ use Prim.Native.Nat.{ℕ, _+_, _*_, _≤_}
 use lib.ListN.{length, getD}
 use Rattle.lists.specs.Members.{memb}
 use Rattle.lists.specs.Count.{count}
-use Rattle.model.specs.Limits.{maxSwitches, maxLinks}
+use Rattle.limits.specs.Limits.{maxSwitches, maxLinks}
 use Rattle.plant.specs.declared.Plant.{Plant}
 use Rattle.walks.specs.Visit.{St, rank}
 use Rattle.graph.specs.declared.Visited.{Visited}

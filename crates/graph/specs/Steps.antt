@@ -8,7 +8,7 @@ use Rattle.lists.specs.Tests.{choose}
 use Rattle.plant.specs.declared.Link.{Link}
 use Rattle.plant.specs.declared.Plant.{Plant}
 use Rattle.plant.specs.Links.{live}
-use Rattle.model.specs.Limits.{maxSwitches, maxLinks}
+use Rattle.limits.specs.Limits.{maxSwitches, maxLinks}
 use Rattle.walks.specs.Arcs.{tail, head}
 use Rattle.walks.specs.Visit.{St, Scan}
 use Rattle.walks.specs.Graph.{others}

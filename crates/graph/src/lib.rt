@@ -2,8 +2,8 @@
 ghost use mathlib.Core.Path.{_≡_};
 ghost use mathlib.Core.Bool.{true};
 ghost use Prim.Native.Nat.{_+_, _*_, _<_};
-ghost use Rattle.model.specs.Limits.{maxSwitches, maxLinks};
-ghost use Rattle.model.specs.Sound.{Sound};
+ghost use Rattle.limits.specs.Limits.{maxSwitches, maxLinks};
+ghost use Rattle.limits.specs.Sound.{Sound};
 ghost use Rattle.plant.specs.Links.{live};
 ghost use Rattle.walks.specs.Graph.{others, visitFrom, visited, connected, bridge, used};
 ghost use Rattle.graph.specs.Flags.{Flags, countSet};
@@ -17,8 +17,8 @@ use plant::Plant;
 // by which links they were entered.
 pub struct Visited {
     pub next: u8,
-    pub seen: [bool; Plant::MAX_SWITCHES as usize],
-    pub rank: [u8; Plant::MAX_SWITCHES as usize],
+    pub seen: [bool; Plant::PLACES],
+    pub rank: [u8; Plant::PLACES],
     pub entered: [bool; Plant::MAX_LINKS],
 }
 
@@ -97,8 +97,8 @@ fn begin(at: u8) -> Visited
 {
     let mut v = Visited {
         next: 1,
-        seen: [false; Plant::MAX_SWITCHES as usize],
-        rank: [0; Plant::MAX_SWITCHES as usize],
+        seen: [false; Plant::PLACES],
+        rank: [0; Plant::PLACES],
         entered: [false; Plant::MAX_LINKS],
     };
     let i = at as usize;
@@ -156,12 +156,12 @@ pub fn is_bridge(p: Plant, l: usize) -> bool
 }
 
 // The link by which the visit v from the start entered each switch. Of the two ends of an entered link, the one with the higher number was entered by it.
-fn entry_links(p: Plant, v: Visited) -> [usize; Plant::MAX_SWITCHES as usize]
+fn entry_links(p: Plant, v: Visited) -> [usize; Plant::PLACES]
     requires { ⌜ Sound p ⌝ }
     requires { ⌜ Shows v (visited p) ⌝ }
     ensures { λ r. ⌜ EntryLinks p maxLinks r ⌝ }
 {
-    let mut up = [0usize; Plant::MAX_SWITCHES as usize];
+    let mut up = [0usize; Plant::PLACES];
     let n = p.count as usize;
     let mut l: usize = 0;
     while l < n {
@@ -203,7 +203,7 @@ fn closes_cycle(p: Plant, v: Visited, l: usize) -> bool
 fn climb(
     p: Plant,
     v: Visited,
-    up: [usize; Plant::MAX_SWITCHES as usize],
+    up: [usize; Plant::PLACES],
     c0: [bool; Plant::MAX_LINKS],
     k: usize,
 ) -> [bool; Plant::MAX_LINKS]
@@ -236,11 +236,7 @@ fn climb(
 }
 
 // A flag for each link: is it entered, and on a cycle that another link closes?
-fn covered_links(
-    p: Plant,
-    v: Visited,
-    up: [usize; Plant::MAX_SWITCHES as usize],
-) -> [bool; Plant::MAX_LINKS]
+fn covered_links(p: Plant, v: Visited, up: [usize; Plant::PLACES]) -> [bool; Plant::MAX_LINKS]
     requires { ⌜ Sound p ⌝ }
     requires { ⌜ Shows v (visited p) ⌝ }
     requires { ⌜ EntryLinks p maxLinks up ⌝ }
@@ -312,13 +308,13 @@ fn in_use(bridge: bool, entered: bool, tail: u8, head: u8) -> bool
 }
 
 // A flag for each label: is its arc in use? The flags of the bridges are given.
-pub fn arcs_with(p: Plant, b: [bool; Plant::MAX_LINKS]) -> [bool; 2 * Plant::MAX_LINKS]
+pub fn arcs_with(p: Plant, b: [bool; Plant::MAX_LINKS]) -> [bool; Plant::LABELS]
     requires { ⌜ Sound p ⌝ }
     requires { ⌜ Flags maxLinks (bridge p) b ⌝ }
     ensures { λ r. ⌜ Flags (2 * maxLinks) (used p) r ⌝ }
 {
     let v = visit_start(p);
-    let mut u = [false; 2 * Plant::MAX_LINKS];
+    let mut u = [false; Plant::LABELS];
     let mut l: usize = 0;
     while l < Plant::MAX_LINKS {
         if is_live(p, l) {
@@ -334,7 +330,7 @@ pub fn arcs_with(p: Plant, b: [bool; Plant::MAX_LINKS]) -> [bool; 2 * Plant::MAX
 }
 
 // A flag for each label: is its arc in use?
-pub fn arcs_in_use(p: Plant) -> [bool; 2 * Plant::MAX_LINKS]
+pub fn arcs_in_use(p: Plant) -> [bool; Plant::LABELS]
     requires { ⌜ Sound p ⌝ }
     ensures { λ r. ⌜ Flags (2 * maxLinks) (used p) r ⌝ }
 {

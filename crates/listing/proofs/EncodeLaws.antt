@@ -9,15 +9,15 @@ use lib.Seq.{sets}
 use Rattle.lists.proofs.Arrays.{sets-append, sets-front, laid}
 use Rattle.plant.specs.declared.Link.{Link}
 use Rattle.plant.specs.declared.Plant.{Plant}
-use Rattle.plant.specs.declared.Refusal.{Refusal}
+use Rattle.answers.specs.declared.Refusal.{Refusal}
 use Rattle.plant.specs.Links.{zeroLink}
-use Rattle.plant.specs.Refusals.{given, refused, numberOf}
-use Rattle.model.specs.Limits.{maxLinks}
-use Rattle.listing.specs.declared.Verdict.{Verdict}
-use Rattle.listing.specs.declared.Verdict.the-variants as verdict
+use Rattle.answers.specs.Answers.{given, refused, numberOf}
+use Rattle.limits.specs.Limits.{maxLinks}
+use Rattle.answers.specs.declared.Verdict.{Verdict}
+use Rattle.answers.specs.declared.Verdict.the-variants as verdict
 use Rattle.listing.specs.Listing.{linksOf, headerBytes, linkBytes, linksBytes, encode}
 use Rattle.listing.specs.Writing.{soundPlant, bufferShort, written, bufferAfter}
-use Rattle.listing.specs.Answers.{verdictAnswer}
+use Rattle.answers.specs.Answers.{verdictAnswer}
 use Rattle.listing.proofs.WriteLaws.{links-next, links-done}
 
 module _ (p : Plant) where
@@ -125,7 +125,7 @@ module _ (p : Plant) (b : List ℕ) (v : Verdict) (e : verdictAnswer v ≡ sound
     unfolding bufferAfter
     kept-refused = rw (sym write-refused) refl
 
-  module _ (f : v ≡ verdict.Sound) where
+  module _ (f : v ≡ verdict.Accepted) where
     -- 16
     module _ (h : length b < length (encode p)) where
       pub write-short : refused 16 ≡ written p b

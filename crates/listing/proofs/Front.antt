@@ -12,9 +12,9 @@ use Rattle.lists.proofs.Tests.{same-test}
 use Rattle.plant.specs.declared.Link.{Link}
 use Rattle.plant.specs.declared.Plant.{Plant}
 use Rattle.plant.specs.Links.{zeroLink, plantWith}
-use Rattle.model.specs.Limits.{maxLinks}
-use Rattle.model.specs.Answers.{NoneHolds}
-use Rattle.model.proofs.Answers.{trying-when}
+use Rattle.limits.specs.Limits.{maxLinks}
+use Rattle.answers.specs.Checks.{NoneHolds}
+use Rattle.answers.proofs.Checks.{trying-when}
 use Rattle.listing.specs.declared.Field.{Field}
 use Rattle.listing.specs.Part.{taken, valueOf, size, values, someRedundant, mapByte, mapMissing, mapUndefined, fieldMissing, fieldRedundant, fieldValues, afterPart}
 use Rattle.listing.specs.Listing.{headerFields, linkFields, bytesRemain, finish, afterHeader, decode}

@@ -10,15 +10,15 @@ use lib.ListN.{length, drop, set, replicate, length-append, length-drop}
 use lib.Seq.{set-at}
 use Rattle.plant.specs.declared.Link.{Link}
 use Rattle.plant.specs.declared.Plant.{Plant}
-use Rattle.plant.specs.declared.Refusal.{Refusal}
+use Rattle.answers.specs.declared.Refusal.{Refusal}
 use Rattle.plant.specs.Links.{zeroLink, plantWith}
-use Rattle.plant.specs.Refusals.{Answer, given, refused, _>>=_, numberOf}
-use Rattle.model.specs.Limits.{maxLinks}
+use Rattle.answers.specs.Answers.{Answer, given, refused, _>>=_, numberOf}
+use Rattle.limits.specs.Limits.{maxLinks}
 use Rattle.listing.specs.declared.Record.{Record}
 use Rattle.listing.specs.declared.Record.the-variants as record-is
 use Rattle.listing.specs.declared.Decoded.{Decoded}
 use Rattle.listing.specs.Listing.{bytesRemain, link, ahead, links, withLinks, finish, afterHeader}
-use Rattle.listing.specs.Answers.{recordAnswer, readAnswer, plantPart, Reads}
+use Rattle.listing.specs.Answers.{recordAnswer, Reads}
 
 -- no link yet
 pub none : (switches count start : ℕ) → plantWith maxLinks switches count start ≡ withLinks (plantWith maxLinks switches count start) []
@@ -110,6 +110,3 @@ module _ (s : List ℕ) (from : ℕ) (h : Plant) where
 -- a refused reading, and one that is not
 pub reads-as : (a b : Answer Plant) (r : Decoded) → a ≡ b → Reads a r → Reads b r
 reads-as a b r e q = subst (λ (x : Answer Plant). Reads x r) e q
-
-pub reads-given : (b : Answer Plant) (r : Decoded) → readAnswer r ≡ given (r .plant) → given (r .plant) ≡ b → Reads b r
-reads-given b r q e = record { answer = q ∙ e; plant = ap plantPart e }

@@ -8,9 +8,9 @@ use Rattle.lists.proofs.Members.{Each, each-at}
 use Rattle.plant.specs.declared.Link.{Link}
 use Rattle.plant.specs.declared.Plant.{Plant}
 use Rattle.plant.specs.Links.{zeroLink}
-use Rattle.plant.specs.Refusals.{given}
-use Rattle.model.specs.Limits.{maxSwitches, maxLinks}
-use Rattle.model.specs.Sound.{Sound}
+use Rattle.answers.specs.Answers.{given}
+use Rattle.limits.specs.Limits.{maxSwitches, maxLinks}
+use Rattle.limits.specs.Sound.{Sound}
 use Rattle.listing.specs.Part.{afterPart, partBytes}
 use Rattle.listing.specs.Listing.{headerFields, linkFields, linkOf, linksOf, headerBytes, linkBytes, linksBytes, encode, decode, valueOutOfRange, endOutOfRange, selfLink, soundLink}
 use Rattle.listing.specs.Writing.{plantOutOfRange, soundPlant}

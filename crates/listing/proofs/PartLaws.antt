@@ -7,7 +7,7 @@ use native.Mathlib.Omega.{arith}
 use borrow.Author.Tests.{lt-ltb, le-ltb, le-leb, lt-leb, ne-eqb}
 use lib.ListN.{length, getD, drop, length-drop}
 use lib.Seq.{drop-drop, getD-drop}
-use Rattle.plant.specs.Refusals.{given, refused, refuse}
+use Rattle.answers.specs.Answers.{given, refused, refuse}
 use Rattle.listing.specs.declared.Field.{Field}
 use Rattle.listing.specs.declared.Fields.{Fields}
 use Rattle.listing.specs.Part.{taken, size, valueOf, mapByte, mapMissing, mapUndefined, fieldMissing, fieldRedundant, fieldValues, afterPart, part}

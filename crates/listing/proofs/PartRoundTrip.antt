@@ -14,9 +14,9 @@ use Rattle.lists.specs.Tests.{choose}
 use Rattle.lists.proofs.Tests.{or-false}
 use Rattle.lists.specs.Count.{bit}
 use Rattle.lists.proofs.Count.{bit-le-one}
-use Rattle.plant.specs.Refusals.{given}
-use Rattle.model.specs.Answers.{NoneHolds}
-use Rattle.model.proofs.Answers.{trying, given-exactly}
+use Rattle.answers.specs.Answers.{given}
+use Rattle.answers.specs.Checks.{NoneHolds, trying}
+use Rattle.answers.proofs.Checks.{given-exactly}
 use Rattle.listing.specs.declared.Field.{Field}
 use Rattle.listing.specs.Field.{number, bytesOf, Bytes}
 use Rattle.listing.specs.Part.{taken, size, valueOf, repeats, redundant, values, someRedundant, mapByte, mapMissing, mapUndefined, fieldMissing, fieldRedundant, fieldValues, afterPart, part, isGiven, fieldBytes, mapOf, bodyOf, partBytes}

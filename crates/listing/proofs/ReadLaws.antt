@@ -9,10 +9,10 @@ use Rattle.lists.proofs.Tests.{and-true}
 use Rattle.plant.specs.declared.Link.{Link}
 use Rattle.plant.specs.declared.Plant.{Plant}
 use Rattle.plant.specs.Links.{plantWith}
-use Rattle.plant.specs.Refusals.{Answer, given, refused, refuse, numberOf}
-use Rattle.plant.specs.declared.Refusal.{Refusal}
-use Rattle.model.proofs.Answers.{given-given, refuse-given, then-given}
-use Rattle.model.specs.Limits.{maxSwitches, maxLinks}
+use Rattle.answers.specs.Answers.{Answer, given, refused, refuse, numberOf}
+use Rattle.answers.specs.declared.Refusal.{Refusal}
+use Rattle.answers.proofs.Checks.{given-given, refuse-given, then-given}
+use Rattle.limits.specs.Limits.{maxSwitches, maxLinks}
 use Rattle.listing.specs.declared.Field.{Field}
 use Rattle.listing.specs.declared.Fields.{Fields}
 use Rattle.listing.specs.declared.Part.{Part}

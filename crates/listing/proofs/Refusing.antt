@@ -8,9 +8,9 @@ use native.Mathlib.Omega.{arith}
 use Rattle.plant.specs.declared.Link.{Link}
 use Rattle.plant.specs.declared.Plant.{Plant}
 use Rattle.plant.specs.Links.{zeroLink}
-use Rattle.plant.specs.Refusals.{Answer, given, refused, _>>=_}
-use Rattle.model.specs.Answers.{NoneHolds, FirstHolds}
-use Rattle.model.proofs.Answers.{trying, trying-append, trying-then, then-assoc, refused-exactly, given-exactly, EachNumber, each-append, first-number}
+use Rattle.answers.specs.Answers.{Answer, given, refused, _>>=_}
+use Rattle.answers.specs.Checks.{NoneHolds, FirstHolds, trying}
+use Rattle.answers.proofs.Checks.{trying-append, trying-then, then-assoc, refused-exactly, given-exactly, EachNumber, each-append, first-number}
 use Rattle.listing.specs.Part.{fieldValues, afterPart}
 use Rattle.listing.specs.Listing.{headerFields, linkFields, linkFrom, judgedHeader, header, soundLink, judged, link, ahead, links, finish, afterHeader, bytesRemain, decode}
 use Rattle.listing.specs.Conditions.{partConditions, headerConditions, headerIn, linkIn, endsConditions, linkConditions, linksConditions, linksIn, afterLinks, conditions, plantIn}

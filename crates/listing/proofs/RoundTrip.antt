@@ -11,11 +11,11 @@ use Rattle.lists.proofs.Members.{Each}
 use Rattle.plant.specs.declared.Link.{Link}
 use Rattle.plant.specs.declared.Plant.{Plant}
 use Rattle.plant.specs.Links.{zeroLink, plantWith}
-use Rattle.plant.specs.Refusals.{given}
-use Rattle.model.specs.Answers.{NoneHolds}
-use Rattle.model.proofs.Answers.{none-append, otherwise-none}
-use Rattle.model.specs.Limits.{maxSwitches, maxLinks}
-use Rattle.model.specs.Sound.{Sound}
+use Rattle.answers.specs.Answers.{given}
+use Rattle.answers.specs.Checks.{NoneHolds}
+use Rattle.answers.proofs.Checks.{none-append, otherwise-none}
+use Rattle.limits.specs.Limits.{maxSwitches, maxLinks}
+use Rattle.limits.specs.Sound.{Sound}
 use Rattle.listing.specs.Field.{Bytes}
 use Rattle.listing.specs.Part.{fieldValues, afterPart, partBytes}
 use Rattle.listing.specs.Listing.{field, headerFields, linkFields, headerOutOfRange, judgedHeader, header, soundLink, judged, link, links, bytesRemain, withLinks, finish, afterHeader, decode, linksOf, headerBytes, linkBytes, linksBytes, encode}

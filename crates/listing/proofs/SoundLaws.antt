@@ -11,9 +11,9 @@ use Rattle.lists.proofs.Members.{Each, each-at, at-each, getD-same}
 use Rattle.plant.specs.declared.Link.{Link}
 use Rattle.plant.specs.declared.Plant.{Plant}
 use Rattle.plant.specs.Links.{zeroLink, linkAt, first, second}
-use Rattle.plant.specs.Refusals.{given}
-use Rattle.model.specs.Limits.{maxSwitches, maxLinks}
-use Rattle.model.specs.Sound.{Sound}
+use Rattle.answers.specs.Answers.{given}
+use Rattle.limits.specs.Limits.{maxSwitches, maxLinks}
+use Rattle.limits.specs.Sound.{Sound}
 use Rattle.listing.specs.Listing.{valueOutOfRange, endOutOfRange, selfLink, soundLink, linksOf}
 use Rattle.listing.proofs.ReadLaws.{InRange, Ends}
 

@@ -11,16 +11,16 @@ use Rattle.lists.proofs.Tests.{or-false}
 use Rattle.lists.specs.Members.{all}
 use Rattle.plant.specs.declared.Link.{Link}
 use Rattle.plant.specs.declared.Plant.{Plant}
-use Rattle.plant.specs.declared.Refusal.{Refusal}
+use Rattle.answers.specs.declared.Refusal.{Refusal}
 use Rattle.plant.specs.Links.{zeroLink}
-use Rattle.plant.specs.Refusals.{given, refused, numberOf}
-use Rattle.model.proofs.Answers.{refuse-given}
-use Rattle.model.specs.Limits.{maxLinks}
-use Rattle.listing.specs.declared.Verdict.{Verdict}
-use Rattle.listing.specs.declared.Verdict.the-variants as verdict
+use Rattle.answers.specs.Answers.{given, refused, numberOf}
+use Rattle.answers.proofs.Checks.{refuse-given}
+use Rattle.limits.specs.Limits.{maxLinks}
+use Rattle.answers.specs.declared.Verdict.{Verdict}
+use Rattle.answers.specs.declared.Verdict.the-variants as verdict
 use Rattle.listing.specs.Listing.{valueOutOfRange, soundLink, linksOf}
 use Rattle.listing.specs.Writing.{isZero, plantOutOfRange, soundLinks, soundPlant}
-use Rattle.listing.specs.Answers.{verdictAnswer}
+use Rattle.answers.specs.Answers.{verdictAnswer}
 use Rattle.listing.proofs.ReadLaws.{in-range}
 use Rattle.listing.proofs.SoundLaws.{length-links}
 
@@ -56,7 +56,7 @@ module _ (p : Plant) (long : length (p .links) ≡ maxLinks) (few : p .count ≤
 
     -- refusals 6 and 7
     module _ (v : Verdict) (e : verdictAnswer v ≡ soundLink (p .switches) (getD (p .links) i zeroLink)) (h : i < p .count) where
-      pub judge-on : v ≡ verdict.Sound → soundLinks (p .switches) (drop (i + 1) (linksOf p)) ≡ soundLinks (p .switches) (drop i (linksOf p))
+      pub judge-on : v ≡ verdict.Accepted → soundLinks (p .switches) (drop (i + 1) (linksOf p)) ≡ soundLinks (p .switches) (drop i (linksOf p))
       judge-on f = sym (rw (links-next h, sym e ∙ ap verdictAnswer f) refl)
 
       pub judge-refused : (k : Refusal) → v ≡ verdict.Refused k → refused (numberOf k) ≡ soundLinks (p .switches) (drop i (linksOf p))

@@ -16,11 +16,11 @@ use Rattle.lists.proofs.Members.{Each, each-at, at-each}
 use Rattle.plant.specs.declared.Link.{Link}
 use Rattle.plant.specs.declared.Plant.{Plant}
 use Rattle.plant.specs.Links.{zeroLink}
-use Rattle.plant.specs.Refusals.{Answer, given, refused, refuse, _>>=_}
-use Rattle.model.specs.Answers.{Conditions, NoneHolds, FirstHolds}
-use Rattle.model.proofs.Answers.{given-given, refuse-given, then-given, trying, trying-append, trying-then, refused-exactly, given-exactly, EachNumber, each-append, first-number}
-use Rattle.model.specs.Limits.{maxLinks}
-use Rattle.model.specs.Sound.{Sound}
+use Rattle.answers.specs.Answers.{Answer, given, refused, refuse, _>>=_}
+use Rattle.answers.specs.Checks.{Conditions, NoneHolds, FirstHolds, trying}
+use Rattle.answers.proofs.Checks.{given-given, refuse-given, then-given, trying-append, trying-then, refused-exactly, given-exactly, EachNumber, each-append, first-number}
+use Rattle.limits.specs.Limits.{maxLinks}
+use Rattle.limits.specs.Sound.{Sound}
 use Rattle.listing.specs.Field.{Bytes}
 use Rattle.listing.specs.Listing.{valueOutOfRange, soundLink, linksOf, decode, encode}
 use Rattle.listing.specs.Writing.{isZero, plantOutOfRange, soundLinks, soundPlant, bufferShort, written, bufferAfter}

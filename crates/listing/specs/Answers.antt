@@ -7,8 +7,8 @@ use lib.ListN.{drop}
 use Rattle.plant.specs.declared.Link.{Link}
 use Rattle.plant.specs.declared.Plant.{Plant}
 use Rattle.plant.specs.Links.{plantWith}
-use Rattle.plant.specs.Refusals.{Answer, given, refused, refuse, _>>=_, numberOf}
-use Rattle.model.specs.Limits.{maxLinks}
+use Rattle.answers.specs.Answers.{Answer, given, refused, refuse, numberOf, Beside}
+use Rattle.limits.specs.Limits.{maxLinks}
 use Rattle.listing.specs.declared.Field.{Field}
 use Rattle.listing.specs.declared.Fields.{Fields}
 use Rattle.listing.specs.Part.{size, values, repeats, someRedundant}
@@ -18,8 +18,6 @@ use Rattle.listing.specs.declared.Header.{Header}
 use Rattle.listing.specs.declared.Header.the-variants as header-is
 use Rattle.listing.specs.declared.Record.{Record}
 use Rattle.listing.specs.declared.Record.the-variants as record-is
-use Rattle.listing.specs.declared.Verdict.{Verdict}
-use Rattle.listing.specs.declared.Verdict.the-variants as verdict
 use Rattle.listing.specs.declared.Decoded.{Decoded}
 use Rattle.listing.specs.declared.Written.{Written}
 use Rattle.listing.specs.declared.Written.the-variants as written-is
@@ -69,22 +67,13 @@ Fits fs (part-is.Refused k) = Unit
 
 -- ---- reading
 
-abbrev pub verdictAnswer : Verdict → Answer Unit
-verdictAnswer verdict.Sound = given tt
-verdictAnswer (verdict.Refused k) = refused (numberOf k)
-
-abbrev pub readAnswer : Decoded → Answer Plant
-readAnswer r = verdictAnswer (r .verdict) >>= λ _. given (r .plant)
-
--- the plant part of the answer: at a refusal the plant of one switch and no link
-abbrev pub plantPart : Answer Plant → Plant
-plantPart (given p) = p
-plantPart (refused n) = plantWith maxLinks 1 0 0
+-- the plant part of a refused reading: one switch and no link
+abbrev pub emptyPlant : Plant
+emptyPlant = plantWith maxLinks 1 0 0
 
 -- what the reader answers, where a is the listing's meaning
-pub record Reads (a : Answer Plant) (r : Decoded) : Type 0 where
-  pub answer : readAnswer r ≡ a
-  pub plant : r .plant ≡ plantPart a
+abbrev pub Reads : Answer Plant → Decoded → Type 0
+Reads a r = Beside emptyPlant a (r .verdict) (r .plant)
 
 -- ---- writing
 

@@ -10,10 +10,10 @@ use lib.ListN.{length}
 use Rattle.plant.specs.declared.Link.{Link}
 use Rattle.plant.specs.declared.Plant.{Plant}
 use Rattle.plant.specs.Links.{zeroLink, linkAt}
-use Rattle.plant.specs.Refusals.{Answer, given, refused}
-use Rattle.model.specs.Answers.{Conditions, FirstHolds}
-use Rattle.model.specs.Limits.{maxLinks}
-use Rattle.model.specs.Sound.{Sound}
+use Rattle.answers.specs.Answers.{Answer, given, refused}
+use Rattle.answers.specs.Checks.{Conditions, FirstHolds}
+use Rattle.limits.specs.Limits.{maxLinks}
+use Rattle.limits.specs.Sound.{Sound}
 use Rattle.listing.specs.declared.Field.{Field}
 use Rattle.listing.specs.Part.{mapMissing, mapUndefined, fieldMissing, fieldRedundant, fieldValues, afterPart}
 use Rattle.listing.specs.Listing.{headerFields, linkFields, headerOutOfRange, headerFrom, endOutOfRange, selfLink, bytesRemain, linkFrom, withLinks, linksOf}

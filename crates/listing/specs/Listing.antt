@@ -7,8 +7,8 @@ use lib.ListN.{length, getD, take, replicate}
 use Rattle.plant.specs.declared.Link.{Link}
 use Rattle.plant.specs.declared.Plant.{Plant}
 use Rattle.plant.specs.Links.{zeroLink, plantWith}
-use Rattle.plant.specs.Refusals.{Answer, given, refuse, _>>=_}
-use Rattle.model.specs.Limits.{maxSwitches, maxLinks}
+use Rattle.answers.specs.Answers.{Answer, given, refuse, _>>=_}
+use Rattle.limits.specs.Limits.{maxSwitches, maxLinks}
 use Rattle.listing.specs.declared.Field.{Field}
 use Rattle.listing.specs.Part.{part, partBytes}
 

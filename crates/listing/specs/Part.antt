@@ -6,7 +6,7 @@ use lib.Dec.{eqb, leb, ltb}
 use lib.ListN.{length, getD, take, drop}
 use Rattle.lists.specs.Tests.{choose}
 use Rattle.lists.specs.Count.{bit}
-use Rattle.plant.specs.Refusals.{Answer, given, refuse}
+use Rattle.answers.specs.Answers.{Answer, given, refuse}
 use Rattle.listing.specs.declared.Field.{Field}
 use Rattle.listing.specs.Field.{number, bytesOf}
 

@@ -7,7 +7,7 @@ use lib.ListN.{length, drop}
 use Rattle.lists.specs.Members.{all}
 use Rattle.plant.specs.declared.Link.{Link}
 use Rattle.plant.specs.declared.Plant.{Plant}
-use Rattle.plant.specs.Refusals.{Answer, given, refused, refuse, _>>=_}
+use Rattle.answers.specs.Answers.{Answer, given, refused, refuse, _>>=_}
 use Rattle.listing.specs.Listing.{valueOutOfRange, soundLink, linksOf, encode}
 
 unfoldable pub isZero : Link → Bool

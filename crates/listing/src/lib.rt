@@ -1,7 +1,8 @@
 // The listing of a plant (document 01, "Listing bytes"): its reader and its writer.
+use answers::Refusal;
+use answers::Verdict;
 use plant::Link;
 use plant::Plant;
-use plant::Refusal;
 ghost use mathlib.Core.Path.{_≡_};
 ghost use mathlib.Core.List.{List, [], _∷_};
 ghost use Prim.Native.Nat.{ℕ, _+_, _*_, _^_, _≤_, _<_};
@@ -11,11 +12,12 @@ ghost use Rattle.listing.specs.Field.{number, bytesOf};
 ghost use Rattle.listing.specs.Part.{taken, size, valueOf, repeats, part, fieldBytes, isGiven, mapOf, partBytes};
 ghost use Rattle.lists.specs.Members.{all};
 ghost use Rattle.plant.specs.Links.{zeroLink, plantWith};
-ghost use Rattle.plant.specs.Refusals.{given, refused, refuse, numberOf};
-ghost use Rattle.model.specs.Limits.{maxLinks};
+ghost use Rattle.answers.specs.Answers.{given, refused, refuse, numberOf};
+ghost use Rattle.limits.specs.Limits.{maxLinks};
 ghost use Rattle.listing.specs.Listing.{valueOutOfRange, headerFields, linkFields, bytesRemain, linkOf, soundLink, judged, header, link, afterHeader, decode, linksOf, headerBytes, linkBytes, linksBytes, encode};
 ghost use Rattle.listing.specs.Writing.{isZero, soundLinks, soundPlant, written, bufferAfter};
-ghost use Rattle.listing.specs.Answers.{fieldList, Proper, ProperFields, fieldsOf, anyRepeats, Fits, partAnswer, headerAnswer, recordAnswer, verdictAnswer, Reads, writeAnswer};
+ghost use Rattle.answers.specs.Answers.{verdictAnswer};
+ghost use Rattle.listing.specs.Answers.{fieldList, Proper, ProperFields, fieldsOf, anyRepeats, Fits, partAnswer, headerAnswer, recordAnswer, Reads, writeAnswer};
 
 // A field of a part: its width in bytes, and the value that its absence means.
 pub struct Field {
@@ -45,11 +47,6 @@ pub enum Header {
 // A link of a record and the place after it.
 pub enum Record {
     Link(Link, usize),
-    Refused(Refusal),
-}
-
-pub enum Verdict {
-    Sound,
     Refused(Refusal),
 }
 
@@ -283,7 +280,7 @@ fn judge_ends(first: u32, second: u32, switches: u8) -> Verdict
     if first == second {
         return Verdict::Refused(Refusal::SelfLink);
     }
-    Verdict::Sound
+    Verdict::Accepted
 }
 
 // The ends and the tag of a link, judged.
@@ -292,7 +289,7 @@ fn judge_link(first: u32, second: u32, tag: u32, switches: u8, next: usize) -> R
     ensures { λ r. ⌜ ((s : List ℕ) → recordAnswer s r ≡ judged switches (linkOf first second tag) (drop next s)) ⌝ }
 {
     match judge_ends(first, second, switches) {
-        Verdict::Sound => {
+        Verdict::Accepted => {
             let l = Link {
                 first: first as u8,
                 second: second as u8,
@@ -359,7 +356,7 @@ fn read_links(s: &[u8], from: usize, switches: u8, count: u16, start: u8) -> Dec
         return refused_reading(Refusal::BytesRemain);
     }
     Decoded {
-        verdict: Verdict::Sound,
+        verdict: Verdict::Accepted,
         plant: p,
     }
 }
@@ -415,14 +412,14 @@ fn judge_links(p: Plant) -> Verdict
     while i < n {
         let l = p.links[i];
         match judge_ends(l.first as u32, l.second as u32, switches) {
-            Verdict::Sound => {}
+            Verdict::Accepted => {}
             Verdict::Refused(k) => {
                 return Verdict::Refused(k);
             }
         }
         i += 1;
     }
-    Verdict::Sound
+    Verdict::Accepted
 }
 
 // Refusals 5, 6 and 7 of any plant value.
@@ -620,7 +617,7 @@ pub fn write(p: Plant, buffer: &mut [u8]) -> Written
     ensures { λ _. ⌜ now (buffer .exit) ≡ bufferAfter p (now (buffer .entry)) ⌝ }
 {
     match judge_plant(p) {
-        Verdict::Sound => {
+        Verdict::Accepted => {
             let n = listing_size(p);
             if buffer.len() < n {
                 return Written::Refused(Refusal::ListingBufferShort);

@@ -13,7 +13,7 @@ use Rattle.lists.proofs.Tests.{eq?, T-true, true-T, same-test}
 use Rattle.lists.specs.Members.{In, memb}
 use Rattle.lists.proofs.Members.{memb→in, in→memb, in-append, in-append-left, in-append-right, getD-in}
 use Rattle.lists.proofs.Count.{count-all, distinct-count}
-use Rattle.model.specs.Limits.{maxLinks}
+use Rattle.limits.specs.Limits.{maxLinks}
 use Rattle.rings.specs.Ring.{readFrom}
 use Rattle.rings.proofs.Ring.{read-labels}
 use Rattle.rings.proofs.Parts.{read-length}

@@ -10,8 +10,8 @@ use lib.Seq.{drop-cons, getD-drop, getD-take, getD-append-add}
 use borrow.Author.Tests.{eq-eqb, ne-eqb}
 use Rattle.lists.specs.Members.{In}
 use Rattle.plant.specs.declared.Plant.{Plant}
-use Rattle.model.specs.Limits.{maxLinks}
-use Rattle.model.specs.Sound.{Sound}
+use Rattle.limits.specs.Limits.{maxLinks}
+use Rattle.limits.specs.Sound.{Sound}
 use Rattle.walks.specs.Arcs.{tail}
 use Rattle.walks.proofs.Live.{live-below}
 use Rattle.walks.proofs.Orientation.{used-arc}

@@ -3,8 +3,8 @@ ghost use mathlib.Core.Path.{_≡_};
 ghost use Prim.Native.Nat.{ℕ, _/_, _≤_, _<_};
 ghost use lib.ListN.{length, getD, take, drop};
 ghost use Rattle.lists.specs.Members.{In};
-ghost use Rattle.model.specs.Limits.{maxLinks};
-ghost use Rattle.model.specs.Sound.{Sound};
+ghost use Rattle.limits.specs.Limits.{maxLinks};
+ghost use Rattle.limits.specs.Sound.{Sound};
 ghost use Rattle.rings.specs.Ring.{readFrom};
 ghost use Rattle.rings.specs.Order.{order};
 ghost use Rattle.rings.specs.Probe.{upTo};
@@ -12,8 +12,8 @@ ghost use Rattle.rings.specs.Injection.{placeOf, orderOf};
 ghost use Rattle.order.specs.Labels.{OverArcs};
 ghost use Rattle.order.specs.Order.{listed};
 ghost use Rattle.order.specs.Span.{ringSpan, spanOf, stretchOf, frontOf};
-use distance::tail_of;
 use plant::Plant;
+use plant::tail_of;
 
 // Links by first crossing, `count` of them; the places past them are zero.
 pub struct Order {

@@ -10,8 +10,8 @@ use lib.ListN.{length, getD, drop, drop-of-length-le}
 use lib.Seq.{drop-cons}
 use Rattle.lists.proofs.Tests.{not-true-false}
 use Rattle.plant.specs.declared.Plant.{Plant}
-use Rattle.plant.specs.Links.{first, second}
-use Rattle.walks.specs.Arcs.{side, tail, head}
+use Rattle.plant.specs.Links.{side, first, second}
+use Rattle.walks.specs.Arcs.{tail, head}
 use Rattle.walks.proofs.Labels.{arc-below}
 use Rattle.rings.specs.Packet.{run, runOn, rulesFor}
 use Rattle.rings.specs.Packet as ring

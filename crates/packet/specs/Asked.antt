@@ -4,7 +4,7 @@ use mathlib.Core.List.{List}
 use Prim.Native.Nat.{ℕ, _≤_}
 use lib.ListN.{length}
 use Rattle.plant.specs.declared.Plant.{Plant}
-use Rattle.model.specs.Sound.{Sound}
+use Rattle.limits.specs.Sound.{Sound}
 use Rattle.order.specs.Labels.{OverArcs}
 use Rattle.packet.specs.Flags.{ForArcs, ForTable}
 

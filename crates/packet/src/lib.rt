@@ -4,8 +4,9 @@ ghost use mathlib.Core.Bool.{not, _&&_};
 ghost use Prim.Native.Nat.{_+_, _*_, _%_, _≤_, _<_};
 ghost use lib.Dec.{eqb};
 ghost use lib.ListN.{length, getD};
-ghost use Rattle.model.specs.Sound.{Sound};
-ghost use Rattle.walks.specs.Arcs.{side, head};
+ghost use Rattle.limits.specs.Sound.{Sound};
+ghost use Rattle.plant.specs.Links.{side};
+ghost use Rattle.walks.specs.Arcs.{head};
 ghost use Rattle.rings.specs.Packet.{run};
 ghost use Rattle.rings.specs.Rules.{upBy, inTable};
 ghost use Rattle.rings.specs.Probe.{back};
@@ -13,15 +14,14 @@ ghost use Rattle.rings.specs.Injection.{ringOf, probeRun};
 ghost use Rattle.packet.specs.Flags.{ForAll};
 ghost use Rattle.packet.specs.Asked.{CanRun, CanProbe};
 ghost use Rattle.packet.specs.Runs.{endOf, injectedAt, way, outAndBack, goesOn};
-use distance::LABELS;
-use distance::head_of;
-use distance::tail_of;
 use order::front;
 use order::place_of;
 use order::span_of;
 use order::stretch;
 use plant::Link;
 use plant::Plant;
+use plant::head_of;
+use plant::tail_of;
 
 // How a run comes out: has the packet ended (else it is lost), the hops that it made, and the switch that it came to last.
 pub struct End {
@@ -69,7 +69,7 @@ fn crosses(rule: bool, state: u8, l: Link, a: usize, s: u8) -> bool
 // A packet that came so far goes on over these labels, or back over them, unless it is lost.
 fn run_way(
     p: Plant,
-    rules: [bool; LABELS],
+    rules: [bool; Plant::LABELS],
     states: &[u8],
     e: End,
     labels: &[u16],
@@ -115,7 +115,7 @@ fn run_way(
 }
 
 // A packet that came so far goes on with these labels, unless it is lost.
-pub fn run_on(p: Plant, rules: [bool; LABELS], states: &[u8], e: End, labels: &[u16]) -> End
+pub fn run_on(p: Plant, rules: [bool; Plant::LABELS], states: &[u8], e: End, labels: &[u16]) -> End
     requires { ⌜ CanRun p rules (now states) ⌝ }
     requires { do ⌜ e .hops + length (now labels) ≤ (← ⟦usize::MAX⟧) ⌝ }
     ensures { λ r. ⌜ endOf r ≡ goesOn p rules (now (states .entry)) (endOf e) (now (labels .entry)) ⌝ }
@@ -124,7 +124,7 @@ pub fn run_on(p: Plant, rules: [bool; LABELS], states: &[u8], e: End, labels: &[
 }
 
 // A packet that came so far goes back over these labels, unless it is lost: over the opposite arcs, from the last.
-fn run_back(p: Plant, rules: [bool; LABELS], states: &[u8], e: End, labels: &[u16]) -> End
+fn run_back(p: Plant, rules: [bool; Plant::LABELS], states: &[u8], e: End, labels: &[u16]) -> End
     requires { ⌜ CanRun p rules (now states) ⌝ }
     requires { do ⌜ e .hops + length (now labels) ≤ (← ⟦usize::MAX⟧) ⌝ }
     ensures { λ r. ⌜ endOf r ≡ goesOn p rules (now (states .entry)) (endOf e) (back (now (labels .entry))) ⌝ }
@@ -133,7 +133,13 @@ fn run_back(p: Plant, rules: [bool; LABELS], states: &[u8], e: End, labels: &[u1
 }
 
 // The full check: the packet runs under the forwarding table over the ring of switch s, which is the trail from the place of s on and then its front.
-pub fn full_check(p: Plant, table: [bool; LABELS], states: &[u8], s: u8, trail: &[u16]) -> End
+pub fn full_check(
+    p: Plant,
+    table: [bool; Plant::LABELS],
+    states: &[u8],
+    s: u8,
+    trail: &[u16],
+) -> End
     requires { ⌜ CanProbe p table (now states) (now trail) ⌝ }
     ensures { λ r. ⌜ endOf r ≡ run (inTable p) (upBy (now (states .entry))) (head p) s 0 (ringOf p (now (trail .entry)) s) ⌝ }
 {
@@ -143,12 +149,12 @@ pub fn full_check(p: Plant, table: [bool; LABELS], states: &[u8], s: u8, trail: 
 }
 
 // All rules: those of the forwarding table, and those that opposite arcs have of their own. There are two to each link.
-pub fn all_rules(p: Plant) -> [bool; LABELS]
+pub fn all_rules(p: Plant) -> [bool; Plant::LABELS]
     requires { ⌜ Sound p ⌝ }
     ensures { λ r. ⌜ ForAll p r ⌝ }
 {
     let n = 2 * (p.count as usize);
-    let mut rules = [false; LABELS];
+    let mut rules = [false; Plant::LABELS];
     let mut a: usize = 0;
     while a < n {
         rules[a] = true;
@@ -160,7 +166,7 @@ pub fn all_rules(p: Plant) -> [bool; LABELS]
 // From switch s out over x and then y, and back over the opposite arcs.
 fn there_and_back(
     p: Plant,
-    rules: [bool; LABELS],
+    rules: [bool; Plant::LABELS],
     states: &[u8],
     s: u8,
     x: &[u16],
@@ -179,7 +185,7 @@ fn there_and_back(
 // The run of probe m of switch s: the full check if m is the number of links; else out up to the first crossing of the m-th link of the order, and back.
 pub fn probe_run(
     p: Plant,
-    table: [bool; LABELS],
+    table: [bool; Plant::LABELS],
     states: &[u8],
     s: u8,
     trail: &[u16],

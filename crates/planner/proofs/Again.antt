@@ -6,8 +6,8 @@ use Prim.Native.Nat.{ℕ, _≤_}
 use native.Mathlib.Omega.{arith}
 use lib.ListN.{length, take, drop}
 use Rattle.plant.specs.declared.Plant.{Plant}
-use Rattle.plant.specs.Refusals.{Answer, given, refused, refuse, _>>=_}
-use Rattle.model.proofs.Answers.{given-refused, refused-refused}
+use Rattle.answers.specs.Answers.{Answer, given, refused, refuse, _>>=_}
+use Rattle.answers.proofs.Checks.{given-refused, refused-refused}
 use Rattle.listing.specs.declared.Decoded.{Decoded}
 use Rattle.listing.specs.Field.{Bytes}
 use Rattle.listing.specs.Listing.{decode, encode}

@@ -14,7 +14,7 @@ use Rattle.plant.proofs.Link
 use Rattle.plant.proofs.Plant
 use Rattle.plant.specs.declared.Plant.{Plant}
 use Rattle.plant.specs.Links.{zeroLink}
-use Rattle.model.specs.Limits.{maxLinks}
+use Rattle.limits.specs.Limits.{maxLinks}
 use Rattle.listing.specs.Conditions.{Typed}
 
 pub each-good : {d : Type 0} (f : d → List Val → Fml) (P : d → Type 0) → ((x : d) (vs : List Val) → shadow (f x vs) → P x)

@@ -8,19 +8,20 @@ use lib.Dec.{leb}
 use lib.ListN.{getD}
 use Rattle.lists.proofs.Tests.{true-T}
 use Rattle.plant.specs.declared.Plant.{Plant}
-use Rattle.plant.specs.declared.Refusal.{Refusal}
-use Rattle.plant.specs.Refusals.{Answer, given, refused, refuse, _>>=_, numberOf}
-use Rattle.model.proofs.Answers.{given-refused, given-given, refuse-given, then-given}
-use Rattle.model.specs.Sound.{Sound}
+use Rattle.answers.specs.declared.Refusal.{Refusal}
+use Rattle.answers.specs.Answers.{Answer, given, refused, refuse, _>>=_, numberOf}
+use Rattle.answers.proofs.Checks.{given-refused, given-given, refuse-given, then-given}
+use Rattle.limits.specs.Sound.{Sound}
 use Rattle.walks.specs.Graph.{Connected, connected}
 use Rattle.walks.proofs.Tests.{connected-is}
 use Rattle.walks.proofs.Valid.{sound-valid}
 use Rattle.listing.specs.declared.Decoded.{Decoded}
-use Rattle.listing.specs.declared.Verdict.{Verdict}
-use Rattle.listing.specs.declared.Verdict.the-variants as verdict
+use Rattle.answers.specs.declared.Verdict.{Verdict}
+use Rattle.answers.specs.declared.Verdict.the-variants as verdict
 use Rattle.listing.specs.Field.{Bytes}
 use Rattle.listing.specs.Listing.{decode}
-use Rattle.listing.specs.Answers.{verdictAnswer, Reads}
+use Rattle.answers.specs.Answers.{verdictAnswer}
+use Rattle.listing.specs.Answers.{Reads}
 use Rattle.listing.proofs.RoundTrip.{decode-sound}
 use Rattle.planner.specs.Planning.{notConnected, joined, planning, switchOutOfRange, planningAt}
 use Rattle.planner.specs.Answers.{Ready}
@@ -33,7 +34,7 @@ bytes-known (b ∷ s) f = (f 0, bytes-known s (λ i. f (suc i)))
 -- ---- an answer whose verdict is known
 
 module _ (a : Answer Plant) (r : Decoded) (q : Reads a r) where
-  pub read-sound : r .verdict ≡ verdict.Sound → a ≡ given (r .plant)
+  pub read-sound : r .verdict ≡ verdict.Accepted → a ≡ given (r .plant)
   read-sound e = sym (q .answer) ∙ ap (λ (v : Verdict). verdictAnswer v >>= λ _. given (r .plant)) e
 
   pub read-refused : (k : Refusal) → r .verdict ≡ verdict.Refused k → a ≡ refused (numberOf k)
@@ -76,7 +77,7 @@ pub plan-answer : (s : List ℕ) (r : Decoded) → Bytes s → Reads (planning s
 plan-answer s r b q = (q, λ e. plan-ready s (r .plant) b (read-sound (planning s) r q e))
 
 module _ (s : List ℕ) (r : Decoded) (q : Reads (decode s) r) where
-  pub stays-joined : r .verdict ≡ verdict.Sound → connected (r .plant) ≡ true → Reads (planning s) r
+  pub stays-joined : r .verdict ≡ verdict.Accepted → connected (r .plant) ≡ true → Reads (planning s) r
   stays-joined e f =
       let d = read-sound (decode s) r q e in
       subst (λ (a : Answer Plant). Reads a r) (d ∙ sym (plan-joined s (r .plant) d f)) q
@@ -86,19 +87,19 @@ module _ (s : List ℕ) (r : Decoded) (q : Reads (decode s) r) where
       let d = read-refused (decode s) r q k e in
       subst (λ (a : Answer Plant). Reads a r) (d ∙ sym (plan-refused s (numberOf k) d)) q
 
-  pub becomes-refused : (t : Decoded) → r .verdict ≡ verdict.Sound → connected (r .plant) ≡ false → Reads (refused 9) t → Reads (planning s) t
+  pub becomes-refused : (t : Decoded) → r .verdict ≡ verdict.Accepted → connected (r .plant) ≡ false → Reads (refused 9) t → Reads (planning s) t
   becomes-refused t e f u = subst (λ (a : Answer Plant). Reads a t) (sym (plan-apart s (r .plant) (read-sound (decode s) r q e) f)) u
 
 -- ---- refusals 1 to 9, then 11
 
 module _ (s : List ℕ) (x : ℕ) (r : Decoded) (q : Reads (planning s) r) where
-  pub at-inside : r .verdict ≡ verdict.Sound → x < r .plant .switches → Reads (planningAt s x) r
+  pub at-inside : r .verdict ≡ verdict.Accepted → x < r .plant .switches → Reads (planningAt s x) r
   unfolding planningAt switchOutOfRange
   at-inside e h =
       let g = read-sound (planning s) r q e in
       subst (λ (a : Answer Plant). Reads a r) (g ∙ sym (rw (g, lt-leb (r .plant .switches) x h) refl)) q
 
-  pub at-outside : (t : Decoded) → r .verdict ≡ verdict.Sound → r .plant .switches ≤ x → Reads (refused 11) t → Reads (planningAt s x) t
+  pub at-outside : (t : Decoded) → r .verdict ≡ verdict.Accepted → r .plant .switches ≤ x → Reads (refused 11) t → Reads (planningAt s x) t
   unfolding planningAt switchOutOfRange
   at-outside t e h u = subst (λ (a : Answer Plant). Reads a t) (sym (rw (read-sound (planning s) r q e, le-leb (r .plant .switches) x h) refl)) u
 

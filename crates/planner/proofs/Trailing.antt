@@ -8,9 +8,9 @@ use borrow.Author.Tests.{lt-ltb, le-ltb}
 use lib.ListN.{length}
 use Rattle.lists.proofs.Count.{count-all}
 use Rattle.plant.specs.declared.Plant.{Plant}
-use Rattle.plant.specs.Refusals.{Answer, given, refused}
-use Rattle.model.specs.Limits.{maxLinks}
-use Rattle.model.specs.Sound.{Sound}
+use Rattle.answers.specs.Answers.{Answer, given, refused}
+use Rattle.limits.specs.Limits.{maxLinks}
+use Rattle.limits.specs.Sound.{Sound}
 use Rattle.walks.specs.Graph.{Connected, bridge, used, bridges, arcsUsed}
 use Rattle.walks.proofs.Live.{all-live}
 use Rattle.graph.specs.Flags.{Flags, countSet}

@@ -4,13 +4,12 @@ use mathlib.Core.Bool.{Bool, false}
 use mathlib.Core.List.{List, []}
 use Prim.Native.Nat.{ℕ}
 use lib.ListN.{replicate}
-use Rattle.plant.specs.Refusals.{Answer, given, refused, _>>=_, numberOf}
-use Rattle.model.specs.Limits.{maxLinks}
-use Rattle.model.specs.Sound.{Sound}
+use Rattle.answers.specs.Answers.{Answer, given, refused, numberOf, Beside}
+use Rattle.limits.specs.Limits.{maxLinks}
+use Rattle.limits.specs.Sound.{Sound}
 use Rattle.walks.specs.Graph.{Connected}
 use Rattle.listing.specs.declared.Decoded.{Decoded}
-use Rattle.listing.specs.declared.Verdict.the-variants as verdict
-use Rattle.listing.specs.Answers.{verdictAnswer}
+use Rattle.answers.specs.declared.Verdict.the-variants as verdict
 use Rattle.table.specs.declared.Table.{Table}
 use Rattle.table.specs.Rules.{tableWith}
 use Rattle.planner.specs.declared.Bridged.{Bridged}
@@ -25,35 +24,17 @@ use Rattle.planner.specs.declared.Trailed.the-variants as trailed
 
 -- where it is not refused, the plant is sound and connected
 abbrev pub Ready : Decoded → Type 0
-Ready r = r .verdict ≡ verdict.Sound → Sound (r .plant) × Connected (r .plant)
+Ready r = r .verdict ≡ verdict.Accepted → Sound (r .plant) × Connected (r .plant)
 
--- ---- the forwarding table
+-- ---- the forwarding table; at a refusal it has no rules
 
-abbrev pub tableAnswer : Tabled → Answer Table
-tableAnswer r = verdictAnswer (r .verdict) >>= λ _. given (r .table)
+abbrev pub Tables : Answer Table → Tabled → Type 0
+Tables a r = Beside (tableWith []) a (r .verdict) (r .table)
 
--- the table part of the answer: at a refusal the table without rules
-abbrev pub tablePart : Answer Table → Table
-tablePart (given t) = t
-tablePart (refused n) = tableWith []
+-- ---- the bridges; at a refusal no flag is set
 
-pub record Tables (a : Answer Table) (r : Tabled) : Type 0 where
-  pub answer : tableAnswer r ≡ a
-  pub table : r .table ≡ tablePart a
-
--- ---- the bridges
-
-abbrev pub bridgesAnswer : Bridged → Answer (List Bool)
-bridgesAnswer r = verdictAnswer (r .verdict) >>= λ _. given (r .flags)
-
--- the flags part of the answer: at a refusal none is set
-abbrev pub flagsPart : Answer (List Bool) → List Bool
-flagsPart (given fs) = fs
-flagsPart (refused n) = replicate maxLinks false
-
-pub record Bridges (a : Answer (List Bool)) (r : Bridged) : Type 0 where
-  pub answer : bridgesAnswer r ≡ a
-  pub flags : r .flags ≡ flagsPart a
+abbrev pub Bridges : Answer (List Bool) → Bridged → Type 0
+Bridges a r = Beside (replicate maxLinks false) a (r .verdict) (r .flags)
 
 -- ---- the numbers of a plant, and the trail
 

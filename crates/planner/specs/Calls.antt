@@ -7,8 +7,8 @@ use lib.ListN.{length, drop}
 use Rattle.lists.specs.Tests.{choose}
 use Rattle.lists.specs.Numbers.{range}
 use Rattle.plant.specs.declared.Plant.{Plant}
-use Rattle.plant.specs.Refusals.{Answer, given, refused, refuse, _>>=_}
-use Rattle.model.specs.Limits.{maxLinks}
+use Rattle.answers.specs.Answers.{Answer, given, refused, refuse, _>>=_}
+use Rattle.limits.specs.Limits.{maxLinks}
 use Rattle.listing.specs.Listing.{decode}
 use Rattle.listing.specs.Writing.{soundPlant, bufferShort}
 use Rattle.walks.specs.Graph.{bridge, liveLinks, bridges, arcsUsed}

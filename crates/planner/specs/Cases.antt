@@ -6,10 +6,10 @@ use Prim.Native.Nat.{ℕ, _+_}
 use lib.ListN.{take, replicate}
 use Rattle.plant.specs.declared.Link.{Link}
 use Rattle.plant.specs.Links.{plantWith, live}
-use Rattle.plant.specs.Refusals.{Answer, given, refused, _>>=_}
+use Rattle.answers.specs.Answers.{Answer, given, refused, _>>=_}
 use Rattle.listing.specs.Part.{taken, valueOf, repeats, mapMissing, mapUndefined, fieldMissing, fieldRedundant, fieldValues, afterPart, part}
 use Rattle.listing.specs.Listing.{valueOutOfRange, endOutOfRange, selfLink, soundLink, bytesRemain, judgedHeader, header, judged, link, links, withLinks, finish, afterHeader, decode, linksOf}
-use Rattle.model.specs.Limits.{maxSwitches}
+use Rattle.limits.specs.Limits.{maxSwitches}
 use Rattle.lists.specs.Count.{count}
 use Rattle.lists.specs.Least.{leastFrom}
 use Rattle.lists.specs.Numbers.{every}

@@ -4,7 +4,7 @@ use mathlib.Core.List.{List}
 use Prim.Native.Nat.{ℕ}
 use lib.Dec.{leb}
 use Rattle.plant.specs.declared.Plant.{Plant}
-use Rattle.plant.specs.Refusals.{Answer, given, refuse, _>>=_}
+use Rattle.answers.specs.Answers.{Answer, given, refuse, _>>=_}
 use Rattle.walks.specs.Graph.{connected}
 use Rattle.listing.specs.Listing.{decode}
 

@@ -1,16 +1,15 @@
 // The planner's calls that are given a listing. Each begins with the refusals of reading (1 to 8) or of planning (1 to 9).
-use distance::LABELS;
+use answers::Refusal;
+use answers::Verdict;
 use listing::Decoded;
-use listing::Verdict;
 use listing::Written;
 use plant::Plant;
-use plant::Refusal;
 use table::Table;
 ghost use mathlib.Core.Path.{_≡_};
 ghost use Prim.Native.Nat.{_*_};
 ghost use lib.ListN.{length};
-ghost use Rattle.model.specs.Limits.{maxLinks};
-ghost use Rattle.model.specs.Sound.{Sound};
+ghost use Rattle.limits.specs.Limits.{maxLinks};
+ghost use Rattle.limits.specs.Sound.{Sound};
 ghost use Rattle.walks.specs.Graph.{Connected, bridge, used};
 ghost use Rattle.graph.specs.Flags.{Flags};
 ghost use Rattle.routes.specs.Plants.{trailOf};
@@ -60,7 +59,7 @@ pub fn plan(listing: &[u8]) -> Decoded
     let d = reading::read(listing);
     let v = d.verdict;
     match v {
-        Verdict::Sound => {
+        Verdict::Accepted => {
             if graph::is_connected(d.plant) {
                 return d;
             }
@@ -78,7 +77,7 @@ pub fn plan_at(listing: &[u8], switch: u8) -> Decoded
     let d = plan(listing);
     let v = d.verdict;
     match v {
-        Verdict::Sound => {
+        Verdict::Accepted => {
             if switch < d.plant.switches {
                 return d;
             }
@@ -96,7 +95,7 @@ pub fn rewrite(listing: &[u8], buffer: &mut [u8]) -> Written
     let d = reading::read(listing);
     let v = d.verdict;
     match v {
-        Verdict::Sound => {
+        Verdict::Accepted => {
             let p = d.plant;
             listing::write(p, buffer)
         }
@@ -122,11 +121,11 @@ pub fn forwarding_table(listing: &[u8]) -> Tabled
     let d = plan(listing);
     let v = d.verdict;
     match v {
-        Verdict::Sound => {
+        Verdict::Accepted => {
             let p = d.plant;
             let table = table::table_of(p, graph::arcs_in_use(p));
             Tabled {
-                verdict: Verdict::Sound,
+                verdict: Verdict::Accepted,
                 table,
             }
         }
@@ -147,10 +146,10 @@ pub fn find_bridges(listing: &[u8]) -> Bridged
     let d = plan(listing);
     let v = d.verdict;
     match v {
-        Verdict::Sound => {
+        Verdict::Accepted => {
             let flags = graph::bridges(d.plant);
             Bridged {
-                verdict: Verdict::Sound,
+                verdict: Verdict::Accepted,
                 flags,
             }
         }
@@ -165,7 +164,12 @@ pub fn find_bridges(listing: &[u8]) -> Bridged
 }
 
 // The numbers of a plant, from the flags of its bridges and of its arcs in use and the hops of its trail.
-pub fn numbers_with(p: Plant, b: [bool; Plant::MAX_LINKS], u: [bool; LABELS], hops: u16) -> Numbers
+pub fn numbers_with(
+    p: Plant,
+    b: [bool; Plant::MAX_LINKS],
+    u: [bool; Plant::LABELS],
+    hops: u16,
+) -> Numbers
     requires { ⌜ Sound p ⌝ }
     requires { ⌜ Flags maxLinks (bridge p) b × Flags (2 * maxLinks) (used p) u ⌝ }
     requires { ⌜ hops ≡ length (trailOf p) ⌝ }
@@ -202,7 +206,7 @@ pub fn summarize(listing: &[u8]) -> Summary
     let d = plan(listing);
     let v = d.verdict;
     match v {
-        Verdict::Sound => {
+        Verdict::Accepted => {
             let p = d.plant;
             Summary::Plant(numbers_of(p))
         }
@@ -236,7 +240,7 @@ pub fn lay_trail(listing: &[u8], buffer: &mut [u16]) -> Trailed
     let d = plan(listing);
     let v = d.verdict;
     match v {
-        Verdict::Sound => {
+        Verdict::Accepted => {
             let p = d.plant;
             put_trail(p, buffer)
         }

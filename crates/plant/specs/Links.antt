@@ -1,5 +1,5 @@
 -- The link places of a plant: the zero place, a plant with zeros in all places, and the ends of a link by its number.
-use Prim.Native.Nat.{ℕ}
+use Prim.Native.Nat.{ℕ, zero, suc}
 use mathlib.Core.Bool.{Bool}
 use lib.Dec.{ltb}
 use lib.ListN.{getD, replicate}
@@ -12,6 +12,11 @@ zeroLink = record { first = 0; second = 0; tag = 0 }
 -- a plant with so many link places, all zero
 unfoldable pub plantWith : ℕ → ℕ → ℕ → ℕ → Plant
 plantWith places switches count start = record { switches = switches; count = count; start = start; links = replicate places zeroLink }
+
+-- the one or the other, by a number that is 0 or not
+abbrev pub side : ℕ → ℕ → ℕ → ℕ
+side zero x y = x
+side (suc n) x y = y
 
 module _ (p : Plant) where
   abbrev pub linkAt : ℕ → Link

@@ -1,7 +1,7 @@
-// The plant: switches joined by two-way links, as a value; its limits; and the seventeen refusals by name.
+// The plant: switches joined by two-way links, as a value, and its limits.
 ghost use mathlib.Core.Path.{_≡_};
-ghost use Rattle.plant.specs.Links.{zeroLink, plantWith};
-ghost use Rattle.plant.specs.Refusals.{numberOf};
+ghost use Prim.Native.Nat.{_%_};
+ghost use Rattle.plant.specs.Links.{zeroLink, plantWith, side};
 
 // A two-way link between two switches, with its cable tag. Label 2 * l crosses link l from its first end to its second, and 2 * l + 1 crosses it back.
 pub struct Link {
@@ -36,6 +36,11 @@ impl Plant {
 
     pub const MAX_LINKS: usize = 256;
 
+    // A place for each switch that a plant can have, and one for each label.
+    pub const PLACES: usize = Plant::MAX_SWITCHES as usize;
+
+    pub const LABELS: usize = 2 * Plant::MAX_LINKS;
+
     // The most hops that a trail can have.
     pub const MAX_HOPS: usize = 20479;
 
@@ -61,6 +66,26 @@ impl Plant {
     }
 }
 
+// The switch that the arc of label a leaves, where l is the link that it crosses.
+pub fn tail_of(l: Link, a: usize) -> u8
+    ensures { λ r. ⌜ r ≡ side (a % 2) (l .first) (l .second) ⌝ }
+{
+    if a % 2 == 0 {
+        return l.first;
+    }
+    l.second
+}
+
+// The switch that it reaches.
+pub fn head_of(l: Link, a: usize) -> u8
+    ensures { λ r. ⌜ r ≡ side (a % 2) (l .second) (l .first) ⌝ }
+{
+    if a % 2 == 0 {
+        return l.second;
+    }
+    l.first
+}
+
 // The limits as numbers, for definitions of the crates above: their contracts ask each constant its value.
 pub fn most_switches() -> u8
     ensures { λ r. do ⌜ r ≡ (← ⟦Plant::MAX_SWITCHES⟧ .entry) ⌝ }
@@ -78,51 +103,4 @@ pub fn most_hops() -> usize
     ensures { λ r. do ⌜ r ≡ (← ⟦Plant::MAX_HOPS⟧ .entry) ⌝ }
 {
     Plant::MAX_HOPS
-}
-
-// The refusals, in the order of their numbers, 1 to 17. Each is named after its condition.
-pub enum Refusal {
-    MapMissing,
-    MapUndefined,
-    FieldMissing,
-    FieldRedundant,
-    ValueOutOfRange,
-    EndOutOfRange,
-    SelfLink,
-    BytesRemain,
-    NotConnected,
-    TrailBufferShort,
-    SwitchOutOfRange,
-    TrailDiffers,
-    StatesShort,
-    SearchUnsound,
-    SearchEnded,
-    ListingBufferShort,
-    SpareTooLarge,
-}
-
-impl Refusal {
-    pub fn number(self) -> u8
-        ensures { λ r. ⌜ r ≡ numberOf self ⌝ }
-    {
-        match self {
-            Refusal::MapMissing => 1,
-            Refusal::MapUndefined => 2,
-            Refusal::FieldMissing => 3,
-            Refusal::FieldRedundant => 4,
-            Refusal::ValueOutOfRange => 5,
-            Refusal::EndOutOfRange => 6,
-            Refusal::SelfLink => 7,
-            Refusal::BytesRemain => 8,
-            Refusal::NotConnected => 9,
-            Refusal::TrailBufferShort => 10,
-            Refusal::SwitchOutOfRange => 11,
-            Refusal::TrailDiffers => 12,
-            Refusal::StatesShort => 13,
-            Refusal::SearchUnsound => 14,
-            Refusal::SearchEnded => 15,
-            Refusal::ListingBufferShort => 16,
-            Refusal::SpareTooLarge => 17,
-        }
-    }
 }

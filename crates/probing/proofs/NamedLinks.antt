@@ -11,9 +11,9 @@ use Rattle.lists.specs.Members.{In, Distinct}
 use Rattle.lists.proofs.Members.{getD-in}
 use Rattle.plant.specs.declared.Plant.{Plant}
 use Rattle.plant.specs.Links.{live}
-use Rattle.plant.specs.Refusals.{given, refuse}
-use Rattle.model.specs.Sound.{Sound}
-use Rattle.model.proofs.Answers.{given-given, refuse-given}
+use Rattle.answers.specs.Answers.{given, refuse}
+use Rattle.limits.specs.Sound.{Sound}
+use Rattle.answers.proofs.Checks.{given-given, refuse-given}
 use Rattle.walks.specs.Graph.{Connected, liveLinks}
 use Rattle.walks.proofs.Valid.{sound-valid}
 use Rattle.routes.specs.Plants.{trailOf}

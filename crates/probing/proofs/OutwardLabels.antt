@@ -7,8 +7,8 @@ use Prim.Native.Nat.{ℕ}
 use lib.Dec.{eqb}
 use Rattle.lists.specs.Tests.{choose}
 use Rattle.plant.specs.declared.Plant.{Plant}
-use Rattle.plant.specs.Refusals.{given, refuse, _>>=_}
-use Rattle.model.proofs.Answers.{given-given, refuse-given, then-given}
+use Rattle.answers.specs.Answers.{given, refuse, _>>=_}
+use Rattle.answers.proofs.Checks.{given-given, refuse-given, then-given}
 use Rattle.walks.specs.Graph.{liveLinks}
 use Rattle.routes.specs.Plants.{trailOf}
 use Rattle.rings.specs.Packet.{End}

@@ -1,13 +1,13 @@
 -- What each call answers in a plant where nothing is refused, from what the code computes of a lent trail that is the plant's. Assumes nothing.
-use mathlib.Core.Path.{_≡_, sym, ap, _∙_, subst}
+use mathlib.Core.Path.{_≡_, refl, sym, ap, _∙_, subst}
 use mathlib.Core.Bool.{Bool, false}
 use mathlib.Core.List.{List}
 use Prim.Native.Nat.{ℕ, _-_, _*_}
 use lib.ListN.{getD}
 use borrow.Author.Tests.{eq-eqb, ne-eqb}
 use Rattle.plant.specs.declared.Plant.{Plant}
-use Rattle.plant.specs.Refusals.{Answer, given}
-use Rattle.model.specs.Limits.{maxLinks}
+use Rattle.answers.specs.Answers.{Answer, given}
+use Rattle.limits.specs.Limits.{maxLinks}
 use Rattle.walks.specs.Arcs.{head}
 use Rattle.walks.specs.Graph.{used}
 use Rattle.walks.proofs.Live.{all-live}
@@ -17,7 +17,7 @@ use Rattle.rings.specs.Packet as ring
 use Rattle.rings.specs.Rules.{upBy, inTable}
 use Rattle.rings.specs.Order.{nth}
 use Rattle.rings.specs.Injection.{ringOf, orderOf, probeRun}
-use Rattle.listing.specs.declared.Verdict.the-variants as verdict
+use Rattle.answers.specs.declared.Verdict.the-variants as verdict
 use Rattle.graph.specs.Flags.{Flags}
 use Rattle.order.specs.declared.Order.{Order}
 use Rattle.order.specs.declared.Span.{Span}
@@ -33,8 +33,9 @@ use Rattle.search.specs.declared.Outcome.{Outcome}
 use Rattle.probing.specs.declared.Ordered.{Ordered}
 use Rattle.probing.specs.Conditions.{trailDiffers}
 use Rattle.probing.specs.Calls.{outcomeOf, orderIn, outSpan, link, namedIn}
-use Rattle.probing.specs.Answers.{Orders, orderPart}
-use Rattle.model.proofs.Answers.{fails}
+use Rattle.probing.specs.Answers.{Orders}
+use Rattle.answers.proofs.Checks.{fails}
+use Rattle.answers.proofs.Beside.{beside-given}
 use Rattle.probing.proofs.Lent.{trail-same}
 
 -- ---- a packet that is no probe
@@ -79,10 +80,7 @@ module _ (p : Plant) (w : List ℕ) (x : ℕ) (same : w ≡ trailOf p) where
       rw e (ap (λ (j : ℕ). given (link j)) l)
 
 pub ordered : (p : Plant) (w : List ℕ) (x : ℕ) (o : Order) → trailDiffers p w ≡ false → o ≡ listed (orderOf p w x)
-    → Orders (orderIn p x w) (record { verdict = verdict.Sound; order = o })
+    → Orders (orderIn p x w) (record { verdict = verdict.Accepted; order = o })
 unfolding orderIn
 ordered p w x o d f =
-    let g : given o ≡ orderIn p x w =
-    fails 12 _ _ _ d (ap given (f ∙ ap (λ (v : List ℕ). listed (orderOf p v x)) (trail-same p w d)))
-    in
-    record { answer = g; order = ap orderPart g }
+    beside-given _ _ _ _ refl (sym (fails 12 _ _ _ d (ap given (f ∙ ap (λ (v : List ℕ). listed (orderOf p v x)) (trail-same p w d)))))

@@ -4,10 +4,10 @@ use mathlib.Core.Bool.{Bool, true, false, not, _&&_}
 use Prim.Native.Nat.{ℕ, _≤_}
 use borrow.Author.Tests.{not-false}
 use Rattle.lists.proofs.Tests.{and-true}
-use Rattle.plant.specs.Refusals.{given, refused, refuse, numberOf}
-use Rattle.model.proofs.Answers.{given-given, refuse-given}
+use Rattle.answers.specs.Answers.{given, refused, refuse, numberOf}
+use Rattle.answers.proofs.Checks.{given-given, refuse-given}
 use Rattle.plant.specs.declared.Plant.{Plant}
-use Rattle.plant.specs.declared.Refusal.{Refusal}
+use Rattle.answers.specs.declared.Refusal.{Refusal}
 use Rattle.walks.specs.Graph.{liveLinks}
 use Rattle.walks.proofs.Live.{all-live}
 use Rattle.search.specs.declared.Search.{Search}

@@ -11,7 +11,7 @@ use lib.Seq.{take-all, length-take-le}
 use borrow.Author.Tests.{ltb-true, ltb-false, le-ltb}
 use Rattle.lists.proofs.Tests.{bool?}
 use Rattle.plant.specs.declared.Plant.{Plant}
-use Rattle.plant.specs.Refusals.{Answer, given, refused, refuse, _>>=_}
+use Rattle.answers.specs.Answers.{Answer, given, refused, refuse, _>>=_}
 use Rattle.walks.specs.Arcs.{head}
 use Rattle.walks.specs.Graph.{liveLinks}
 use Rattle.routes.specs.Plants.{trailOf}

@@ -2,8 +2,7 @@
 use mathlib.Core.Path.{_≡_}
 use mathlib.Core.Bool.{Bool, true, false}
 use mathlib.Core.List.{[]}
-use Rattle.plant.specs.Refusals.{Answer, given, refused, _>>=_, numberOf}
-use Rattle.listing.specs.Answers.{verdictAnswer}
+use Rattle.answers.specs.Answers.{Answer, given, refused, numberOf, Beside}
 use Rattle.order.specs.declared.Order.{Order}
 use Rattle.order.specs.declared.Span.{Span}
 use Rattle.order.specs.Order.{listed}
@@ -39,16 +38,7 @@ namedAnswer named-is.AllUp = given none
 namedAnswer named-is.Open = given unknown
 namedAnswer (named-is.Refused k) = refused (numberOf k)
 
--- ---- the order of links
+-- ---- the order of links; at a refusal it has no links
 
-abbrev pub orderAnswer : Ordered → Answer Order
-orderAnswer r = verdictAnswer (r .verdict) >>= λ _. given (r .order)
-
--- the order part of the answer: at a refusal the order without links
-abbrev pub orderPart : Answer Order → Order
-orderPart (given o) = o
-orderPart (refused n) = listed []
-
-pub record Orders (a : Answer Order) (r : Ordered) : Type 0 where
-  pub answer : orderAnswer r ≡ a
-  pub order : r .order ≡ orderPart a
+abbrev pub Orders : Answer Order → Ordered → Type 0
+Orders a r = Beside (listed []) a (r .verdict) (r .order)

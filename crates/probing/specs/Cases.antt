@@ -9,7 +9,7 @@ use Rattle.lists.specs.Numbers.{every}
 use Rattle.lists.specs.Least.{leastFrom}
 use Rattle.plant.specs.declared.Plant.{Plant}
 use Rattle.plant.specs.Links.{plantWith, live}
-use Rattle.plant.specs.Refusals.{Answer, given, refused, _>>=_}
+use Rattle.answers.specs.Answers.{Answer, given, refused, _>>=_}
 use Rattle.walks.specs.Visit.{scan, visit}
 use Rattle.walks.specs.Arcs.{opposite, tail, head}
 use Rattle.walks.specs.Graph.{arcs, others, visitFrom, visited, connected, bridge, entered, earlier, used, liveLinks}

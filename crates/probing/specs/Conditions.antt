@@ -5,7 +5,7 @@ use Prim.Native.Nat.{ℕ}
 use lib.Dec.{ltb}
 use lib.ListN.{length}
 use Rattle.plant.specs.declared.Plant.{Plant}
-use Rattle.plant.specs.Refusals.{Answer, given, refuse}
+use Rattle.answers.specs.Answers.{Answer, given, refuse}
 use Rattle.routes.specs.Plants.{trailOf}
 use Rattle.trail.specs.Filled.{sameList}
 use Rattle.search.specs.declared.Search.{Search}

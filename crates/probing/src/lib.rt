@@ -1,19 +1,18 @@
 // The calls on packets and probes that are given a listing (document 01, "Rules, packets, ring" and "Search"). Each begins with the refusals of planning and that of
 // a named switch; the others follow in the order of their numbers.
-use distance::LABELS;
-use listing::Verdict;
+use answers::Refusal;
+use answers::Verdict;
 use order::Order;
 use order::Span;
 use packet::End;
 use plant::Plant;
-use plant::Refusal;
 use search::Asked;
 use search::Outcome;
 use search::Search;
 ghost use mathlib.Core.Path.{_≡_};
 ghost use Prim.Native.Nat.{_≤_};
-ghost use Rattle.plant.specs.Refusals.{given, refused, numberOf};
-ghost use Rattle.model.specs.Sound.{Sound};
+ghost use Rattle.answers.specs.Answers.{given, refused, numberOf};
+ghost use Rattle.limits.specs.Sound.{Sound};
 ghost use Rattle.walks.specs.Graph.{Connected};
 ghost use Rattle.routes.specs.Plants.{trailOf};
 ghost use Rattle.rings.specs.Injection.{orderOf};
@@ -61,7 +60,7 @@ pub enum Named {
 // ---- the refusals
 
 // Refusal 12: is the lent trail, in its whole length, another than the plant's?
-fn differs(p: Plant, used: [bool; LABELS], trail: &[u16]) -> bool
+fn differs(p: Plant, used: [bool; Plant::LABELS], trail: &[u16]) -> bool
     requires { ⌜ Planned p used ⌝ }
     ensures { λ r. ⌜ r ≡ trailDiffers p (now (trail .entry)) ⌝ }
 {
@@ -120,7 +119,7 @@ pub fn run(listing: &[u8], switch: u8, labels: &[u16], states: &[u8]) -> Ran
     let d = planner::plan_at(listing, switch);
     let v = d.verdict;
     match v {
-        Verdict::Sound => {
+        Verdict::Accepted => {
             let p = d.plant;
             run_in(p, switch, labels, states)
         }
@@ -163,7 +162,7 @@ pub fn full_check(listing: &[u8], switch: u8, trail: &[u16], states: &[u8]) -> P
     let d = planner::plan_at(listing, switch);
     let v = d.verdict;
     match v {
-        Verdict::Sound => {
+        Verdict::Accepted => {
             let p = d.plant;
             check_in(p, switch, trail, states)
         }
@@ -194,7 +193,7 @@ fn order_in(p: Plant, switch: u8, trail: &[u16]) -> Ordered
     }
     let order = order::order_of(p, switch, trail);
     Ordered {
-        verdict: Verdict::Sound,
+        verdict: Verdict::Accepted,
         order,
     }
 }
@@ -206,7 +205,7 @@ pub fn order_of_links(listing: &[u8], switch: u8, trail: &[u16]) -> Ordered
     let d = planner::plan_at(listing, switch);
     let v = d.verdict;
     match v {
-        Verdict::Sound => {
+        Verdict::Accepted => {
             let p = d.plant;
             order_in(p, switch, trail)
         }
@@ -251,7 +250,7 @@ pub fn outward_labels(listing: &[u8], switch: u8, trail: &[u16], search: Search)
     let d = planner::plan_at(listing, switch);
     let v = d.verdict;
     match v {
-        Verdict::Sound => {
+        Verdict::Accepted => {
             let p = d.plant;
             outward_in(p, switch, trail, search)
         }
@@ -289,7 +288,7 @@ pub fn run_probe(listing: &[u8], switch: u8, trail: &[u16], states: &[u8], searc
     let d = planner::plan_at(listing, switch);
     let v = d.verdict;
     match v {
-        Verdict::Sound => {
+        Verdict::Accepted => {
             let p = d.plant;
             probe_in(p, switch, trail, states, search)
         }
@@ -339,7 +338,7 @@ pub fn link_named(listing: &[u8], switch: u8, trail: &[u16], search: Search) -> 
     let d = planner::plan_at(listing, switch);
     let v = d.verdict;
     match v {
-        Verdict::Sound => {
+        Verdict::Accepted => {
             let p = d.plant;
             name_in(p, switch, trail, search)
         }

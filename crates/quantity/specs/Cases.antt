@@ -2,7 +2,7 @@
 use mathlib.Core.Path.{_≡_, refl}
 use mathlib.Core.List.{List, [], _∷_, map}
 use Prim.Native.Nat.{ℕ}
-use Rattle.plant.specs.Refusals.{Answer, given, refused, _>>=_}
+use Rattle.answers.specs.Answers.{Answer, given, refused, _>>=_}
 use Rattle.quantity.specs.Quantity.{orderQuantity}
 
 abbrev pub asked : ℕ → ℕ → Answer (List ℕ)

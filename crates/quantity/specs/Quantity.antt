@@ -1,7 +1,7 @@
 -- The order quantity of document 01: the rules and a spare of so many percent of them, rounded up.
 use Prim.Native.Nat.{ℕ, _+_, _*_, _/_}
 use lib.Dec.{ltb}
-use Rattle.plant.specs.Refusals.{numberOf, Answer, given, refused, refuse}
+use Rattle.answers.specs.Answers.{numberOf, Answer, given, refused, refuse}
 use Rattle.quantity.specs.declared.Quantity.{Quantity}
 use Rattle.quantity.specs.declared.Quantity.the-variants as is
 

@@ -1,7 +1,7 @@
 // The order quantity: how many rules to order, with a spare in percent.
 ghost use mathlib.Core.Path.{_≡_};
 ghost use Rattle.quantity.specs.Quantity.{orderQuantity, quantityOf};
-use plant::Refusal;
+use answers::Refusal;
 
 // So many rules, or a refusal.
 pub enum Quantity {

@@ -7,9 +7,9 @@ use lib.Dec.{T, ltb→lt}
 use Rattle.lists.specs.Tests.{choose}
 use Rattle.lists.proofs.Tests.{and-left}
 use Rattle.plant.specs.declared.Plant.{Plant}
-use Rattle.plant.specs.Links.{first, second, live}
+use Rattle.plant.specs.Links.{side, first, second, live}
 use Rattle.walks.proofs.Walk.{weaken}
-use Rattle.walks.specs.Arcs.{side, tail, head, Valid}
+use Rattle.walks.specs.Arcs.{tail, head, Valid}
 use Rattle.walks.specs.Graph.{bridge, entered, earlier, used, arcsUsed}
 use Rattle.routes.specs.Trail.{unmarked, mostHops, trailFrom, legs}
 use Rattle.routes.specs.Meaning.{Fewest, Strong, Tour}

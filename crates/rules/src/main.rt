@@ -2,5 +2,5 @@
 use libc::STDIN_FILENO;
 
 fn main() {
-    page::print_file(STDIN_FILENO);
+    printing::print_file(STDIN_FILENO);
 }

@@ -5,7 +5,7 @@ fn print_sample(path: &[u8]) {
         os::fail(path);
         return;
     }
-    page::print_file(file);
+    printing::print_file(file);
     libc::close(file);
 }
 

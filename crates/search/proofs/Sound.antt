@@ -6,8 +6,8 @@ use native.Mathlib.Omega.{arith}
 use lib.Dec.{leb, ltb}
 use borrow.Author.Tests.{eqb-true, leb-true, ltb-true, eq-eqb, le-leb, lt-ltb}
 use Rattle.lists.proofs.Tests.{and-true, not-both}
-use Rattle.plant.specs.Refusals.{given, refused}
-use Rattle.model.specs.Limits.{maxLinks}
+use Rattle.answers.specs.Answers.{given, refused}
+use Rattle.limits.specs.Limits.{maxLinks}
 use Rattle.search.specs.declared.Search.{Search}
 use Rattle.search.specs.declared.Search.the-variants.{Checking, Halving, AllUp, Down}
 use Rattle.search.specs.Search.{counts, sound, soundFor, ended, wanted, unlessRefused}

@@ -11,7 +11,7 @@ use borrow.Author.Tests.{ltb-true, ltb-false}
 use Rattle.lists.specs.Tests.{choose}
 use Rattle.lists.proofs.Tests.{bool?}
 use Rattle.lists.specs.Least.{leastFrom}
-use Rattle.model.specs.Limits.{maxLinks}
+use Rattle.limits.specs.Limits.{maxLinks}
 use Rattle.allowance.specs.Allowance.{allowance}
 use Rattle.search.specs.declared.Search.the-variants.{AllUp, Down}
 use Rattle.search.specs.declared.Outcome.{Outcome}

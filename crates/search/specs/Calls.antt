@@ -5,7 +5,7 @@ use mathlib.Core.List.{List, [], _∷_}
 use Prim.Native.Nat.{ℕ, _+_}
 use lib.Dec.{eqb}
 use Rattle.lists.specs.Tests.{choose}
-use Rattle.plant.specs.Refusals.{Answer, given, refused}
+use Rattle.answers.specs.Answers.{Answer, given, refused}
 use Rattle.search.specs.declared.Search.{Search}
 use Rattle.search.specs.declared.Outcome.{Outcome}
 use Rattle.search.specs.declared.Outcome.the-variants.{Returned, Lost}

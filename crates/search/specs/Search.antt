@@ -3,8 +3,8 @@ use mathlib.Core.Bool.{Bool, true, false, not, _&&_}
 use Prim.Native.Nat.{ℕ, _+_, _/_}
 use lib.Dec.{eqb, leb, ltb}
 use Rattle.lists.specs.Tests.{choose}
-use Rattle.plant.specs.Refusals.{numberOf, Answer, given, refused, refuse}
-use Rattle.model.specs.Limits.{maxLinks}
+use Rattle.answers.specs.Answers.{numberOf, Answer, given, refused, refuse}
+use Rattle.limits.specs.Limits.{maxLinks}
 use Rattle.search.specs.declared.Search.{Search}
 use Rattle.search.specs.declared.Search.the-variants.{Checking, Halving, AllUp, Down}
 use Rattle.search.specs.declared.Outcome.{Outcome}

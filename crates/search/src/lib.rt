@@ -4,8 +4,8 @@ ghost use mathlib.Core.Bool.{true};
 ghost use Prim.Native.Nat.{_≤_, _<_, _+_};
 ghost use Rattle.search.specs.Search.{newSearch, counts, sound, soundFor, ended, wanted, settled, next, ask, give, askedOf, toldOf};
 ghost use Rattle.search.specs.Calls.{outcomeIn, callIn, callsIn, step, perform, begun};
+use answers::Refusal;
 use plant::Plant;
-use plant::Refusal;
 
 // Checking a number of links, halving the places from low to high, all links are up, or the link at a place is down. Places count from 1 in the order of links.
 pub enum Search {

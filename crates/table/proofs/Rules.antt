@@ -10,9 +10,9 @@ use Rattle.lists.proofs.Tests.{true-T, false-T}
 use Rattle.lists.specs.Numbers.{range, keep}
 use Rattle.lists.proofs.Kept.{kept-yes, kept-no, kept-length, kept-room}
 use Rattle.plant.specs.declared.Plant.{Plant}
-use Rattle.model.specs.Sound.{Sound}
-use Rattle.plant.specs.Links.{first, second}
-use Rattle.walks.specs.Arcs.{side, tail, head}
+use Rattle.limits.specs.Sound.{Sound}
+use Rattle.plant.specs.Links.{side, first, second}
+use Rattle.walks.specs.Arcs.{tail, head}
 use Rattle.walks.specs.Graph.{Connected, used, bridges, arcsUsed}
 use Rattle.walks.proofs.Counting.{arcs-in-use-all, few-bridges}
 use Rattle.walks.proofs.Valid.{sound-valid}

@@ -4,7 +4,7 @@ use Prim.Native.Nat.{ℕ, _+_, _-_, _*_}
 use lib.ListN.{length, replicate}
 use Rattle.lists.specs.Numbers.{range, keep}
 use Rattle.plant.specs.declared.Plant.{Plant}
-use Rattle.model.specs.Limits.{maxSwitches, maxLinks}
+use Rattle.limits.specs.Limits.{maxSwitches, maxLinks}
 use Rattle.walks.specs.Arcs.{tail, head}
 use Rattle.walks.specs.Graph.{used}
 use Rattle.table.specs.declared.Rule.{Rule}

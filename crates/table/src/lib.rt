@@ -1,18 +1,16 @@
 // The forwarding table of a plant (document 01's rule page), by value.
-use distance::LABELS;
-use distance::PLACES;
 use plant::Plant;
 ghost use mathlib.Core.Path.{_≡_};
 ghost use mathlib.Core.List.{[]};
 ghost use Prim.Native.Nat.{_*_, _<_};
-ghost use Rattle.model.specs.Limits.{maxLinks};
-ghost use Rattle.model.specs.Sound.{Sound};
+ghost use Rattle.limits.specs.Limits.{maxLinks};
+ghost use Rattle.limits.specs.Sound.{Sound};
 ghost use Rattle.walks.specs.Graph.{Connected, used};
 ghost use Rattle.graph.specs.Flags.{Flags};
 ghost use Rattle.table.specs.Rules.{tableWith, tableOf};
 
 // A place for each rule that a connected plant can have: one for each link, and one more for each bridge, of which there are fewer than switches.
-pub const RULES: usize = Plant::MAX_LINKS + PLACES - 1;
+pub const RULES: usize = Plant::MAX_LINKS + Plant::PLACES - 1;
 
 pub struct Rule {
     pub from: u8,
@@ -40,7 +38,7 @@ impl Table {
 }
 
 // One rule for each arc in use, by rising label.
-pub fn table_of(p: Plant, flags: [bool; LABELS]) -> Table
+pub fn table_of(p: Plant, flags: [bool; Plant::LABELS]) -> Table
     requires { ⌜ Sound p × Connected p × Flags (2 * maxLinks) (used p) flags ⌝ }
     ensures { λ r. ⌜ r ≡ tableOf p ⌝ }
 {
@@ -52,9 +50,9 @@ pub fn table_of(p: Plant, flags: [bool; LABELS]) -> Table
             let l = p.links[a / 2];
             let k = t.count as usize;
             t.rules[k] = Rule {
-                from: distance::tail_of(l, a),
+                from: plant::tail_of(l, a),
                 label: a as u16,
-                to: distance::head_of(l, a),
+                to: plant::head_of(l, a),
             };
             t.count += 1;
         }

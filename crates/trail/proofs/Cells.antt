@@ -3,7 +3,7 @@ use mathlib.Core.Path.{_≡_, ap, _∙_}
 use mathlib.Core.Bool.{Bool}
 use mathlib.Core.List.{List}
 use Prim.Native.Nat.{ℕ, _<_}
-use Rattle.model.specs.Limits.{maxSwitches}
+use Rattle.limits.specs.Limits.{maxSwitches}
 use Rattle.plant.specs.declared.Plant.{Plant}
 use Rattle.distance.specs.Table.{cell}
 use Rattle.distance.specs.Distances.{distOf, distancesOf}

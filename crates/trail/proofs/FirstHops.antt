@@ -13,8 +13,8 @@ use lib.Seq.{getD-set-same, getD-set-other}
 use Rattle.lists.specs.Tests.{choose}
 use Rattle.lists.proofs.Tests.{choose-false, T-true, eq?, eq→eqb, and-left, and-right}
 use Rattle.lists.specs.Least.{leastFrom}
-use Rattle.model.specs.Limits.{maxSwitches}
-use Rattle.model.specs.Sound.{Sound}
+use Rattle.limits.specs.Limits.{maxSwitches}
+use Rattle.limits.specs.Sound.{Sound}
 use Rattle.plant.specs.declared.Plant.{Plant}
 use Rattle.walks.specs.Arcs.{tail, head}
 use Rattle.routes.specs.Distance.{lessens, hop}

@@ -12,7 +12,7 @@ use lib.ListN.{set, replicate, length-set, length-replicate}
 use Rattle.lists.proofs.Tests.{and-left}
 use Rattle.lists.specs.Count.{count}
 use Rattle.lists.proofs.Count.{count-le, count-all}
-use Rattle.model.specs.Limits.{maxLinks, maxHops}
+use Rattle.limits.specs.Limits.{maxLinks, maxHops}
 use Rattle.plant.specs.declared.Plant.{Plant}
 use Rattle.walks.specs.Arcs.{tail, head}
 use Rattle.walks.specs.Graph.{used, arcsUsed}

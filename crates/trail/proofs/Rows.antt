@@ -7,7 +7,7 @@ use lib.Dec.{ltb, ltb→lt, lt→ltb}
 use lib.ListN.{length, getD, set, length-set}
 use lib.Seq.{getD-set-same, getD-set-other}
 use Rattle.lists.proofs.Tests.{choose-true, choose-false}
-use Rattle.model.specs.Limits.{maxSwitches}
+use Rattle.limits.specs.Limits.{maxSwitches}
 use Rattle.trail.specs.Rows.{better, Lowered}
 use Rattle.lists.proofs.Stepwise.{upto}
 

@@ -5,8 +5,8 @@ use Prim.Native.Nat.{ℕ, _+_, _-_, _*_, _≤_, _<_}
 use native.Mathlib.Omega.{arith}
 use native.Mathlib.Nat.{mul-le-mul-right}
 use lib.ListN.{length}
-use Rattle.model.specs.Limits.{maxSwitches, maxLinks, maxHops}
-use Rattle.model.specs.Sound.{Sound}
+use Rattle.limits.specs.Limits.{maxSwitches, maxLinks, maxHops}
+use Rattle.limits.specs.Sound.{Sound}
 use Rattle.plant.specs.declared.Plant.{Plant}
 use Rattle.walks.specs.Arcs.{Valid, tail, head}
 use Rattle.walks.specs.Graph.{ClosedWalk, Connected, used, arcsUsed}

@@ -8,8 +8,8 @@ use native.Mathlib.Omega.{arith}
 use lib.Dec.{T, not-T, eqb, ltb, ltb→lt, nltb→le}
 use Rattle.lists.specs.Tests.{choose}
 use Rattle.lists.proofs.Tests.{T-or}
-use Rattle.model.specs.Limits.{maxSwitches}
-use Rattle.model.specs.Sound.{Sound}
+use Rattle.limits.specs.Limits.{maxSwitches}
+use Rattle.limits.specs.Sound.{Sound}
 use Rattle.plant.specs.declared.Plant.{Plant}
 use Rattle.walks.specs.Arcs.{tail, head}
 use Rattle.routes.specs.Trail.{next}

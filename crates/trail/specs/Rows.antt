@@ -5,7 +5,7 @@ use Prim.Native.Nat.{ℕ, _≤_, _<_}
 use lib.Dec.{ltb}
 use lib.ListN.{length, getD}
 use Rattle.lists.specs.Tests.{choose}
-use Rattle.model.specs.Limits.{maxSwitches}
+use Rattle.limits.specs.Limits.{maxSwitches}
 
 -- the distances from the arc's head and from its tail, the row as it was, and the arc's label
 module _ (near far row : List ℕ) (a : ℕ) where

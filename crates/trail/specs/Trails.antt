@@ -6,7 +6,7 @@ use Prim.Native.Nat.{ℕ, _*_, _≤_}
 use lib.Dec.{T}
 use lib.ListN.{length}
 use Rattle.lists.specs.Members.{In}
-use Rattle.model.specs.Limits.{maxHops}
+use Rattle.limits.specs.Limits.{maxHops}
 use Rattle.plant.specs.declared.Plant.{Plant}
 use Rattle.walks.specs.Walk.{Walk}
 use Rattle.walks.specs.Arcs.{tail, head}

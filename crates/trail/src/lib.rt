@@ -6,8 +6,8 @@ ghost use Prim.Native.Nat.{_*_, _≤_, _<_};
 ghost use lib.Dec.{eqb};
 ghost use lib.ListN.{length, set, replicate};
 ghost use Rattle.lists.specs.Tests.{choose};
-ghost use Rattle.model.specs.Limits.{maxSwitches, maxLinks};
-ghost use Rattle.model.specs.Sound.{Sound};
+ghost use Rattle.limits.specs.Limits.{maxSwitches, maxLinks};
+ghost use Rattle.limits.specs.Sound.{Sound};
 ghost use Rattle.walks.specs.Arcs.{head};
 ghost use Rattle.routes.specs.Plants.{trailOf};
 ghost use Rattle.distance.specs.Table.{cell};
@@ -15,11 +15,9 @@ ghost use Rattle.distance.specs.Distances.{distancesOf};
 ghost use Rattle.trail.specs.Rows.{Lowered};
 ghost use Rattle.trail.specs.Steps.{Planned, firstHopsOf, nearestIn, walkerAt, Stands};
 ghost use Rattle.trail.specs.Filled.{filledWith, sameList};
-use distance::LABELS;
-use distance::PLACES;
-use distance::head_of;
-use distance::tail_of;
 use plant::Plant;
+use plant::head_of;
+use plant::tail_of;
 
 // A walker on the trail: the switch that it is at, the switch that it goes to, the nearest uncrossed arc in use, the label of its next hop, and the arcs
 // crossed. The number of labels stands for no arc and for no hop.
@@ -28,16 +26,21 @@ pub struct Walker {
     pub to: u8,
     pub aim: u16,
     pub next: u16,
-    pub crossed: [bool; LABELS],
+    pub crossed: [bool; Plant::LABELS],
 }
 
 // A row of first hops, with label a in each place where the distance from the arc's head, `near`, is less than that from its tail, `far`.
-fn lower(near: [u8; PLACES], far: [u8; PLACES], row: [u16; PLACES], a: u16) -> [u16; PLACES]
+fn lower(
+    near: [u8; Plant::PLACES],
+    far: [u8; Plant::PLACES],
+    row: [u16; Plant::PLACES],
+    a: u16,
+) -> [u16; Plant::PLACES]
     ensures { λ r. ⌜ Lowered near far row a maxSwitches r ⌝ }
 {
     let mut r = row;
     let mut v: usize = 0;
-    while v < PLACES {
+    while v < Plant::PLACES {
         if near[v] < far[v] {
             r[v] = a;
         }
@@ -50,16 +53,16 @@ fn lower(near: [u8; PLACES], far: [u8; PLACES], row: [u16; PLACES], a: u16) -> [
 // from the highest on, and a lower one takes the place of a higher.
 pub fn first_hops(
     p: Plant,
-    used: [bool; LABELS],
-    t: [[u8; PLACES]; PLACES],
-) -> [[u16; PLACES]; PLACES]
+    used: [bool; Plant::LABELS],
+    t: [[u8; Plant::PLACES]; Plant::PLACES],
+) -> [[u16; Plant::PLACES]; Plant::PLACES]
     requires { ⌜ Sound p ⌝ }
     requires { ⌜ t ≡ distancesOf p used ⌝ }
     ensures { λ r. ⌜ r ≡ firstHopsOf p used ⌝ }
 {
     let n = 2 * p.count;
-    let none = [n; PLACES];
-    let mut h = [none; PLACES];
+    let none = [n; Plant::PLACES];
+    let mut h = [none; Plant::PLACES];
     let mut a = n as usize;
     while 0 < a {
         a -= 1;
@@ -76,9 +79,9 @@ pub fn first_hops(
 // The uncrossed arc in use that is nearest to u, by distance and then by label; the number of labels if there is none.
 pub fn nearest(
     p: Plant,
-    used: [bool; LABELS],
-    t: [[u8; PLACES]; PLACES],
-    crossed: [bool; LABELS],
+    used: [bool; Plant::LABELS],
+    t: [[u8; Plant::PLACES]; Plant::PLACES],
+    crossed: [bool; Plant::LABELS],
     u: u8,
 ) -> u16
     requires { ⌜ Sound p ⌝ }
@@ -109,7 +112,7 @@ pub fn nearest(
 }
 
 // The label of the next hop from u: the nearest arc, if it is where the trail goes, else the first hop to there.
-fn next(via: &[[u16; PLACES]; PLACES], u: u8, to: u8, aim: u16) -> u16
+fn next(via: &[[u16; Plant::PLACES]; Plant::PLACES], u: u8, to: u8, aim: u16) -> u16
     requires { ⌜ u < maxSwitches ⌝ }
     requires { ⌜ to < maxSwitches ⌝ }
     ensures { λ r. ⌜ r ≡ choose (eqb u to) aim (cell (now (via .entry)) u to) ⌝ }
@@ -125,10 +128,10 @@ fn next(via: &[[u16; PLACES]; PLACES], u: u8, to: u8, aim: u16) -> u16
 // A walker at u that looks for the nearest arc anew. With none left it goes to the start.
 fn aimed(
     p: Plant,
-    used: [bool; LABELS],
-    t: [[u8; PLACES]; PLACES],
-    via: &[[u16; PLACES]; PLACES],
-    crossed: [bool; LABELS],
+    used: [bool; Plant::LABELS],
+    t: [[u8; Plant::PLACES]; Plant::PLACES],
+    via: &[[u16; Plant::PLACES]; Plant::PLACES],
+    crossed: [bool; Plant::LABELS],
     u: u8,
 ) -> Walker
     requires { ⌜ Sound p ⌝ }
@@ -155,9 +158,9 @@ fn aimed(
 // The walker crosses its next arc. On the way to the nearest arc that arc stays the nearest; once it is crossed, the walker looks for another.
 pub fn step(
     p: Plant,
-    used: [bool; LABELS],
-    t: [[u8; PLACES]; PLACES],
-    via: &[[u16; PLACES]; PLACES],
+    used: [bool; Plant::LABELS],
+    t: [[u8; Plant::PLACES]; Plant::PLACES],
+    via: &[[u16; Plant::PLACES]; Plant::PLACES],
     w: Walker,
 ) -> Walker
     requires { ⌜ Planned p used ⌝ }
@@ -182,24 +185,24 @@ pub fn step(
 // The walker at the start, with no arc crossed.
 pub fn begin(
     p: Plant,
-    used: [bool; LABELS],
-    t: [[u8; PLACES]; PLACES],
-    via: &[[u16; PLACES]; PLACES],
+    used: [bool; Plant::LABELS],
+    t: [[u8; Plant::PLACES]; Plant::PLACES],
+    via: &[[u16; Plant::PLACES]; Plant::PLACES],
 ) -> Walker
     requires { ⌜ Sound p ⌝ }
     requires { ⌜ t ≡ distancesOf p used ⌝ }
     requires { ⌜ now via ≡ firstHopsOf p used ⌝ }
     ensures { λ r. ⌜ r ≡ walkerAt p used (replicate (2 * maxLinks) false) (p .start) ⌝ }
 {
-    aimed(p, used, t, via, [false; LABELS], p.start)
+    aimed(p, used, t, via, [false; Plant::LABELS], p.start)
 }
 
 // The number of hops of the trail.
 pub fn hops(
     p: Plant,
-    used: [bool; LABELS],
-    t: [[u8; PLACES]; PLACES],
-    via: &[[u16; PLACES]; PLACES],
+    used: [bool; Plant::LABELS],
+    t: [[u8; Plant::PLACES]; Plant::PLACES],
+    via: &[[u16; Plant::PLACES]; Plant::PLACES],
 ) -> u16
     requires { ⌜ Planned p used ⌝ }
     requires { ⌜ t ≡ distancesOf p used ⌝ }
@@ -219,9 +222,9 @@ pub fn hops(
 // The trail into the front of a lent buffer that has room for it; the places after it keep their contents.
 pub fn fill(
     p: Plant,
-    used: [bool; LABELS],
-    t: [[u8; PLACES]; PLACES],
-    via: &[[u16; PLACES]; PLACES],
+    used: [bool; Plant::LABELS],
+    t: [[u8; Plant::PLACES]; Plant::PLACES],
+    via: &[[u16; Plant::PLACES]; Plant::PLACES],
     buf: &mut [u16],
 )
     requires { ⌜ Planned p used ⌝ }
@@ -243,9 +246,9 @@ pub fn fill(
 // Is the lent trail, in its whole length, the plant's? Refusal 12 is tried by this.
 pub fn same_trail(
     p: Plant,
-    used: [bool; LABELS],
-    t: [[u8; PLACES]; PLACES],
-    via: &[[u16; PLACES]; PLACES],
+    used: [bool; Plant::LABELS],
+    t: [[u8; Plant::PLACES]; Plant::PLACES],
+    via: &[[u16; Plant::PLACES]; Plant::PLACES],
     lent: &[u16],
 ) -> bool
     requires { ⌜ Planned p used ⌝ }

@@ -12,8 +12,8 @@ use Rattle.lists.proofs.Members.{in?}
 use Rattle.lists.specs.Numbers.{range, keep}
 use Rattle.lists.proofs.Numbers.{in-range, keep-in, in-keep}
 use Rattle.plant.specs.declared.Plant.{Plant}
-use Rattle.plant.specs.Links.{first, second, live}
-use Rattle.walks.specs.Arcs.{side, opposite, labels, tail, head, Arc, Avoid, Valid}
+use Rattle.plant.specs.Links.{side, first, second, live}
+use Rattle.walks.specs.Arcs.{opposite, labels, tail, head, Arc, Avoid, Valid}
 use Rattle.walks.specs.Graph.{Crosses, arcs, others}
 use Rattle.walks.proofs.Live.{live-below}
 

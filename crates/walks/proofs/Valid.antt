@@ -1,5 +1,5 @@
 -- A sound plant is what this theory asks for. Assumes nothing.
-use Rattle.model.specs.Sound.{Sound}
+use Rattle.limits.specs.Sound.{Sound}
 use Rattle.plant.specs.declared.Plant.{Plant}
 use Rattle.walks.specs.Arcs.{Valid}
 use Rattle.walks.proofs.Live.{live-below}

@@ -1,15 +1,10 @@
 -- The arcs of a plant by their labels (document 01, "Plant and limits"): tail, head, the opposite arc, and the labels of a list of links.
 use mathlib.Core.Path.{_≡_}
 use mathlib.Core.List.{List, [], _∷_}
-use Prim.Native.Nat.{ℕ, zero, suc, _+_, _-_, _*_, _/_, _%_, _<_}
+use Prim.Native.Nat.{ℕ, _+_, _-_, _*_, _/_, _%_, _<_}
 use lib.Dec.{T}
 use Rattle.plant.specs.declared.Plant.{Plant}
-use Rattle.plant.specs.Links.{first, second, live}
-
--- the one or the other, by a number that is 0 or not
-abbrev pub side : ℕ → ℕ → ℕ → ℕ
-side zero x y = x
-side (suc n) x y = y
+use Rattle.plant.specs.Links.{side, first, second, live}
 
 -- the label of the arc that crosses the same link the other way
 unfoldable pub opposite : ℕ → ℕ

@@ -6,7 +6,7 @@ use native.Mathlib.Omega.{arith}
 use native.Mathlib.Nat.{zero-add}
 use borrow.Author.Needs.{needs}
 use Rattle.lists.specs.Least.{leastFrom}
-use Rattle.model.specs.Limits.{maxLinks}
+use Rattle.limits.specs.Limits.{maxLinks}
 use Rattle.allowance.specs.Allowance.{allowance}
 use Rattle.allowance.proofs.Ceiling.{clipped-most}
 use Rattle.allowance.proofs.Entries.{entry}

@@ -3,7 +3,7 @@ use mathlib.Core.Path.{subst, sym}
 use Prim.Native.Nat.{_≤_, _-_}
 use native.Mathlib.Omega.{arith}
 use borrow.Author.Needs.{needs}
-use Rattle.model.specs.Limits.{maxSwitches}
+use Rattle.limits.specs.Limits.{maxSwitches}
 use Rattle.distance.proofs.Tables.{Holds}
 use Rattle.distance.proofs.Diagonal.{diagonal, diagonal-none, diagonal-put, diagonal-all}
 use Rattle.distance.proofs.apart.Statement.{statement}

@@ -6,7 +6,7 @@ use Prim.Native.Nat.{_≤_, _+_, _-_, _*_}
 use native.Mathlib.Omega.{arith}
 use borrow.Author.Needs.{needs}
 use lib.Dec.{T}
-use Rattle.model.specs.Limits.{maxSwitches}
+use Rattle.limits.specs.Limits.{maxSwitches}
 use Rattle.walks.specs.Arcs.{tail, head}
 use Rattle.distance.specs.Distances.{flag}
 use Rattle.distance.proofs.Arcs.{tail-lt, head-lt}

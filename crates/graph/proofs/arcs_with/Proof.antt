@@ -4,7 +4,7 @@ use mathlib.Core.Logic.{⊎-elim}
 use Prim.Native.Nat.{_+_, _-_, _*_, _≤_}
 use native.Mathlib.Omega.{arith}
 use borrow.Author.Needs.{needs}
-use Rattle.model.specs.Limits.{maxLinks}
+use Rattle.limits.specs.Limits.{maxLinks}
 use Rattle.walks.specs.Graph.{used}
 use Rattle.walks.proofs.Labels.{even-half, odd-half}
 use Rattle.graph.proofs.Filled.{Filled, filled-none, filled-put-two, filled-pass-two, filled-all}

@@ -1,7 +1,7 @@
 -- `graph::bridges` meets its contract. The loop's invariant: the flags are filled below l. Assumes nothing.
 use Prim.Native.Nat.{_-_, _≤_}
 use native.Mathlib.Omega.{arith}
-use Rattle.model.specs.Limits.{maxLinks}
+use Rattle.limits.specs.Limits.{maxLinks}
 use Rattle.walks.specs.Graph.{bridge}
 use Rattle.graph.proofs.Filled.{Filled, filled-none, filled-put, filled-all}
 use Rattle.graph.proofs.Uses.{bridge-past}

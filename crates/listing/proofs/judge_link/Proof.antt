@@ -2,7 +2,7 @@
 use mathlib.Core.Path.{refl, sym, ap, _∙_}
 use native.Mathlib.Omega.{arith}
 use Rattle.listing.specs.Listing.{judged}
-use Rattle.listing.specs.Answers.{verdictAnswer}
+use Rattle.answers.specs.Answers.{verdictAnswer}
 use Rattle.listing.proofs.ReadLaws.{sound-ends}
 use borrow.Author.Needs.{needs}
 use Rattle.listing.proofs.judge_link.Statement.{statement}

@@ -3,7 +3,7 @@ use mathlib.Core.Path.{_≡_, refl, _∙_}
 use Prim.Native.Nat.{_-_, _≤_}
 use borrow.Author.Needs.{needs}
 use lib.ListN.{drop}
-use Rattle.model.specs.Limits.{maxLinks}
+use Rattle.limits.specs.Limits.{maxLinks}
 use Rattle.listing.specs.Listing.{linksOf}
 use Rattle.listing.specs.Writing.{soundLinks}
 use Rattle.lists.proofs.Arrays.{sized}

@@ -2,7 +2,7 @@
 use Prim.Native.Nat.{_-_}
 use native.Mathlib.Omega.{arith}
 use borrow.Author.Needs.{needs}
-use Rattle.model.specs.Limits.{maxLinks}
+use Rattle.limits.specs.Limits.{maxLinks}
 use Rattle.lists.proofs.Arrays.{sized}
 use Rattle.listing.proofs.EncodeLaws.{Sized, sized-none, sized-one, sized-all}
 use Rattle.listing.proofs.listing_size.Statement.{statement}

@@ -5,7 +5,7 @@ use borrow.Author.Needs.{needs}
 use borrow.Author.Tests.{not-true, not-false}
 use lib.ListN.{drop}
 use Rattle.lists.specs.Members.{all}
-use Rattle.model.specs.Limits.{maxLinks}
+use Rattle.limits.specs.Limits.{maxLinks}
 use Rattle.listing.specs.Writing.{isZero}
 use Rattle.lists.proofs.Arrays.{sized}
 use Rattle.listing.proofs.WriteLaws.{zeros-on, zeros-not, zeros-end}

@@ -1,7 +1,7 @@
 -- `listing::put_links` meets its contract: the bytes of the links from i on, laid from where the loop has come, make what all of them make. Assumes nothing.
 use Prim.Native.Nat.{_-_}
 use borrow.Author.Needs.{needs}
-use Rattle.model.specs.Limits.{maxLinks}
+use Rattle.limits.specs.Limits.{maxLinks}
 use Rattle.lists.proofs.Arrays.{sized}
 use Rattle.listing.proofs.EncodeLaws.{Laid, laid-none, laid-room, laid-link, laid-all}
 use Rattle.listing.proofs.put_links.Statement.{statement}

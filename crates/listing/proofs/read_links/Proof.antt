@@ -4,8 +4,9 @@ use Prim.Native.Nat.{_-_}
 use native.Mathlib.Omega.{arith}
 use borrow.Author.Needs.{needs}
 use Rattle.plant.specs.Links.{plantWith}
-use Rattle.model.specs.Limits.{maxLinks}
-use Rattle.listing.proofs.LinksLaws.{Read, none, read-none, read-refused, read-one, read-remains, read-all, reads-as, reads-given}
+use Rattle.limits.specs.Limits.{maxLinks}
+use Rattle.answers.proofs.Beside.{beside-given}
+use Rattle.listing.proofs.LinksLaws.{Read, none, read-none, read-refused, read-one, read-remains, read-all, reads-as}
 use Rattle.listing.proofs.read_links.Statement.{statement}
 use Rattle.listing.proofs.read_links.Tie as tie
 
@@ -83,7 +84,7 @@ unfolding plantWith
 returns-3 c =
     let b = c .before in
     let k = b .before .before in
-    reads-given _ _ refl (read-all _ (k .before .before .before .before .args .from) _ _ _ _ _ (k .loop .inv) (b .before .loop-test .left) (sym (b .bytes-remain .ensures) ∙ c .if1 .left))
+    beside-given _ _ _ _ refl (sym (read-all _ (k .before .before .before .before .args .from) _ _ _ _ _ (k .loop .inv) (b .before .loop-test .left) (sym (b .bytes-remain .ensures) ∙ c .if1 .left)))
 
 pub read-links-spec : {M : Type 1} → statement M
 read-links-spec =

@@ -4,7 +4,7 @@ use Prim.Native.Nat.{_≤_, _<_}
 use native.Mathlib.Omega.{arith}
 use lib.ListN.{length}
 use Rattle.listing.specs.Listing.{encode}
-use Rattle.listing.specs.Answers.{verdictAnswer}
+use Rattle.answers.specs.Answers.{verdictAnswer}
 use Rattle.listing.proofs.WriteLaws.{sound-few}
 use Rattle.listing.proofs.EncodeLaws.{write-refused, kept-refused, write-short, kept-short, write-length, left-written}
 use borrow.Author.Needs.{needs}

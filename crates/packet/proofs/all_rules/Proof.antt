@@ -6,7 +6,7 @@ use native.Mathlib.Omega.{arith}
 use borrow.Author.Needs.{needs}
 use lib.Dec.{ltb}
 use lib.ListN.{length, length-set, length-replicate}
-use Rattle.model.specs.Limits.{maxLinks}
+use Rattle.limits.specs.Limits.{maxLinks}
 use Rattle.distance.specs.Distances.{flag}
 use Rattle.packet.proofs.Rules.{flag-none, flag-more, flag-all}
 use Rattle.packet.proofs.all_rules.Statement.{statement}

@@ -1,6 +1,6 @@
 -- `planner::summarize` meets its contract. Assumes nothing.
 use mathlib.Core.Path.{ap, _∙_}
-use Rattle.plant.specs.Refusals.{given}
+use Rattle.answers.specs.Answers.{given}
 use Rattle.planner.proofs.Plans.{read-sound, read-refused}
 use Rattle.planner.proofs.Trailing.{sum-given, sum-refused}
 use borrow.Author.Needs.{needs}

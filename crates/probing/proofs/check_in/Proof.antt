@@ -4,7 +4,7 @@ use Rattle.planner.proofs.Trailing.{planned}
 use Rattle.rings.specs.Rules.{upBy}
 use Rattle.packet.specs.Runs.{endOf}
 use Rattle.probing.specs.Calls.{checkIn}
-use Rattle.model.proofs.Answers.{holds, fails}
+use Rattle.answers.proofs.Checks.{holds, fails}
 use Rattle.probing.proofs.Lent.{states-enough, trail-same, lent-arcs, can-probe}
 use Rattle.probing.proofs.Results.{checked}
 use borrow.Author.Needs.{needs}

@@ -1,7 +1,7 @@
 -- The refusals of the plant, then what is answered in it. Assumes nothing.
 use Rattle.planner.proofs.Plans.{read-sound, read-refused}
 use Rattle.probing.specs.Calls.{naming}
-use Rattle.model.proofs.Answers.{after-given, after-refused}
+use Rattle.answers.proofs.Checks.{after-given, after-refused}
 use borrow.Author.Needs.{needs}
 use Rattle.probing.proofs.link_named.Statement.{statement}
 use Rattle.probing.proofs.link_named.Tie as tie

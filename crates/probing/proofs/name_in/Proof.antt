@@ -2,7 +2,7 @@
 use mathlib.Core.Path.{sym, _∙_}
 use Rattle.planner.proofs.Trailing.{planned}
 use Rattle.probing.specs.Calls.{nameIn}
-use Rattle.model.proofs.Answers.{holds, fails}
+use Rattle.answers.proofs.Checks.{holds, fails}
 use Rattle.probing.proofs.Lent.{trail-same}
 use Rattle.probing.proofs.Searching.{good-here, unsound-live}
 use borrow.Author.Needs.{needs}

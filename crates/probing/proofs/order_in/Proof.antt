@@ -2,7 +2,7 @@
 use mathlib.Core.Path.{sym, _∙_}
 use Rattle.planner.proofs.Trailing.{planned}
 use Rattle.probing.specs.Calls.{orderIn}
-use Rattle.model.proofs.Answers.{holds}
+use Rattle.answers.proofs.Checks.{holds}
 use Rattle.probing.proofs.Lent.{trail-same, lent-arcs}
 use Rattle.probing.proofs.Results.{orders-as, ordered}
 use borrow.Author.Needs.{needs}

@@ -2,7 +2,7 @@
 use mathlib.Core.Path.{refl}
 use Rattle.planner.proofs.Plans.{read-sound, read-refused}
 use Rattle.probing.specs.Calls.{ordering}
-use Rattle.model.proofs.Answers.{after-given, after-refused}
+use Rattle.answers.proofs.Checks.{after-given, after-refused}
 use Rattle.probing.proofs.Results.{orders-as}
 use borrow.Author.Needs.{needs}
 use Rattle.probing.proofs.order_of_links.Statement.{statement}

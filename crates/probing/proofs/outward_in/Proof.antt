@@ -1,9 +1,9 @@
 -- The outward labels: refusal 12, then 14 and 15 or the probe wanted. Assumes nothing.
 use mathlib.Core.Path.{sym, ap, _∙_}
-use Rattle.plant.specs.Refusals.{given}
+use Rattle.answers.specs.Answers.{given}
 use Rattle.planner.proofs.Trailing.{planned}
 use Rattle.probing.specs.Calls.{outwardIn}
-use Rattle.model.proofs.Answers.{holds, fails, after-given, after-refused}
+use Rattle.answers.proofs.Checks.{holds, fails, after-given, after-refused}
 use Rattle.probing.proofs.Lent.{trail-same}
 use Rattle.probing.proofs.Searching.{probe-given, probe-among, probe-refused}
 use borrow.Author.Needs.{needs}

@@ -3,7 +3,7 @@ use mathlib.Core.Path.{sym, _∙_}
 use Rattle.planner.proofs.Trailing.{planned}
 use Rattle.packet.specs.Runs.{endOf}
 use Rattle.probing.specs.Calls.{probeIn}
-use Rattle.model.proofs.Answers.{holds, fails, after-given, after-refused}
+use Rattle.answers.proofs.Checks.{holds, fails, after-given, after-refused}
 use Rattle.probing.proofs.Lent.{states-enough, trail-same, lent-arcs, can-probe}
 use Rattle.probing.proofs.Searching.{probe-given, probe-among, probe-refused}
 use Rattle.probing.proofs.Results.{probed}

@@ -6,7 +6,7 @@ use Rattle.probing.proofs.refused_order.Tie as tie
 
 returns : tie.Need-returns
 unfolding listed padded
-returns c = record { answer = refl; order = refl }
+returns c = record { answer = refl; value = refl }
 
 pub refused-order-spec : {M : Type 1} → statement M
 refused-order-spec = tie.close (tie.spec returns)

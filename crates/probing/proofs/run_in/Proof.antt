@@ -3,7 +3,7 @@ use mathlib.Core.Path.{sym, _∙_}
 use native.Mathlib.Omega.{arith}
 use Rattle.packet.proofs.Probes.{injected-hops}
 use Rattle.probing.specs.Calls.{runIn}
-use Rattle.model.proofs.Answers.{holds, fails}
+use Rattle.answers.proofs.Checks.{holds, fails}
 use Rattle.probing.proofs.Lent.{states-enough, can-run}
 use Rattle.probing.proofs.Results.{ran-as}
 use borrow.Author.Needs.{needs}

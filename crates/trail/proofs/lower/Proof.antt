@@ -4,7 +4,7 @@ use mathlib.Core.Logic.{⊎-elim}
 use Prim.Native.Nat.{_≤_, _+_, _-_}
 use native.Mathlib.Omega.{arith}
 use borrow.Author.Needs.{needs}
-use Rattle.model.specs.Limits.{maxSwitches}
+use Rattle.limits.specs.Limits.{maxSwitches}
 use Rattle.trail.specs.Rows.{Lowered}
 use Rattle.trail.proofs.Rows.{lower-none, lower-put, lower-keep}
 use Rattle.trail.proofs.lower.Statement.{statement}

@@ -1,7 +1,7 @@
 -- `cases::checksum::of_flags` meets its contract. Assumes nothing.
 use Prim.Native.Nat.{_-_, _≤_}
 use borrow.Author.Needs.{needs}
-use Rattle.model.specs.Limits.{maxLinks}
+use Rattle.limits.specs.Limits.{maxLinks}
 use Rattle.cases.proofs.checksum.of_flags.Statement.{statement}
 use Rattle.cases.proofs.checksum.of_flags.Tie as tie
 

@@ -1,7 +1,7 @@
 -- `cases::input::plant` meets its contract. Assumes nothing.
 use Prim.Native.Nat.{_-_, _≤_}
 use borrow.Author.Needs.{needs}
-use Rattle.model.specs.Limits.{maxLinks}
+use Rattle.limits.specs.Limits.{maxLinks}
 use Rattle.cases.proofs.input.plant.Statement.{statement}
 use Rattle.cases.proofs.input.plant.Tie as tie
 

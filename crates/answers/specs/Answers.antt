@@ -1,0 +1,59 @@
+-- The numbers of the refusals, and what a call answers: its result or the number of a refusal (document 01, "Refusals in checking order"). Assumes nothing.
+use mathlib.Core.Path.{_≡_}
+use Prim.Native.Nat.{ℕ}
+use mathlib.Core.Bool.{Bool, true, false}
+use Rattle.answers.specs.declared.Refusal.{Refusal}
+use Rattle.answers.specs.declared.Refusal.the-variants as is
+use Rattle.answers.specs.declared.Verdict.{Verdict}
+use Rattle.answers.specs.declared.Verdict.the-variants as verdict
+
+abbrev pub numberOf : Refusal → ℕ
+numberOf is.MapMissing = 1
+numberOf is.MapUndefined = 2
+numberOf is.FieldMissing = 3
+numberOf is.FieldRedundant = 4
+numberOf is.ValueOutOfRange = 5
+numberOf is.EndOutOfRange = 6
+numberOf is.SelfLink = 7
+numberOf is.BytesRemain = 8
+numberOf is.NotConnected = 9
+numberOf is.TrailBufferShort = 10
+numberOf is.SwitchOutOfRange = 11
+numberOf is.TrailDiffers = 12
+numberOf is.StatesShort = 13
+numberOf is.SearchUnsound = 14
+numberOf is.SearchEnded = 15
+numberOf is.ListingBufferShort = 16
+numberOf is.SpareTooLarge = 17
+
+-- what a call answers: its result, or the number of its refusal and nothing else
+pub data Answer (A : Type 0) : Type 0 where
+  given : A → Answer A
+  refused : ℕ → Answer A
+
+-- a condition that is tried: where it holds, the call is refused with its number
+abbrev pub refuse : {A : Type 0} → ℕ → Bool → Answer A → Answer A
+refuse n true a = refused n
+refuse n false a = a
+
+-- what follows an answer: a result goes on, a refusal stands
+infixl 1 _>>=_
+abbrev pub _>>=_ : {A B : Type 0} → Answer A → (A → Answer B) → Answer B
+given a >>= f = f a
+refused n >>= f = refused n
+
+-- ---- an answer beside a value, since an enum of the code holds no array
+
+abbrev pub verdictAnswer : Verdict → Answer Unit
+verdictAnswer verdict.Accepted = given tt
+verdictAnswer (verdict.Refused k) = refused (numberOf k)
+
+-- the value that stands beside an answer: its result, and `none` at a refusal
+abbrev pub valueOr : {A : Type 0} → A → Answer A → A
+valueOr none (given a) = a
+valueOr none (refused n) = none
+
+-- verdict v and the value x beside it are the answer a
+pub record Beside {A : Type 0} (none : A) (a : Answer A) (v : Verdict) (x : A) : Type 0 where
+  pub answer : (verdictAnswer v >>= λ _. given x) ≡ a
+  pub value : x ≡ valueOr none a

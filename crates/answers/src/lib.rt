@@ -1,0 +1,56 @@
+// What a call answers: the seventeen refusals by name, and the verdict that stands beside a value.
+ghost use mathlib.Core.Path.{_≡_};
+ghost use Rattle.answers.specs.Answers.{numberOf};
+
+// The refusals, in the order of their numbers, 1 to 17. Each is named after its condition.
+pub enum Refusal {
+    MapMissing,
+    MapUndefined,
+    FieldMissing,
+    FieldRedundant,
+    ValueOutOfRange,
+    EndOutOfRange,
+    SelfLink,
+    BytesRemain,
+    NotConnected,
+    TrailBufferShort,
+    SwitchOutOfRange,
+    TrailDiffers,
+    StatesShort,
+    SearchUnsound,
+    SearchEnded,
+    ListingBufferShort,
+    SpareTooLarge,
+}
+
+impl Refusal {
+    pub fn number(self) -> u8
+        ensures { λ r. ⌜ r ≡ numberOf self ⌝ }
+    {
+        match self {
+            Refusal::MapMissing => 1,
+            Refusal::MapUndefined => 2,
+            Refusal::FieldMissing => 3,
+            Refusal::FieldRedundant => 4,
+            Refusal::ValueOutOfRange => 5,
+            Refusal::EndOutOfRange => 6,
+            Refusal::SelfLink => 7,
+            Refusal::BytesRemain => 8,
+            Refusal::NotConnected => 9,
+            Refusal::TrailBufferShort => 10,
+            Refusal::SwitchOutOfRange => 11,
+            Refusal::TrailDiffers => 12,
+            Refusal::StatesShort => 13,
+            Refusal::SearchUnsound => 14,
+            Refusal::SearchEnded => 15,
+            Refusal::ListingBufferShort => 16,
+            Refusal::SpareTooLarge => 17,
+        }
+    }
+}
+
+// Whether a call was accepted, beside the value that it answers.
+pub enum Verdict {
+    Accepted,
+    Refused(Refusal),
+}

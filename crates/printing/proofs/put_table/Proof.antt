@@ -1,0 +1,73 @@
+-- `printing::put_table` meets its contract: before each turn the lines of the rules before i are laid. Assumes nothing.
+use Prim.Native.Nat.{_-_}
+use native.Mathlib.Omega.{arith}
+use borrow.Author.Needs.{needs}
+use Rattle.lists.proofs.Arrays.{sized}
+use Rattle.table.specs.Rules.{maxRules, zeroRule}
+use Rattle.text.specs.Sizes.{ruleMost}
+use Rattle.text.proofs.LaidLaws.{laid-same}
+use Rattle.text.proofs.PutLaws.{Turns, turns-none, turns-room, turns-next, turns-all}
+use Rattle.printing.proofs.PageLaws.{ruleBytes, rules-each}
+use Rattle.printing.proofs.put_table.Statement.{statement}
+use Rattle.printing.proofs.put_table.Tie as tie
+
+abbrev Inv-loop : tie.InvT-loop
+Inv-loop buf₀ at t n next₀ i₀ buf next i = Turns ruleBytes buf₀ at (t .rules) ruleMost n buf next i
+
+abbrev μ-loop : tie.MeasureT-loop
+μ-loop buf₀ at t n next₀ i₀ buf next i = n - i
+
+cast-n : tie.Need-cast-n Inv-loop μ-loop
+cast-n c = search needs
+
+loop-holds : tie.Need-loop-holds Inv-loop μ-loop
+loop-holds c = turns-none (c .before .pre .1)
+
+mul-put-rule : tie.Need-mul-put-rule Inv-loop μ-loop
+mul-put-rule c = search needs
+
+element-copy-out-put-rule : tie.Need-element-copy-out-put-rule Inv-loop μ-loop
+element-copy-out-put-rule c = search needs
+
+put-rule-requires : tie.Need-put-rule-requires Inv-loop μ-loop
+put-rule-requires c κs =
+    let l = c .before .before in
+    turns-room (l .before .loop .inv) (l .before .before .before .pre .1) (l .loop-test .taken)
+
+add-i : tie.Need-add-i Inv-loop μ-loop
+add-i c = search needs
+
+loop-less : tie.Need-loop-less Inv-loop μ-loop
+loop-less c = search needs
+
+loop-again : tie.Need-loop-again Inv-loop μ-loop
+loop-again c =
+    let r = c .before .before in
+    let l = r .before .before .before in
+    let s = l .before .before .before in
+    turns-next (l .before .loop .inv) zeroRule (omega (arith, s .pre .0, sized _ (s .args .t1 .rules) maxRules (s .good .0 .1 .1 .1 .0 .1 .0 .1))) (l .loop-test .taken) (r .put-rule .ensures .0) (r .put-rule .ensures .1)
+
+same-length : tie.Need-same-length Inv-loop μ-loop
+same-length c = laid-same (c .before .loop .inv .laid)
+
+returns : tie.Need-returns Inv-loop μ-loop
+returns c =
+    let t = turns-all (c .before .loop .inv) (c .loop-test .left) in
+    (rw (rules-each _) at (t .0), t .1)
+
+pub put-table-spec : {M : Type 1} → statement M
+put-table-spec =
+    tie.close
+    (tie.spec
+    Inv-loop
+    μ-loop
+    cast-n
+    loop-holds
+    mul-put-rule
+    element-copy-out-put-rule
+    put-rule-requires
+    add-i
+    loop-less
+    loop-again
+    same-length
+    returns)

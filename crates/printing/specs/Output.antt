@@ -1,0 +1,35 @@
+-- The bytes that the program `rules` prints (document 01, "Edges and marked cases"), by the definitions of the plan, and the most of them. Assumes nothing.
+use mathlib.Core.List.{List, map}
+use Prim.Native.Nat.{ℕ, _+_, _*_}
+use lib.ListN.{length}
+use Rattle.plant.specs.declared.Plant.{Plant}
+use Rattle.answers.specs.Answers.{Answer, given, refused}
+use Rattle.limits.specs.Limits.{maxHops}
+use Rattle.walks.specs.Graph.{liveLinks, bridges, arcsUsed}
+use Rattle.routes.specs.Plants.{trailOf}
+use Rattle.table.specs.declared.Rule.{Rule}
+use Rattle.table.specs.Rules.{maxRules, rulesOf}
+use Rattle.text.specs.Lines.{pageOf, refusalOf}
+use Rattle.text.specs.Sizes.{summaryMost, ruleMost, trailMost}
+use Rattle.planner.specs.Planning.{planning}
+
+-- a rule as three numbers: sending switch, label, receiving switch
+abbrev pub triple : Rule → ℕ × ℕ × ℕ
+triple r = (r .from, r .label, r .to)
+
+-- the page of a plant: its numbers, its rules and its trail
+unfoldable pub plantOutput : Plant → List ℕ
+plantOutput p = pageOf (p .switches) (liveLinks p) (bridges p) (arcsUsed p) (length (trailOf p)) (map triple (rulesOf p)) (trailOf p)
+
+-- the page of a plant that can be planned, or the line of a refusal
+abbrev pub outputOf : Answer Plant → List ℕ
+outputOf (given p) = plantOutput p
+outputOf (refused n) = refusalOf n
+
+-- the bytes that `rules` prints for a listing
+abbrev pub printed : List ℕ → List ℕ
+printed s = outputOf (planning s)
+
+-- the most bytes of a page: a line of numbers, as many rules and as many labels as there can be
+abbrev pub pageMost : ℕ
+pageMost = summaryMost + maxRules * ruleMost + trailMost maxHops
