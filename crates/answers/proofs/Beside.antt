@@ -4,6 +4,8 @@ use Rattle.answers.specs.declared.Refusal.{Refusal}
 use Rattle.answers.specs.declared.Verdict.{Verdict}
 use Rattle.answers.specs.declared.Verdict.the-variants as verdict
 use Rattle.answers.specs.Answers.{Answer, given, refused, _>>=_, numberOf, verdictAnswer, valueOr, Beside}
+use Rattle.answers.specs.Checks.{Checked, answer, _then_, _giving_}
+use Rattle.answers.proofs.Checks.{goes-on, stops, gives-so, refuses-so}
 
 module _ {A : Type 0} (none : A) (a : Answer A) (v : Verdict) (x : A) where
   -- a result with the value beside it, and a refusal with none
@@ -24,3 +26,20 @@ module _ {A : Type 0} (none : A) (a : Answer A) (v : Verdict) (x : A) where
 -- another name of the answer
 pub beside-as : {A : Type 0} (none : A) (a b : Answer A) (v : Verdict) (x : A) → a ≡ b → Beside none a v x → Beside none b v x
 beside-as none a b v x e q = record { answer = q .answer ∙ e; value = q .value ∙ ap (valueOr none) e }
+
+-- ---- what follows a call whose verdict v stands beside its value x
+
+module _ {A : Type 0} (none : A) (c : Checked A) (v : Verdict) (x : A) (q : Beside none (answer c) v x) where
+  module _ {B : Type 0} (f : A → Checked B) where
+    pub on-then : (b : Answer B) → v ≡ verdict.Accepted → b ≡ answer (f x) → b ≡ answer (c then f)
+    on-then b e g = g ∙ sym (goes-on c f x (accepted none (answer c) v x q e))
+
+    pub off-then : (k : Refusal) → v ≡ verdict.Refused k → refused (numberOf k) ≡ answer (c then f)
+    off-then k e = sym (stops c f (numberOf k) (was-refused none (answer c) v x q k e))
+
+  module _ {B : Type 0} (f : A → B) where
+    pub on-giving : (y : B) → v ≡ verdict.Accepted → y ≡ f x → given y ≡ answer (c giving f)
+    on-giving y e g = ap given g ∙ sym (gives-so c f x (accepted none (answer c) v x q e))
+
+    pub off-giving : (k : Refusal) → v ≡ verdict.Refused k → refused (numberOf k) ≡ answer (c giving f)
+    off-giving k e = sym (refuses-so c f (numberOf k) (was-refused none (answer c) v x q k e))

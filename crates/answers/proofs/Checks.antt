@@ -6,8 +6,11 @@ use mathlib.Core.Bool.{Bool, true, false}
 use mathlib.Core.List.{List, [], _∷_, _++_}
 use Prim.Native.Nat.{ℕ}
 use native.Mathlib.Omega.{arith}
-use Rattle.answers.specs.Answers.{Answer, given, refused, refuse, _>>=_}
-use Rattle.answers.specs.Checks.{Conditions, NoneHolds, FirstHolds, trying, Checked, answer, _then_, leaves, Answers}
+use Rattle.answers.specs.Answers.{Answer, given, refused, refuse, _>>=_, numberOf, verdictAnswer}
+use Rattle.answers.specs.Checks.{Conditions, NoneHolds, FirstHolds, trying, Judges, Checked, answer, _then_, _giving_, leaves, Answers}
+use Rattle.answers.specs.declared.Refusal.{Refusal}
+use Rattle.answers.specs.declared.Verdict.{Verdict}
+use Rattle.answers.specs.declared.Verdict.the-variants as verdict
 
 pub given-refused : {A : Type 0} (a : A) (n : ℕ) → given a ≡ refused n → ⊥
 given-refused a n e = let z : _≡_ {A = ℕ} 0 1 = cc in omega arith
@@ -168,6 +171,34 @@ module _ {A B : Type 0} (c : Checked A) (f : A → Checked B) where
   pub came-from : (b : B) → answer (c then f) ≡ given b → (a : A) × (answer c ≡ given a) × (answer (f a) ≡ given b)
   came-from b e = then-given (answer c) (λ a. answer (f a)) b (sym then-is ∙ e)
 
+-- with another result
+module _ {A B : Type 0} (c : Checked A) (f : A → B) where
+  giving-is : answer (c giving f) ≡ (answer c >>= λ a. given (f a))
+  giving-is = sym (trying-then (c .checks) (given (c .result)) (λ a. given (f a)))
+
+  pub gives-so : (a : A) → answer c ≡ given a → answer (c giving f) ≡ given (f a)
+  gives-so a e = giving-is ∙ rw e refl
+
+  pub refuses-so : (n : ℕ) → answer c ≡ refused n → answer (c giving f) ≡ refused n
+  refuses-so n e = giving-is ∙ rw e refl
+
+  pub was-given : (b : B) → answer (c giving f) ≡ given b → (a : A) × (answer c ≡ given a) × (f a ≡ b)
+  was-given b e = let r = then-given (answer c) (λ a. given (f a)) b (sym giving-is ∙ e) in (r .0, r .1, given-given (f (r .0)) b (r .2))
+
 -- a refusal leaves a lent buffer as it was
 pub left-kept : {A : Type 0} (f : A → List ℕ) (b : List ℕ) (a : Answer A) (n : ℕ) → a ≡ refused n → leaves f b a ≡ b
 left-kept f b a n e = rw e refl
+
+-- ---- a verdict
+
+module _ (cs : Conditions) (v : Verdict) (j : Judges cs v) where
+  -- none of the conditions holds where it says accepted, and what comes after them is the answer
+  pub none-judged : v ≡ verdict.Accepted → NoneHolds cs
+  none-judged e = given-exactly cs tt tt .0 (sym (j .first) ∙ ap verdictAnswer e) .0
+
+  pub passed : {A : Type 0} (a : Answer A) → v ≡ verdict.Accepted → trying cs a ≡ a
+  passed a e = none-trying cs a (none-judged e)
+
+  -- and where it says refused, that refusal is
+  pub turned-down : {A : Type 0} (a : Answer A) (k : Refusal) → v ≡ verdict.Refused k → trying cs a ≡ refused (numberOf k)
+  turned-down a k e = let f = refused-exactly cs tt (numberOf k) .0 (sym (j .first) ∙ ap verdictAnswer e) in rw (f .tried) (first-trying (numberOf k) (f .before) (f .after) a (f .none-before))

@@ -5,7 +5,8 @@ use mathlib.Core.Logic.{_↔_}
 use mathlib.Core.Bool.{Bool, true, false}
 use mathlib.Core.List.{List, [], _∷_, _++_}
 use Prim.Native.Nat.{ℕ}
-use Rattle.answers.specs.Answers.{Answer, given, refused, refuse}
+use Rattle.answers.specs.Answers.{Answer, given, refused, refuse, verdictAnswer}
+use Rattle.answers.specs.declared.Verdict.{Verdict}
 
 -- each with its number
 abbrev pub Conditions : Type 0
@@ -28,6 +29,10 @@ abbrev pub trying : {A : Type 0} → Conditions → Answer A → Answer A
 trying [] a = a
 trying (c ∷ cs) a = refuse (c .0) (c .1) (trying cs a)
 
+-- the verdict v is that of these conditions
+pub record Judges (cs : Conditions) (v : Verdict) : Type 0 where
+  pub first : verdictAnswer v ≡ trying cs (given tt)
+
 -- ---- a call
 
 pub record Checked (A : Type 0) : Type 0 where
@@ -45,6 +50,11 @@ answer c = trying (c .checks) (given (c .result))
 infixl 1 _then_
 abbrev pub _then_ : {A B : Type 0} → Checked A → (A → Checked B) → Checked B
 c then f = check (c .checks ++ f (c .result) .checks) (f (c .result) .result)
+
+-- what it tries, with another result
+infixl 1 _giving_
+abbrev pub _giving_ : {A B : Type 0} → Checked A → (A → B) → Checked B
+c giving f = check (c .checks) (f (c .result))
 
 -- what a call leaves in a lent buffer b: something by its result; at a refusal b as it was
 abbrev pub leaves : {A : Type 0} → (A → List ℕ) → List ℕ → Answer A → List ℕ

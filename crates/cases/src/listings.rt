@@ -5,9 +5,9 @@ use crate::show;
 use answers::Verdict;
 use listing::Decoded;
 use listing::Written;
-use planner::Numbers;
 use planner::Summary;
 use planner::Trailed;
+use planning::Numbers;
 use plant::Plant;
 use table::Table;
 
@@ -40,7 +40,7 @@ fn show_written(w: Written) {
 // Call 2, 18 or 19 with a lent buffer.
 fn show_call(call: u8, s: &[u8], at: usize, buffer: &mut [u8]) {
     match call {
-        2 => show_written(listing::write(input::plant(s, at), buffer)),
+        2 => show_written(planner::write(input::plant(s, at), buffer)),
         18 => show_written(planner::rewrite(input::string(s, at), buffer)),
         _ => show_decoded(planner::reread(input::plant(s, at), buffer)),
     }
@@ -82,7 +82,7 @@ fn bridges(listing: &[u8]) {
     let v = b.verdict;
     match v {
         Verdict::Accepted => {
-            let d = planner::plan(listing);
+            let d = planner::read(listing);
             let n = d.plant.count;
             let flags = b.flags;
             show::list(n as u64, checksum::of_flags(flags, n as usize));
@@ -140,7 +140,7 @@ pub fn answer(call: u8, s: &[u8], at: usize) -> usize {
     }
     let listing = input::string(s, at);
     match call {
-        1 => show_decoded(reading::read(listing)),
+        1 => show_decoded(planner::read(listing)),
         3 => summary(listing),
         4 => bridges(listing),
         5 => rules(listing),

@@ -57,8 +57,8 @@ fn order(listing: &[u8], switch: u8, trail: &[u16]) {
 
 // The two parts of the lent trail, one after the other.
 fn show_parts(trail: &[u16], span: Span) {
-    let stretch = order::stretch(trail, span);
-    let front = order::front(trail, span);
+    let stretch = probing::stretch(trail, span);
+    let front = probing::front(trail, span);
     let h = checksum::with_labels(checksum::with_labels(0, stretch), front);
     show::list(stretch.len() as u64 + front.len() as u64, h);
 }

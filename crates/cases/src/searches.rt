@@ -1,8 +1,8 @@
 // Calls 13 to 17 and 20: the search, its allowance and the order quantity.
 use crate::input;
 use crate::show;
-use demands::Begun;
-use demands::Performed;
+use probing::Begun;
+use probing::Performed;
 use quantity::Quantity;
 use search::Asked;
 use search::Outcome;
@@ -12,7 +12,7 @@ use search::Told;
 fn new_search(s: &[u8], at: usize) -> usize {
     let listing = input::string(s, at);
     let from = input::past_string(s, at);
-    match demands::new_search(listing, input::byte(s, from)) {
+    match probing::new_search(listing, input::byte(s, from)) {
         Begun::State(state) => show::search(state),
         Begun::Refused(k) => show::refusal(k),
     }
@@ -20,7 +20,7 @@ fn new_search(s: &[u8], at: usize) -> usize {
 }
 
 fn ask(s: &[u8], at: usize) -> usize {
-    match input::search(s, at).ask() {
+    match probing::ask(input::search(s, at)) {
         Asked::Probe(m) => show::number(m as u64),
         Asked::Refused(k) => show::refusal(k),
     }
@@ -37,7 +37,7 @@ fn outcome(b: u8) -> Outcome {
 
 fn give(s: &[u8], at: usize) -> usize {
     let from = input::past_search(s, at);
-    match input::search(s, at).give(outcome(input::byte(s, from))) {
+    match probing::give(input::search(s, at), outcome(input::byte(s, from))) {
         Told::State(state) => show::search(state),
         Told::Refused(k) => show::refusal(k),
     }
@@ -55,7 +55,7 @@ fn perform(s: &[u8], at: usize) -> usize {
     let second = input::past_string(s, at);
     let switch = input::byte(s, second);
     let third = input::past(s, second, 1);
-    match demands::perform(listing, switch, input::string(s, third)) {
+    match probing::perform(listing, switch, input::string(s, third)) {
         Performed::Done(p) => show_progress(p),
         Performed::Refused(k) => show::refusal(k),
     }
@@ -64,7 +64,7 @@ fn perform(s: &[u8], at: usize) -> usize {
 
 fn order_quantity(s: &[u8], at: usize) -> usize {
     let from = input::past(s, at, 2);
-    match quantity::order_quantity(input::number(s, at), input::byte(s, from)) {
+    match planner::order_quantity(input::number(s, at), input::byte(s, from)) {
         Quantity::Rules(n) => show::number(n as u64),
         Quantity::Refused(k) => show::refusal(k),
     }
@@ -72,7 +72,7 @@ fn order_quantity(s: &[u8], at: usize) -> usize {
 }
 
 fn allowance(s: &[u8], at: usize) -> usize {
-    show::number(allowance::allowance(input::number(s, at)) as u64);
+    show::number(planner::allowance(input::number(s, at)) as u64);
     input::past(s, at, 2)
 }
 

@@ -1,41 +1,51 @@
--- Demand 2 holds: the plan is document 01's, and the round trips of the listing and of the calls keep bytes and plants. Assumes nothing.
-use mathlib.Core.Path.{_≡_, refl, sym, ap, _∙_}
-use mathlib.Core.List.{List}
+-- Demand 2 holds: the plan, packets and probes are document 01's, and the round trips of the listing and of the calls keep bytes and plants. Assumes nothing.
+use mathlib.Core.Path.{_≡_, refl, sym, ap, _∙_, subst}
+use mathlib.Core.Logic.{_↔_}
+use mathlib.Core.Bool.{true, false}
+use mathlib.Core.List.{List, [], _∷_, _++_}
 use Prim.Native.Nat.{ℕ, _≤_}
 use native.Mathlib.Omega.{arith}
 use borrow.Author.Tests.{le-ltb}
-use lib.ListN.{length}
+use lib.Dec.{ltb}
+use lib.ListN.{length, drop}
+use Rattle.lists.proofs.Tests.{true-T, false-T, not-true-false}
 use Rattle.plant.specs.declared.Plant.{Plant}
-use Rattle.answers.specs.Answers.{given}
+use Rattle.answers.specs.Answers.{Answer, given, refused}
+use Rattle.answers.specs.Checks.{check, answer, leaves}
+use Rattle.answers.proofs.Checks.{given-refused, refused-refused, goes-on, gives-so}
 use Rattle.limits.specs.Sound.{Sound}
-use Rattle.listing.specs.Listing.{decode, encode}
-use Rattle.listing.specs.Writing.{bufferShort}
-use Rattle.listing.proofs.RoundTrip.{read-write, write-read}
-use Rattle.listing.proofs.WriteRoundTrip.{sound-given, sound-written, buffer-written}
-use Rattle.walks.specs.Graph.{Connected}
+use Rattle.listing.specs.Field.{Bytes}
+use Rattle.listing.specs.Listing.{encode}
+use Rattle.listing.specs.Conditions.{reading, writing}
+use Rattle.listing.proofs.Shim.{read-write, write-read, decode-sound, sound-written, buffer-written, refusal-numbers}
+use Rattle.walks.specs.Graph.{Connected, connected}
 use Rattle.walks.proofs.Valid.{sound-valid}
-use Rattle.walks.proofs.Tests.{bridge-is}
+use Rattle.walks.proofs.Tests.{bridge-is, connected-is}
 use Rattle.walks.proofs.ByLinks.{visited-by-links}
 use Rattle.routes.specs.Plants.{trailOf}
 use Rattle.routes.proofs.Plants.{distance-fewest}
 use Rattle.trail.proofs.Trails.{trail-is, trail-closed, trail-by-legs}
-use Rattle.planner.specs.Calls.{rewriting, overlaid, rereading}
-use Rattle.planner.proofs.Plans.{plan-ready}
-use Rattle.planner.proofs.Trailing.{lay-enough, laid-enough, trail-given, left-given}
+use Rattle.planning.specs.Planning.{planning}
+use Rattle.planning.proofs.Plans.{plan-joined, plan-apart, plan-refused, plan-ready, at-given}
+use Rattle.planner.specs.Calls.{rewriting, rewritten, rereading, trailLeft}
+use Rattle.planner.proofs.Trailing.{lay-enough, trail-given, left-given}
 use Rattle.demands.specs.Demands.{PlanIs, Demand2}
+use Rattle.demands.proofs.Packets.{run-is, rules-are, injection-is}
 
-rewritten : (s b : List ℕ) (p : Plant) → decode s ≡ given p → length s ≤ length b → rewriting s b ≡ given (length s)
+rewrites : (s b : List ℕ) (p : Plant) → answer (reading s) ≡ given p → length s ≤ length b → answer (rewriting s b) ≡ given (length s)
 unfolding rewriting
-rewritten s b p e h = rw (e, le-ltb (length b) (length s) h)
+rewrites s b p e h = goes-on (reading s) (λ _. check ((16, ltb (length b) (length s)) ∷ []) (length s)) p e ∙ rw (le-ltb (length b) (length s) h) refl
 
-reread : (p : Plant) (b : List ℕ) → Sound p → length (encode p) ≤ length b → rereading p b ≡ given p
-unfolding rereading bufferShort
-reread p b ok h = rw (sound-given p ok, le-ltb (length b) (length (encode p)) h)
+rereads : (p : Plant) (b : List ℕ) → Sound p → length (encode p) ≤ length b → answer (rereading p b) ≡ given p
+unfolding rereading
+rereads p b ok h = gives-so (writing p b) (λ _. p) (length (encode p)) (sound-written p b ok h)
 
 plan-is : (p : Plant) → Sound p → Connected p → PlanIs p
 plan-is p ok con =
     let valid = sound-valid p ok in
     record {
+      sound = ok;
+      connected = con;
       bridges = λ l h. bridge-is p valid l h;
       visit = visited-by-links p valid (p .switches) (omega arith);
       distances = distance-fewest p valid;
@@ -44,15 +54,38 @@ plan-is p ok con =
       closed = trail-closed p ok con;
     }
 
+-- ---- refusal 9
+
+module _ (s : List ℕ) (b : Bytes s) where
+  not-reached : (p : Plant) → answer (reading s) ≡ given p → (connected p ≡ false) ↔ (Connected p → ⊥)
+  not-reached p e =
+      let c = connected-is p (sound-valid p (decode-sound s p b e)) in
+      (λ q k. false-T (connected p) q (c .1 k), λ n. not-true-false (connected p) (λ q. n (c .0 (true-T (connected p) q))))
+
+  unreached : (answer (planning s) ≡ refused 9) ↔ ((p : Plant) × (answer (reading s) ≡ given p) × (Connected p → ⊥))
+  unreached = (λ e. go (answer (reading s)) refl e, λ r. plan-apart s (r .0) (r .1) (not-reached (r .0) (r .1) .1 (r .2)))
+    where
+      go : (a : Answer Plant) → answer (reading s) ≡ a → answer (planning s) ≡ refused 9 → (p : Plant) × (answer (reading s) ≡ given p) × (Connected p → ⊥)
+      go (given p) d e = (p, d, not-reached p d .0 (not-true-false (connected p) (λ q. given-refused p 9 (sym (plan-joined s p d q) ∙ e))))
+      go (refused n) d e = absurd (omega (arith, refusal-numbers s n d, refused-refused {A = Plant} n 9 (sym (plan-refused s n d) ∙ e)))
+
 pub demand-2 : Demand2
+unfolding rewritten
 demand-2 = record {
   read-write = read-write;
   write-read = write-read;
-  rewrite = λ s b p _ e h. let r = rewritten s b p e h in (r, ap (overlaid s b) r);
-  reread = λ p b ok h. (reread p b ok h, buffer-written p b (length (encode p)) (sound-written p b ok h));
+  rewrite = λ s b p _ e h. let r = rewrites s b p e h in (r, ap (leaves (λ n. s ++ drop n b) b) r);
+  reread = λ p b ok h. (rereads p b ok h, buffer-written p b (length (encode p)) (sound-written p b ok h));
+  sound = decode-sound;
+  unreached = unreached;
   plan = λ s p b e. let r = plan-ready s p b e in plan-is p (r .0) (r .1);
-  laid = λ s b p e h. (
-    sym (lay-enough p b h (length (trailOf p)) refl ∙ trail-given s p e b),
-    sym (laid-enough p b h ∙ left-given s p e b),
-  );
+  laid = λ s b p e h.
+      let r = lay-enough p b h (length (trailOf p)) refl in
+      (sym (r ∙ trail-given s b p e), sym (ap (trailLeft p b) r ∙ left-given s b p e));
+  run = run-is;
+  rules = rules-are;
+  injection = λ s x p b e.
+      let h = at-given s x p e in
+      let r = plan-ready s p b (h .0) in
+      injection-is p (r .0) (r .1) x (h .1);
 }

@@ -10,6 +10,7 @@ use Rattle.lists.specs.Tests.{choose}
 use Rattle.lists.proofs.Tests.{bool?, eq?}
 use Rattle.plant.specs.declared.Plant.{Plant}
 use Rattle.answers.specs.Answers.{given}
+use Rattle.answers.specs.Checks.{answer}
 use Rattle.answers.proofs.Checks.{given-refused, given-given}
 use Rattle.limits.specs.Limits.{maxLinks}
 use Rattle.limits.specs.Sound.{Sound}
@@ -30,7 +31,7 @@ use Rattle.demands.proofs.Searching.{place, told, tells, few-links}
 
 -- what is true of the outcomes of probes 1 .. e is all that matters
 module _ (e : ℕ) (fits : e ≤ maxLinks) (P Q : ℕ → Outcome → Type 0) (h : (m : ℕ) → 1 ≤ m → m ≤ e → (o : Outcome) → P m o → Q m o) where
-  asked-in : (s : Search) → Good e s → (m : ℕ) → ask s ≡ given m → (1 ≤ m) × (m ≤ e)
+  asked-in : (s : Search) → Good e s → (m : ℕ) → answer (ask s) ≡ given m → (1 ≤ m) × (m ≤ e)
   unfolding ask
   asked-in s g m q = go (bool? (ended s))
     where

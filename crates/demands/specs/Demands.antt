@@ -1,114 +1,89 @@
 -- The three demands, each as one statement over the definitions that the contracts of the calls cite. Their proofs are in proofs/.
 use mathlib.Core.Path.{_≡_}
 use mathlib.Core.Logic.{_↔_}
-use mathlib.Core.Bool.{true, false, not}
+use mathlib.Core.Bool.{Bool, true, false}
 use mathlib.Core.List.{List, [], _∷_, _++_, map}
-use Prim.Native.Nat.{ℕ, _+_, _*_, _^_, _≤_, _<_}
-use lib.Dec.{T, ltb}
-use lib.ListN.{length, drop}
+use Prim.Native.Nat.{ℕ, suc, _+_, _*_, _/_, _^_, _≤_, _<_}
+use lib.Dec.{T}
+use lib.ListN.{length, take, drop}
 use Rattle.lists.specs.Tests.{choose}
 use Rattle.lists.specs.Members.{In, memb, Distinct}
 use Rattle.lists.specs.Count.{count}
 use Rattle.lists.specs.Numbers.{range, keep}
+use Rattle.answers.specs.Answers.{given, refused}
+use Rattle.answers.specs.Checks.{check, answer, Answers, AnswersInto}
 use Rattle.plant.specs.declared.Plant.{Plant}
 use Rattle.plant.specs.Links.{live}
-use Rattle.answers.specs.Answers.{Answer, given, refused}
-use Rattle.answers.specs.Checks.{Conditions, FirstHolds}
 use Rattle.limits.specs.Sound.{Sound}
 use Rattle.listing.specs.Field.{Bytes}
-use Rattle.listing.specs.Listing.{decode, encode}
-use Rattle.listing.specs.Writing.{written, bufferAfter}
-use Rattle.listing.specs.Conditions.{conditions, plantIn, AnswersReading, writerConditions}
+use Rattle.listing.specs.Listing.{encode}
+use Rattle.listing.specs.Conditions.{reading, writing}
+use Rattle.listing.specs.Writing.{bufferAfter}
 use Rattle.walks.specs.Arcs.{tail, head}
 use Rattle.walks.specs.Graph.{Crosses, ClosedWalk, Connected, Bridge, visited, bridge, used, liveLinks, bridges}
 use Rattle.walks.specs.ByLinks.{visitLinks}
 use Rattle.routes.specs.Meaning.{Fewest}
 use Rattle.routes.specs.Plants.{distanceOf, trailOf}
-use Rattle.rings.specs.Rules.{upBy}
-use Rattle.rings.specs.Injection.{orderOf, probeRun}
+use Rattle.rings.specs.Packet.{run}
+use Rattle.rings.specs.Rules.{upBy, inTable, inAll, allRules}
+use Rattle.rings.specs.Ring.{FirstHop}
+use Rattle.rings.specs.Order.{nth}
+use Rattle.rings.specs.Probe.{upTo, back}
+use Rattle.rings.specs.Injection.{placeOf, ringOf, orderOf, probeRun}
 use Rattle.rings.specs.FirstDown.{FirstDown}
 use Rattle.trail.specs.Trails.{IsTrail, legsOf}
 use Rattle.table.specs.Rules.{ruleOf, rulesOf, tableWith}
-use Rattle.planner.specs.Planning.{notConnected, planning, switchOutOfRange, planningAt}
-use Rattle.planner.specs.Calls.{rewriting, overlaid, rereading, bridging, tabling, summing, placesShort, trailing, trailedBy}
-use Rattle.quantity.specs.Quantity.{maxSpare, orderQuantity}
+use Rattle.order.specs.declared.Span.{Span}
+use Rattle.order.specs.Span.{stretchOf, frontOf}
+use Rattle.allowance.specs.Allowance.{allowance, clipped}
+use Rattle.quantity.specs.Quantity.{orderQuantity}
 use Rattle.search.specs.declared.Search.{Search}
 use Rattle.search.specs.declared.Search.the-variants.{AllUp, Down}
 use Rattle.search.specs.declared.Outcome.{Outcome}
 use Rattle.search.specs.declared.Outcome.the-variants.{Returned, Lost}
 use Rattle.search.specs.declared.Progress.{Progress}
-use Rattle.search.specs.Search.{newSearch, sound, ended, ask, give}
+use Rattle.search.specs.Search.{newSearch, ended, ask, give}
 use Rattle.search.specs.Calls.{Call, perform, begun, TrueCalls}
 use Rattle.search.specs.Limit.{limit}
-use Rattle.probing.specs.Conditions.{trailDiffers, statesShort, searchUnsound}
-use Rattle.probing.specs.Calls.{running, checking, ordering, outgoing, probing, naming}
-use Rattle.demands.specs.Calls.{beginning, performing}
+use Rattle.planning.specs.Planning.{planning, planningAt}
+use Rattle.planner.specs.Calls.{rewriting, rewritten, rereading, summing, bridging, tabling, trailing, laidOut}
+use Rattle.probing.specs.Calls.{running, checking, ordering, outgoing, probing, naming, beginning, performing}
 
--- ---- demand 1: a call answers a result, or a refusal exactly under its condition
+-- ---- demand 1: each call answers its result, or a refusal exactly under its condition, and a refusal leaves a lent buffer as it was
 
--- the answer a to a call that tries these conditions: it is refusal n exactly when condition n holds and none that is tried before it does; otherwise it is a result
-pub record Answers {A : Type 0} (cs : Conditions) (a : Answer A) : Type 0 where
-  pub refusals : (n : ℕ) → (a ≡ refused n) ↔ FirstHolds n cs
-  pub otherwise : ((n : ℕ) → FirstHolds n cs → ⊥) → (r : A) × (a ≡ given r)
-
-module _ (s : List ℕ) where
-  -- 1 to 8, then 9 of the plant in the bytes, then those of the call
-  abbrev pub planningThen : Conditions → Conditions
-  planningThen cs = conditions s ++ (9, notConnected (plantIn s)) ∷ cs
-
-  -- then 11 of the switch x
-  abbrev pub planningAtThen : ℕ → Conditions → Conditions
-  planningAtThen x cs = planningThen ((11, switchOutOfRange (plantIn s) x) ∷ cs)
-
-  -- of planning itself also what its result is, and what condition 9 is
-  pub record AnswersPlanning (a : Answer Plant) : Type 0 where
-    pub refusals : (n : ℕ) → (a ≡ refused n) ↔ FirstHolds n (planningThen [])
-    pub otherwise : ((n : ℕ) → FirstHolds n (planningThen []) → ⊥) → (p : Plant) × (a ≡ given p) × Sound p × Connected p
-    pub unreached : (a ≡ refused 9) ↔ ((p : Plant) × (decode s ≡ given p) × (Connected p → ⊥))
-
+-- A field for each call, as in docs/CALLS.md. What a call tries, in which order, and what it gives stand in its definition.
 pub record Demand1 : Type 0 where
-  -- calls that are given a listing s, with lent buffer b and injection switch x
-  pub read : (s : List ℕ) → Bytes s → AnswersReading s (decode s)
-  pub rewrite : (s b : List ℕ) → Answers (conditions s ++ (16, ltb (length b) (length s)) ∷ []) (rewriting s b)
-  pub plan : (s : List ℕ) → Bytes s → AnswersPlanning s (planning s)
-  pub plan-at : (s : List ℕ) (x : ℕ) → Answers (planningAtThen s x []) (planningAt s x)
-  pub find-bridges : (s : List ℕ) → Answers (planningThen s []) (bridging s)
-  pub forwarding-table : (s : List ℕ) → Answers (planningThen s []) (tabling s)
-  pub summarize : (s : List ℕ) → Answers (planningThen s []) (summing s)
-  pub lay-trail : (s b : List ℕ) → Answers (planningThen s ((10, placesShort (plantIn s) b) ∷ [])) (trailing s b)
-  pub new-search : (s : List ℕ) (x : ℕ) → Answers (planningAtThen s x []) (beginning s x)
-  pub perform : (s : List ℕ) (x : ℕ) (cs : List Call) → Answers (planningAtThen s x []) (performing s x cs)
-  -- with labels, link states, a lent trail w, a search q
-  pub run : (s : List ℕ) (x : ℕ) (labels states : List ℕ)
-      → Answers (planningAtThen s x ((13, statesShort (plantIn s .count) states) ∷ [])) (running s x labels states)
-  pub full-check : (s : List ℕ) (x : ℕ) (w states : List ℕ)
-      → Answers (planningAtThen s x ((12, trailDiffers (plantIn s) w) ∷ (13, statesShort (plantIn s .count) states) ∷ [])) (checking s x w states)
-  pub order-of-links : (s : List ℕ) (x : ℕ) (w : List ℕ)
-      → Answers (planningAtThen s x ((12, trailDiffers (plantIn s) w) ∷ [])) (ordering s x w)
-  pub outward-labels : (s : List ℕ) (x : ℕ) (w : List ℕ) (q : Search)
-      → Answers (planningAtThen s x ((12, trailDiffers (plantIn s) w) ∷ (14, searchUnsound (liveLinks (plantIn s)) q) ∷ (15, ended q) ∷ [])) (outgoing s x w q)
-  pub run-probe : (s : List ℕ) (x : ℕ) (w states : List ℕ) (q : Search)
-      → Answers
-      (planningAtThen s x ((12, trailDiffers (plantIn s) w) ∷ (13, statesShort (plantIn s .count) states) ∷ (14, searchUnsound (liveLinks (plantIn s)) q) ∷ (15, ended q) ∷ []))
-      (probing s x w states q)
-  pub link-named : (s : List ℕ) (x : ℕ) (w : List ℕ) (q : Search)
-      → Answers (planningAtThen s x ((12, trailDiffers (plantIn s) w) ∷ (14, searchUnsound (liveLinks (plantIn s)) q) ∷ [])) (naming s x w q)
-  -- calls that are given a plant, calls to a search, and the order quantity
-  pub write : (p : Plant) (b : List ℕ) → Answers (writerConditions p b) (written p b)
-  pub reread : (p : Plant) (b : List ℕ) → Answers (writerConditions p b) (rereading p b)
-  pub ask : (s : Search) → Answers ((14, not (sound s)) ∷ (15, ended s) ∷ []) (ask s)
-  pub give : (s : Search) (o : Outcome) → Answers ((14, not (sound s)) ∷ (15, ended s) ∷ []) (give s o)
-  pub order-quantity : (rules spare : ℕ) → Answers ((17, ltb maxSpare spare) ∷ []) (orderQuantity rules spare)
-  -- a refusal leaves the lent buffer untouched
-  pub rewrite-kept : (s b : List ℕ) (n : ℕ) → rewriting s b ≡ refused n → overlaid s b (rewriting s b) ≡ b
-  pub lay-trail-kept : (s b : List ℕ) (n : ℕ) → trailing s b ≡ refused n → trailedBy (planning s) b ≡ b
-  pub write-kept : (p : Plant) (b : List ℕ) (n : ℕ) → written p b ≡ refused n → bufferAfter p b ≡ b
-  pub reread-kept : (p : Plant) (b : List ℕ) (n : ℕ) → rereading p b ≡ refused n → bufferAfter p b ≡ b
+  -- calls that are given a listing s or a plant p, and lent a buffer b
+  pub read : (s : List ℕ) → Answers (reading s)
+  pub write : (p : Plant) (b : List ℕ) → AnswersInto (writing p b) b (bufferAfter p b)
+  pub rewrite : (s b : List ℕ) → AnswersInto (rewriting s b) b (rewritten s b)
+  pub reread : (p : Plant) (b : List ℕ) → AnswersInto (rereading p b) b (bufferAfter p b)
+  pub summarize : (s : List ℕ) → Answers (summing s)
+  pub find-bridges : (s : List ℕ) → Answers (bridging s)
+  pub forwarding-table : (s : List ℕ) → Answers (tabling s)
+  pub lay-trail : (s b : List ℕ) → AnswersInto (trailing s b) b (laidOut s b)
+  pub order-quantity : (rules spare : ℕ) → Answers (orderQuantity rules spare)
+  pub allowance : (n : ℕ) → Answers (check [] (allowance (clipped n)))
+  -- calls that are given a listing s and a switch x, with labels, link states, a lent trail w or a search q
+  pub run : (s : List ℕ) (x : ℕ) (labels states : List ℕ) → Answers (running s x labels states)
+  pub full-check : (s : List ℕ) (x : ℕ) (w states : List ℕ) → Answers (checking s x w states)
+  pub order-of-links : (s : List ℕ) (x : ℕ) (w : List ℕ) → Answers (ordering s x w)
+  pub outward-labels : (s : List ℕ) (x : ℕ) (w : List ℕ) (q : Search) → Answers (outgoing s x w q)
+  pub stretch : (w : List ℕ) (b : Span) → Answers (check [] (stretchOf w b))
+  pub front : (w : List ℕ) (b : Span) → Answers (check [] (frontOf w b))
+  pub run-probe : (s : List ℕ) (x : ℕ) (w states : List ℕ) (q : Search) → Answers (probing s x w states q)
+  pub link-named : (s : List ℕ) (x : ℕ) (w : List ℕ) (q : Search) → Answers (naming s x w q)
+  pub new-search : (s : List ℕ) (x : ℕ) → Answers (beginning s x)
+  pub ask : (q : Search) → Answers (ask q)
+  pub give : (q : Search) (o : Outcome) → Answers (give q o)
+  pub perform : (s : List ℕ) (x : ℕ) (cs : List Call) → Answers (performing s x cs)
 
 -- ---- demand 2: the definitions are document 01's, the round trips and the trail
 
 -- what bridges, the visit, distances and the trail of a plant that can be planned are, in document 01's words
 pub record PlanIs (p : Plant) : Type 0 where
+  pub sound : Sound p
+  pub connected : Connected p
   -- "a bridge is a link without which its two ends are not joined"
   pub bridges : (l : ℕ) → T (live p l) → T (bridge p l) ↔ Bridge p l
   -- "at each switch the links are tried by rising number, and a link to an unvisited switch is entered before the next is tried"
@@ -121,20 +96,64 @@ pub record PlanIs (p : Plant) : Type 0 where
   pub trail : IsTrail p (trailOf p)
   pub closed : ClosedWalk p (trailOf p)
 
+-- what the run of a packet is, under any rules and by the links that are up: from switch `at`, after n hops
+pub record RunIs (rule : ℕ → ℕ → Bool) (up : ℕ → Bool) (hd : ℕ → ℕ) : Type 0 where
+  -- "at a switch with a rule for the next label, and that label's link up, it crosses"
+  pub crosses : (at n a : ℕ) (w : List ℕ) → rule at a ≡ true → up (a / 2) ≡ true → run rule up hd at n (a ∷ w) ≡ run rule up hd (hd a) (suc n) w
+  -- "with the list empty it has ended there"
+  pub ends : (at n : ℕ) → run rule up hd at n [] ≡ record { ended = true; hops = n; last = at }
+  -- "otherwise it is lost"
+  pub no-rule : (at n a : ℕ) (w : List ℕ) → rule at a ≡ false → run rule up hd at n (a ∷ w) ≡ record { ended = false; hops = n; last = at }
+  pub link-down : (at n a : ℕ) (w : List ℕ) → up (a / 2) ≡ false → run rule up hd at n (a ∷ w) ≡ record { ended = false; hops = n; last = at }
+
+-- the rules that packets run under
+pub record RulesAre (p : Plant) : Type 0 where
+  -- the rule page: one for each arc in use, at the switch that it leaves
+  pub table : (at a : ℕ) → (inTable p at a ≡ true) ↔ (T (used p a) × (tail p a ≡ at))
+  -- "opposite arcs have rules of their own: 2×E rules in all"
+  pub all : (at a : ℕ) → (inAll p at a ≡ true) ↔ (T (live p (a / 2)) × (tail p a ≡ at))
+  pub number : allRules p ≡ 2 * liveLinks p
+
+-- injection at switch x: its place, its ring, the order of links, and probes
+pub record InjectionIs (p : Plant) (x : ℕ) : Type 0 where
+  -- "the place is the first hop of the trail that leaves it (0 if the trail is empty)"
+  pub place : 1 ≤ liveLinks p → FirstHop (tail p) x (trailOf p) (placeOf p (trailOf p) x)
+  pub place-empty : trailOf p ≡ [] → placeOf p (trailOf p) x ≡ 0
+  -- "the ring is read from there to the trail's end, then from its front"
+  pub ring : ringOf p (trailOf p) x ≡ drop (placeOf p (trailOf p) x) (trailOf p) ++ take (placeOf p (trailOf p) x) (trailOf p)
+  -- "the order of links is by first crossing from that place": each link once, and the earlier in the order is the earlier crossed
+  pub order-each : (l : ℕ) → In l (orderOf p (trailOf p) x) ↔ T (live p l)
+  pub order-once : Distinct (orderOf p (trailOf p) x)
+  pub order-rises : (i j : ℕ) → 1 ≤ i → i < j → j ≤ liveLinks p
+      → length (upTo (nth (orderOf p (trailOf p) x) i) (ringOf p (trailOf p) x)) < length (upTo (nth (orderOf p (trailOf p) x) j) (ringOf p (trailOf p) x))
+  -- "probe m, for 1 ≤ m < E, goes out up to the first crossing of the m-th link and then back over the opposite arcs", under the rules of all arcs
+  pub probe : (up : ℕ → Bool) (m : ℕ) → m < liveLinks p
+      → probeRun p (trailOf p) x up m
+      ≡ run (inAll p) up (head p) x 0 (upTo (nth (orderOf p (trailOf p) x) m) (ringOf p (trailOf p) x) ++ back (upTo (nth (orderOf p (trailOf p) x) m) (ringOf p (trailOf p) x)))
+  -- "the full check, m = E, is the whole ring", under the rule page alone
+  pub full-check : (up : ℕ → Bool) → probeRun p (trailOf p) x up (liveLinks p) ≡ run (inTable p) up (head p) x 0 (ringOf p (trailOf p) x)
+
 pub record Demand2 : Type 0 where
   -- what was read is written as the bytes that were read, and what was written is read as the plant that was written
-  pub read-write : (s : List ℕ) (p : Plant) → Bytes s → decode s ≡ given p → encode p ≡ s
-  pub write-read : (p : Plant) → Sound p → decode (encode p) ≡ given p
+  pub read-write : (s : List ℕ) (p : Plant) → Bytes s → answer (reading s) ≡ given p → encode p ≡ s
+  pub write-read : (p : Plant) → Sound p → answer (reading (encode p)) ≡ given p
   -- so it is with the calls: the buffer begins with the listing, bytes past it stay, and they read it back
-  pub rewrite : (s b : List ℕ) (p : Plant) → Bytes s → decode s ≡ given p → length s ≤ length b
-      → (rewriting s b ≡ given (length s)) × (overlaid s b (rewriting s b) ≡ s ++ drop (length s) b)
+  pub rewrite : (s b : List ℕ) (p : Plant) → Bytes s → answer (reading s) ≡ given p → length s ≤ length b
+      → (answer (rewriting s b) ≡ given (length s)) × (rewritten s b ≡ s ++ drop (length s) b)
   pub reread : (p : Plant) (b : List ℕ) → Sound p → length (encode p) ≤ length b
-      → (rereading p b ≡ given p) × (bufferAfter p b ≡ encode p ++ drop (length (encode p)) b)
+      → (answer (rereading p b) ≡ given p) × (bufferAfter p b ≡ encode p ++ drop (length (encode p)) b)
+  -- what is read is sound, and 9 is its refusal exactly if some switch can't be reached from the start
+  pub sound : (s : List ℕ) (p : Plant) → Bytes s → answer (reading s) ≡ given p → Sound p
+  pub unreached : (s : List ℕ) → Bytes s → (answer (planning s) ≡ refused 9) ↔ ((p : Plant) × (answer (reading s) ≡ given p) × (Connected p → ⊥))
   -- the plan of a listing is document 01's
-  pub plan : (s : List ℕ) (p : Plant) → Bytes s → planning s ≡ given p → PlanIs p
+  pub plan : (s : List ℕ) (p : Plant) → Bytes s → answer (planning s) ≡ given p → PlanIs p
   -- a buffer with enough places begins with the whole trail, and places past it stay
-  pub laid : (s b : List ℕ) (p : Plant) → planning s ≡ given p → length (trailOf p) ≤ length b
-      → (trailing s b ≡ given (length (trailOf p))) × (trailedBy (planning s) b ≡ trailOf p ++ drop (length (trailOf p)) b)
+  pub laid : (s b : List ℕ) (p : Plant) → answer (planning s) ≡ given p → length (trailOf p) ≤ length b
+      → (answer (trailing s b) ≡ given (length (trailOf p))) × (laidOut s b ≡ trailOf p ++ drop (length (trailOf p)) b)
+  -- packets, rules and probes are document 01's
+  pub run : (rule : ℕ → ℕ → Bool) (up : ℕ → Bool) (hd : ℕ → ℕ) → RunIs rule up hd
+  pub rules : (p : Plant) → RulesAre p
+  pub injection : (s : List ℕ) (x : ℕ) (p : Plant) → Bytes s → answer (planningAt s x) ≡ given p → InjectionIs p x
 
 -- ---- demand 3: the rule page and the search
 
@@ -193,16 +212,17 @@ pub record Searches (p : Plant) (x : ℕ) (cs : List Call) (r : Progress) : Type
   pub few : r .probes ≤ limit (liveLinks p)
   pub enough : r .probes ≡ limit (liveLinks p) → ended (r .state) ≡ true
   -- until it has ended, a call for a probe answers one of 1 .. E, and an outcome is accepted
-  pub goes-on : ended (r .state) ≡ false → (m : ℕ) × (1 ≤ m) × (m ≤ liveLinks p) × (ask (r .state) ≡ given m)
-  pub accepts : ended (r .state) ≡ false → (o : Outcome) → (s : Search) × (give (r .state) o ≡ given s)
+  pub goes-on : ended (r .state) ≡ false → (m : ℕ) × (1 ≤ m) × (m ≤ liveLinks p) × (answer (ask (r .state)) ≡ given m)
+  pub accepts : ended (r .state) ≡ false → (o : Outcome) → (s : Search) × (answer (give (r .state) o) ≡ given s)
   -- "if the links don't change during the list and every accepted fate is true, the search, once ended, says" what is so of the links
   pub says : (states : List ℕ) → AllTrue p x states cs → ended (r .state) ≡ true → Says p x states (r .state)
 
 -- for every listing that is read as a connected plant
 pub record Demand3 (s : List ℕ) (p : Plant) : Type 0 where
   -- "the rule page is document 01's"
-  pub page : tabling s ≡ given (tableWith (rulesOf p))
+  pub page : answer (tabling s) ≡ given (tableWith (rulesOf p))
   pub rules : RulePage p
   -- "for every list of calls that ask for a probe or give a fate, refused ones included, after a new search over E links from any injection switch"
-  pub begins : (x : ℕ) → x < p .switches → beginning s x ≡ given (newSearch (liveLinks p))
+  pub begins : (x : ℕ) → x < p .switches → answer (beginning s x) ≡ given (newSearch (liveLinks p))
+  pub performs : (x : ℕ) → x < p .switches → (cs : List Call) → answer (performing s x cs) ≡ given (perform (begun (liveLinks p)) cs)
   pub searches : (x : ℕ) → x < p .switches → (cs : List Call) → Searches p x cs (perform (begun (liveLinks p)) cs)

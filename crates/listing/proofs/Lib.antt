@@ -13,3 +13,4 @@ pub mod RoundTrip
 pub mod WriteRoundTrip
 pub mod Longest
 pub mod Front
+pub mod Shim

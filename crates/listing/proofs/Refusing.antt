@@ -66,7 +66,7 @@ decode-header s =
     ap (λ (a : Answer (Plant × List ℕ)). a >>= λ h. afterHeader (h .0) (h .1)) (header-tried s)
     ∙ trying-then (headerConditions s) (given (headerIn s, afterPart headerFields s)) (λ h. afterHeader (h .0) (h .1))
 
-decode-tried : (s : List ℕ) → decode s ≡ trying (conditions s) (given (plantIn s))
+pub decode-tried : (s : List ℕ) → decode s ≡ trying (conditions s) (given (plantIn s))
 unfolding afterHeader finish conditions plantIn
 decode-tried s =
     decode-header s

@@ -37,7 +37,7 @@ links-tried switches [] = refl
 links-tried switches (l ∷ ls) =
     trying-then (endsConditions switches l) (given tt) (λ _. soundLinks switches ls) ∙ ap (trying (endsConditions switches l)) (links-tried switches ls)
 
-written-tried : (p : Plant) (b : List ℕ) → written p b ≡ trying (writerConditions p b) (given (length (encode p)))
+pub written-tried : (p : Plant) (b : List ℕ) → written p b ≡ trying (writerConditions p b) (given (length (encode p)))
 unfolding written soundPlant writerConditions
 written-tried p b =
     ap (λ (a : Answer Unit). refuse 5 (plantOutOfRange p) a >>= last) (links-tried (p .switches) (linksOf p))

@@ -11,13 +11,14 @@ use Rattle.plant.specs.declared.Link.{Link}
 use Rattle.plant.specs.declared.Plant.{Plant}
 use Rattle.plant.specs.Links.{zeroLink, linkAt}
 use Rattle.answers.specs.Answers.{Answer, given, refused}
-use Rattle.answers.specs.Checks.{Conditions, FirstHolds}
+use Rattle.answers.specs.Checks.{Conditions, FirstHolds, Checked, check}
 use Rattle.limits.specs.Limits.{maxLinks}
 use Rattle.limits.specs.Sound.{Sound}
 use Rattle.listing.specs.declared.Field.{Field}
 use Rattle.listing.specs.Part.{mapMissing, mapUndefined, fieldMissing, fieldRedundant, fieldValues, afterPart}
 use Rattle.listing.specs.Listing.{headerFields, linkFields, headerOutOfRange, headerFrom, endOutOfRange, selfLink, bytesRemain, linkFrom, withLinks, linksOf}
 use Rattle.listing.specs.Writing.{plantOutOfRange, bufferShort}
+use Rattle.listing.specs.Listing.{encode}
 
 -- ---- the parts, where s are the bytes from the part's map on
 
@@ -92,3 +93,9 @@ writerConditions p b = (5, plantOutOfRange p) ∷ eachEnds (p .switches) (linksO
 pub record Typed (p : Plant) : Type 0 where
   pub places : length (p .links) ≡ maxLinks
   pub tags : (l : ℕ) → l < maxLinks → linkAt p l .tag < 2 ^ 16
+
+unfoldable pub reading : List ℕ → Checked Plant
+reading s = check (conditions s) (plantIn s)
+
+unfoldable pub writing : Plant → List ℕ → Checked ℕ
+writing p b = check (writerConditions p b) (length (encode p))

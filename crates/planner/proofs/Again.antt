@@ -1,73 +1,62 @@
 -- Read and written again, written and read again: what the two calls answer together. Assumes nothing.
-use mathlib.Core.Path.{_≡_, refl, sym, ap, _∙_, subst}
-use mathlib.Core.Bool.{Bool, true, false}
-use mathlib.Core.List.{List, _++_}
+use mathlib.Core.Path.{_≡_, refl, sym, ap, _∙_}
+use mathlib.Core.List.{List, [], _∷_, _++_}
 use Prim.Native.Nat.{ℕ, _≤_}
 use native.Mathlib.Omega.{arith}
+use lib.Dec.{ltb}
 use lib.ListN.{length, take, drop}
 use Rattle.plant.specs.declared.Plant.{Plant}
-use Rattle.answers.specs.Answers.{Answer, given, refused, refuse, _>>=_}
-use Rattle.answers.proofs.Checks.{given-refused, refused-refused}
+use Rattle.answers.specs.Answers.{Answer, given, refused}
+use Rattle.answers.specs.Checks.{check, answer, leaves}
+use Rattle.answers.proofs.Checks.{goes-on, stops, gives-so, refuses-so}
+use Rattle.answers.proofs.Beside.{beside-as}
 use Rattle.listing.specs.declared.Decoded.{Decoded}
 use Rattle.listing.specs.Field.{Bytes}
-use Rattle.listing.specs.Listing.{decode, encode}
-use Rattle.listing.specs.Writing.{soundPlant, bufferShort, written, leaves, bufferAfter}
-use Rattle.listing.specs.Conditions.{Typed}
+use Rattle.listing.specs.Listing.{encode}
+use Rattle.listing.specs.Writing.{bufferShort, bufferAfter}
+use Rattle.listing.specs.Conditions.{Typed, reading, writing}
 use Rattle.listing.specs.Answers.{Reads}
-use Rattle.listing.proofs.RoundTrip.{read-write, decode-sound}
-use Rattle.listing.proofs.WriteRoundTrip.{sound-given, written-given, written-read, buffer-length}
-use Rattle.planner.specs.Calls.{rewriting, overlaid, rereading}
+use Rattle.listing.proofs.Shim.{read-write, decode-sound, sound-writes, written-given, written-read, buffer-after}
+use Rattle.listing.proofs.WriteRoundTrip.{buffer-length}
+use Rattle.planner.specs.Calls.{rewriting, rewritten, rereading}
 
 -- ---- read and written again
 
 module _ (s b : List ℕ) where
-  module _ (p : Plant) (bytes : Bytes s) (e : decode s ≡ given p) where
+  module _ (p : Plant) (bytes : Bytes s) (e : answer (reading s) ≡ given p) where
     same : encode p ≡ s
     same = read-write s p bytes e
 
-    pub again-answer : written p b ≡ rewriting s b
-    unfolding written bufferShort rewriting
-    again-answer = rw (sound-given p (decode-sound s p bytes e), same, e) refl
+    pub again-answer : answer (writing p b) ≡ answer (rewriting s b)
+    unfolding rewriting bufferShort
+    again-answer =
+        sound-writes p b (decode-sound s p bytes e) ∙ rw same (sym (goes-on (reading s) (λ _. check ((16, ltb (length b) (length s)) ∷ []) (length s)) p e))
 
-    pub again-buffer : bufferAfter p b ≡ overlaid s b (rewriting s b)
-    unfolding bufferAfter
-    again-buffer = ap (leaves p b) again-answer ∙ go (rewriting s b)
-      where
-        go : (a : Answer ℕ) → leaves p b a ≡ overlaid s b a
-        go (given n) = ap (λ (x : List ℕ). x ++ drop n b) same
-        go (refused n) = refl
+    pub again-buffer : bufferAfter p b ≡ rewritten s b
+    unfolding rewritten
+    again-buffer = buffer-after p b ∙ ap (leaves (λ n. encode p ++ drop n b) b) again-answer ∙ ap (λ (x : List ℕ). leaves (λ n. x ++ drop n b) b (answer (rewriting s b))) same
 
-  module _ (n : ℕ) (e : decode s ≡ refused n) where
-    pub again-refused : refused n ≡ rewriting s b
+  module _ (n : ℕ) (e : answer (reading s) ≡ refused n) where
+    pub again-refused : refused n ≡ answer (rewriting s b)
     unfolding rewriting
-    again-refused = rw e refl
+    again-refused = sym (stops (reading s) (λ _. check ((16, ltb (length b) (length s)) ∷ []) (length s)) n e)
 
-    pub again-kept : b ≡ overlaid s b (rewriting s b)
-    again-kept = ap (overlaid s b) again-refused
+    pub again-kept : b ≡ rewritten s b
+    unfolding rewritten
+    again-kept = ap (leaves (λ n. s ++ drop n b) b) again-refused
 
 -- ---- written and read again
 
 module _ (p : Plant) (b : List ℕ) where
-  both : (a : Answer Unit) (t : Bool) (n m : ℕ) → (a >>= λ _. refuse 16 t (given n)) ≡ refused m → (a >>= λ _. refuse 16 t (given p)) ≡ refused m
-  both (given u) true n m e = ap refused (refused-refused 16 m e)
-  both (given u) false n m e = absurd (given-refused n m e)
-  both (refused k) t n m e = ap refused (refused-refused k m e)
+  pub back-refused : (r : Decoded) (m : ℕ) → answer (writing p b) ≡ refused m → Reads (refused m) r → Reads (answer (rereading p b)) r
+  unfolding rereading
+  back-refused r m e q = beside-as _ _ _ _ _ (sym (refuses-so (writing p b) (λ _. p) m e)) q
 
-  neither : (a : Answer Unit) (t : Bool) (n m : ℕ) → (a >>= λ _. refuse 16 t (given n)) ≡ given m → (a >>= λ _. refuse 16 t (given p)) ≡ given p
-  neither (given u) true n m e = absurd (given-refused m 16 (sym e))
-  neither (given u) false n m e = refl
-  neither (refused k) t n m e = absurd (given-refused m k (sym e))
-
-  pub back-refused : (r : Decoded) (m : ℕ) → written p b ≡ refused m → Reads (refused m) r → Reads (rereading p b) r
-  unfolding written rereading
-  back-refused r m e q = subst (λ (a : Answer Plant). Reads a r) (sym (both (soundPlant p) (bufferShort p b) (length (encode p)) m e)) q
-
-  module _ (n : ℕ) (e : written p b ≡ given n) where
+  module _ (n : ℕ) (e : answer (writing p b) ≡ given n) where
     -- the listing lies in the buffer
     pub back-room : n ≤ length (bufferAfter p b)
-    back-room = let w = written-given p b n e in omega (arith, w .1, w .2, buffer-length p b)
+    back-room = let w = written-given p b n e in omega (arith, w .0, w .1, buffer-length p b)
 
-    pub back-given : Typed p → (r : Decoded) → Reads (decode (take n (bufferAfter p b))) r → Reads (rereading p b) r
-    unfolding written rereading
-    back-given t r q =
-        subst (λ (a : Answer Plant). Reads a r) (written-read p b n t e ∙ sym (neither (soundPlant p) (bufferShort p b) (length (encode p)) n e)) q
+    pub back-given : Typed p → (r : Decoded) → Reads (answer (reading (take n (bufferAfter p b)))) r → Reads (answer (rereading p b)) r
+    unfolding rereading
+    back-given t r q = beside-as _ _ _ _ _ (written-read p b n t e ∙ sym (gives-so (writing p b) (λ _. p) n e)) q

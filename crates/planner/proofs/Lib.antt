@@ -1,6 +1,3 @@
-pub mod Owned
-pub mod Plans
 pub mod Again
-pub mod Tabling
+pub mod Owned
 pub mod Trailing
-pub mod Bridging

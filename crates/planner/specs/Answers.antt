@@ -1,42 +1,27 @@
 -- What each answer of the planner's calls stands for: values, or the number of a refusal.
-use mathlib.Core.Path.{_≡_}
 use mathlib.Core.Bool.{Bool, false}
 use mathlib.Core.List.{List, []}
 use Prim.Native.Nat.{ℕ}
 use lib.ListN.{replicate}
 use Rattle.answers.specs.Answers.{Answer, given, refused, numberOf, Beside}
 use Rattle.limits.specs.Limits.{maxLinks}
-use Rattle.limits.specs.Sound.{Sound}
-use Rattle.walks.specs.Graph.{Connected}
-use Rattle.listing.specs.declared.Decoded.{Decoded}
-use Rattle.answers.specs.declared.Verdict.the-variants as verdict
 use Rattle.table.specs.declared.Table.{Table}
 use Rattle.table.specs.Rules.{tableWith}
+use Rattle.planning.specs.declared.Numbers.{Numbers}
 use Rattle.planner.specs.declared.Bridged.{Bridged}
 use Rattle.planner.specs.declared.Tabled.{Tabled}
-use Rattle.planner.specs.declared.Numbers.{Numbers}
 use Rattle.planner.specs.declared.Summary.{Summary}
 use Rattle.planner.specs.declared.Summary.the-variants as summary-is
 use Rattle.planner.specs.declared.Trailed.{Trailed}
 use Rattle.planner.specs.declared.Trailed.the-variants as trailed
 
--- ---- a plant that can be planned
-
--- where it is not refused, the plant is sound and connected
-abbrev pub Ready : Decoded → Type 0
-Ready r = r .verdict ≡ verdict.Accepted → Sound (r .plant) × Connected (r .plant)
-
--- ---- the forwarding table; at a refusal it has no rules
-
+-- the forwarding table; at a refusal it has no rules
 abbrev pub Tables : Answer Table → Tabled → Type 0
 Tables a r = Beside (tableWith []) a (r .verdict) (r .table)
 
--- ---- the bridges; at a refusal no flag is set
-
+-- the bridges; at a refusal no flag is set
 abbrev pub Bridges : Answer (List Bool) → Bridged → Type 0
 Bridges a r = Beside (replicate maxLinks false) a (r .verdict) (r .flags)
-
--- ---- the numbers of a plant, and the trail
 
 abbrev pub summaryAnswer : Summary → Answer Numbers
 summaryAnswer (summary-is.Plant n) = given n

@@ -1,44 +1,42 @@
--- What each call that is given a listing answers, and what it leaves in a lent buffer: its refusals in checking order, then its result.
+-- What each call that is given a listing or a plant comes to, and what it leaves in a lent buffer.
 use mathlib.Core.Bool.{Bool}
-use mathlib.Core.List.{List, _++_, map}
+use mathlib.Core.List.{List, [], _∷_, _++_, map}
 use Prim.Native.Nat.{ℕ}
 use lib.Dec.{ltb}
 use lib.ListN.{length, drop}
-use Rattle.lists.specs.Tests.{choose}
 use Rattle.lists.specs.Numbers.{range}
 use Rattle.plant.specs.declared.Plant.{Plant}
-use Rattle.answers.specs.Answers.{Answer, given, refused, refuse, _>>=_}
+use Rattle.answers.specs.Answers.{Answer}
+use Rattle.answers.specs.Checks.{Checked, check, answer, _then_, _giving_, leaves}
 use Rattle.limits.specs.Limits.{maxLinks}
-use Rattle.listing.specs.Listing.{decode}
-use Rattle.listing.specs.Writing.{soundPlant, bufferShort}
-use Rattle.walks.specs.Graph.{bridge, liveLinks, bridges, arcsUsed}
+use Rattle.listing.specs.Conditions.{reading, writing}
+use Rattle.walks.specs.Graph.{bridge}
 use Rattle.routes.specs.Plants.{trailOf}
 use Rattle.trail.specs.Filled.{filledWith}
 use Rattle.table.specs.declared.Table.{Table}
 use Rattle.table.specs.Rules.{tableOf}
-use Rattle.planner.specs.declared.Numbers.{Numbers}
-use Rattle.planner.specs.Planning.{planning}
+use Rattle.planning.specs.declared.Numbers.{Numbers}
+use Rattle.planning.specs.Planning.{planning}
+use Rattle.planning.specs.Numbers.{numbersOf}
 
--- ---- reading and writing again: 1 to 8, then 16
+-- ---- reading and writing again: 1 to 8, then 16, the lent buffer is shorter than the listing
 
--- 16: the lent buffer is shorter than the listing
-unfoldable pub rewriting : List ℕ → List ℕ → Answer ℕ
-rewriting s b = decode s >>= λ p. refuse 16 (ltb (length b) (length s)) (given (length s))
+unfoldable pub rewriting : List ℕ → List ℕ → Checked ℕ
+rewriting s b = reading s then λ p. check ((16, ltb (length b) (length s)) ∷ []) (length s)
 
 -- the same bytes, then those that stood past them; at a refusal the buffer as it was
-abbrev pub overlaid : List ℕ → List ℕ → Answer ℕ → List ℕ
-overlaid s b (given n) = s ++ drop n b
-overlaid s b (refused n) = b
+unfoldable pub rewritten : List ℕ → List ℕ → List ℕ
+rewritten s b = leaves (λ n. s ++ drop n b) b (answer (rewriting s b))
 
 -- ---- writing and reading again: 5, 6, 7, 16
 
-unfoldable pub rereading : Plant → List ℕ → Answer Plant
-rereading p b = soundPlant p >>= λ _. refuse 16 (bufferShort p b) (given p)
+unfoldable pub rereading : Plant → List ℕ → Checked Plant
+rereading p b = writing p b giving λ _. p
 
 -- ---- the forwarding table: 1 to 9
 
-unfoldable pub tabling : List ℕ → Answer Table
-tabling s = planning s >>= λ p. given (tableOf p)
+unfoldable pub tabling : List ℕ → Checked Table
+tabling s = planning s giving tableOf
 
 -- ---- the bridges: 1 to 9
 
@@ -46,17 +44,13 @@ tabling s = planning s >>= λ p. given (tableOf p)
 unfoldable pub bridgeFlags : Plant → List Bool
 bridgeFlags p = map (bridge p) (range 0 maxLinks)
 
-unfoldable pub bridging : List ℕ → Answer (List Bool)
-bridging s = planning s >>= λ p. given (bridgeFlags p)
+unfoldable pub bridging : List ℕ → Checked (List Bool)
+bridging s = planning s giving bridgeFlags
 
--- ---- the numbers of a plant: 1 to 9
+-- ---- switches, links, bridges, rules and hops: 1 to 9
 
--- switches, links, bridges, rules and hops
-unfoldable pub numbersOf : Plant → Numbers
-numbersOf p = record { switches = p .switches; links = liveLinks p; bridges = bridges p; rules = arcsUsed p; hops = length (trailOf p) }
-
-unfoldable pub summing : List ℕ → Answer Numbers
-summing s = planning s >>= λ p. given (numbersOf p)
+unfoldable pub summing : List ℕ → Checked Numbers
+summing s = planning s giving numbersOf
 
 -- ---- the trail: 1 to 9, then 10
 
@@ -65,16 +59,15 @@ unfoldable pub placesShort : Plant → List ℕ → Bool
 placesShort p b = ltb (length b) (length (trailOf p))
 
 -- the hops
-unfoldable pub laying : Plant → List ℕ → Answer ℕ
-laying p b = refuse 10 (placesShort p b) (given (length (trailOf p)))
+unfoldable pub laying : Plant → List ℕ → Checked ℕ
+laying p b = check ((10, placesShort p b) ∷ []) (length (trailOf p))
 
--- the buffer afterwards: the trail, then what stood past its end; at a refusal as it was
-unfoldable pub laidOut : Plant → List ℕ → List ℕ
-laidOut p b = choose (placesShort p b) b (filledWith (trailOf p) b)
+unfoldable pub trailing : List ℕ → List ℕ → Checked ℕ
+trailing s b = planning s then λ p. laying p b
 
-unfoldable pub trailing : List ℕ → List ℕ → Answer ℕ
-trailing s b = planning s >>= λ p. laying p b
+-- the trail of a plant, then what stood past its end; at a refusal the buffer as it was
+abbrev pub trailLeft : Plant → List ℕ → Answer ℕ → List ℕ
+trailLeft p b = leaves (λ n. filledWith (trailOf p) b) b
 
-abbrev pub trailedBy : Answer Plant → List ℕ → List ℕ
-trailedBy (given p) b = laidOut p b
-trailedBy (refused n) b = b
+unfoldable pub laidOut : List ℕ → List ℕ → List ℕ
+laidOut s b = trailLeft (planning s .result) b (answer (trailing s b))

@@ -7,8 +7,10 @@ use lib.ListN.{take, replicate}
 use Rattle.plant.specs.declared.Link.{Link}
 use Rattle.plant.specs.Links.{plantWith, live}
 use Rattle.answers.specs.Answers.{Answer, given, refused, _>>=_}
-use Rattle.listing.specs.Part.{taken, valueOf, repeats, mapMissing, mapUndefined, fieldMissing, fieldRedundant, fieldValues, afterPart, part}
-use Rattle.listing.specs.Listing.{valueOutOfRange, endOutOfRange, selfLink, soundLink, bytesRemain, judgedHeader, header, judged, link, links, withLinks, finish, afterHeader, decode, linksOf}
+use Rattle.answers.specs.Checks.{answer}
+use Rattle.listing.specs.Part.{taken, valueOf, repeats, mapMissing, mapUndefined, fieldMissing, fieldRedundant, fieldValues, afterPart}
+use Rattle.listing.specs.Listing.{valueOutOfRange, endOutOfRange, selfLink, bytesRemain, withLinks, linksOf}
+use Rattle.listing.specs.Conditions.{conditions, plantIn, reading}
 use Rattle.limits.specs.Limits.{maxSwitches}
 use Rattle.lists.specs.Count.{count}
 use Rattle.lists.specs.Least.{leastFrom}
@@ -24,8 +26,8 @@ use Rattle.search.specs.Calls.{begun}
 use Rattle.search.specs.Cases.{rows as searches}
 use Rattle.quantity.specs.Quantity.{orderQuantity}
 use Rattle.quantity.specs.Cases.{rows as quantities}
-use Rattle.planner.specs.Planning.{notConnected, joined, planning}
-use Rattle.planner.specs.Calls.{tabling, placesShort, laying, laidOut, trailing, trailedBy}
+use Rattle.planning.specs.Planning.{notConnected, planning}
+use Rattle.planner.specs.Calls.{tabling, placesShort, laying, laidOut, trailing}
 
 pub record Row : Type 0 where
   pub got : Answer (List ℕ)
@@ -38,7 +40,7 @@ endsOf [] = []
 endsOf (l ∷ ls) = l .first ∷ l .second ∷ l .tag ∷ endsOf ls
 
 abbrev reads : List ℕ → Answer (List ℕ) → Row
-reads s a = record { got = decode s >>= λ p. given (p .switches ∷ p .count ∷ p .start ∷ endsOf (linksOf p)); said = a }
+reads s a = record { got = answer (reading s) >>= λ p. given (p .switches ∷ p .count ∷ p .start ∷ endsOf (linksOf p)); said = a }
 
 abbrev twoSwitches : List ℕ
 twoSwitches = 3 ∷ 2 ∷ 1 ∷ 0 ∷ 2 ∷ 1 ∷ []
@@ -49,8 +51,8 @@ triangle = 3 ∷ 3 ∷ 3 ∷ 0 ∷ 2 ∷ 1 ∷ 3 ∷ 1 ∷ 2 ∷ 3 ∷ 2 ∷ 0 �
 abbrev threeParallel : List ℕ
 threeParallel = 3 ∷ 2 ∷ 3 ∷ 0 ∷ 2 ∷ 1 ∷ 0 ∷ 0 ∷ []
 
-abbrev reading : List Row
-reading =
+abbrev readings : List Row
+readings =
     reads [] (refused 1)
     ∷ reads (0 ∷ []) (given (1 ∷ 0 ∷ 0 ∷ []))
     ∷ reads (8 ∷ []) (refused 2)
@@ -68,10 +70,10 @@ reading =
 -- ---- planning: 9, the number of rules, and the trail in a buffer of so many places
 
 abbrev tables : List ℕ → Answer (List ℕ) → Row
-tables s a = record { got = tabling s >>= λ t. given (t .count ∷ []); said = a }
+tables s a = record { got = answer (tabling s) >>= λ t. given (t .count ∷ []); said = a }
 
 abbrev trails : List ℕ → ℕ → Answer (List ℕ) → Row
-trails s places a = record { got = trailing s (replicate places 0) >>= λ n. given (take n (trailedBy (planning s) (replicate places 0))); said = a }
+trails s places a = record { got = answer (trailing s (replicate places 0)) >>= λ n. given (take n (laidOut s (replicate places 0))); said = a }
 
 abbrev planned : List Row
 planned =
@@ -95,8 +97,8 @@ as-row r = record { got = r .0; said = r .1 }
 -- ---- the table, and the test
 
 abbrev table : List Row
-table = reading ++ planned ++ map as-row searches ++ map as-row quantities
+table = readings ++ planned ++ map as-row searches ++ map as-row quantities
 
 as-said : map (λ r. r .got) table ≡ map (λ r. r .said) table
-unfolding plantWith taken valueOf repeats mapMissing mapUndefined fieldMissing fieldRedundant fieldValues afterPart part valueOutOfRange endOutOfRange selfLink soundLink bytesRemain judgedHeader header judged link links withLinks finish afterHeader decode trail trailFrom mostHops next goal nearest near hop dist within sources leastFrom count used bridge entered earlier visited visitFrom arcs others visit scan tail head live every connected notConnected joined planning rulesBelow tableWith tableOf tabling placesShort laying laidOut trailing begun newSearch give orderQuantity
+unfolding plantWith taken valueOf repeats mapMissing mapUndefined fieldMissing fieldRedundant fieldValues afterPart valueOutOfRange endOutOfRange selfLink bytesRemain withLinks conditions plantIn reading trail trailFrom mostHops next goal nearest near hop dist within sources leastFrom count used bridge entered earlier visited visitFrom arcs others visit scan tail head live every connected notConnected planning rulesBelow tableWith tableOf tabling placesShort laying laidOut trailing begun newSearch give orderQuantity
 as-said = refl

@@ -1,4 +1,3 @@
-pub mod Planning
 pub mod Calls
 pub mod Answers
 pub mod Cases

@@ -17,8 +17,8 @@ use Rattle.table.proofs.Rules.{few-rules}
 use Rattle.text.specs.Lines.{each, summaryLine, ruleLine, ruleLines, trailLine, pageOf}
 use Rattle.text.specs.Laid.{Laid}
 use Rattle.text.proofs.LaidLaws.{laid-then}
-use Rattle.planner.specs.declared.Numbers.{Numbers}
-use Rattle.planner.specs.Calls.{numbersOf}
+use Rattle.planning.specs.declared.Numbers.{Numbers}
+use Rattle.planning.specs.Numbers.{numbersOf}
 use Rattle.printing.specs.Output.{triple, plantOutput}
 
 -- ---- the rules of a table

@@ -7,8 +7,9 @@ use Rattle.lists.specs.Count.{count}
 use Rattle.lists.specs.Least.{leastFrom}
 use Rattle.lists.specs.Numbers.{every}
 use Rattle.plant.specs.Links.{plantWith, live}
-use Rattle.listing.specs.Part.{taken, valueOf, repeats, mapMissing, mapUndefined, fieldMissing, fieldRedundant, fieldValues, afterPart, part}
-use Rattle.listing.specs.Listing.{valueOutOfRange, endOutOfRange, selfLink, soundLink, bytesRemain, judgedHeader, header, judged, link, links, withLinks, finish, afterHeader, decode}
+use Rattle.listing.specs.Part.{taken, valueOf, repeats, mapMissing, mapUndefined, fieldMissing, fieldRedundant, fieldValues, afterPart}
+use Rattle.listing.specs.Listing.{valueOutOfRange, endOutOfRange, selfLink, bytesRemain, withLinks}
+use Rattle.listing.specs.Conditions.{conditions, plantIn, reading}
 use Rattle.walks.specs.Visit.{scan, visit}
 use Rattle.walks.specs.Arcs.{tail, head}
 use Rattle.walks.specs.Graph.{arcs, others, visitFrom, visited, connected, bridge, entered, earlier, used, liveLinks, bridges, arcsUsed}
@@ -18,7 +19,7 @@ use Rattle.table.specs.Rules.{rulesBelow}
 use Rattle.text.specs.Decimal.{digits, decimal}
 use Rattle.text.specs.Lines.{line, pageOf}
 use Rattle.text.specs.Cases.{rows}
-use Rattle.planner.specs.Planning.{notConnected, joined, planning}
+use Rattle.planning.specs.Planning.{notConnected, planning}
 use Rattle.printing.specs.Output.{plantOutput, printed}
 
 -- document 01's example, the plant with no links, and the empty listing
@@ -26,5 +27,5 @@ abbrev listings : List (List ℕ)
 listings = (3 ∷ 4 ∷ 4 ∷ 0 ∷ 2 ∷ 1 ∷ 3 ∷ 1 ∷ 2 ∷ 3 ∷ 2 ∷ 0 ∷ 3 ∷ 0 ∷ 3 ∷ []) ∷ (0 ∷ []) ∷ [] ∷ []
 
 as-said : map printed listings ≡ map (λ r. r .1) (take 3 rows)
-unfolding plantWith taken valueOf repeats mapMissing mapUndefined fieldMissing fieldRedundant fieldValues afterPart part valueOutOfRange endOutOfRange selfLink soundLink bytesRemain judgedHeader header judged link links withLinks finish afterHeader decode trail trailFrom mostHops next goal nearest near hop dist within sources leastFrom count used bridge entered earlier visited visitFrom arcs others visit scan tail head live every connected notConnected joined planning rulesBelow liveLinks bridges arcsUsed digits decimal line pageOf plantOutput
+unfolding plantWith taken valueOf repeats mapMissing mapUndefined fieldMissing fieldRedundant fieldValues afterPart valueOutOfRange endOutOfRange selfLink bytesRemain withLinks conditions plantIn reading trail trailFrom mostHops next goal nearest near hop dist within sources leastFrom count used bridge entered earlier visited visitFrom arcs others visit scan tail head live every connected notConnected planning rulesBelow liveLinks bridges arcsUsed digits decimal line pageOf plantOutput
 as-said = refl

@@ -11,7 +11,8 @@ use Rattle.table.specs.declared.Rule.{Rule}
 use Rattle.table.specs.Rules.{maxRules, rulesOf}
 use Rattle.text.specs.Lines.{pageOf, refusalOf}
 use Rattle.text.specs.Sizes.{summaryMost, ruleMost, trailMost}
-use Rattle.planner.specs.Planning.{planning}
+use Rattle.answers.specs.Checks.{answer}
+use Rattle.planning.specs.Planning.{planning}
 
 -- a rule as three numbers: sending switch, label, receiving switch
 abbrev pub triple : Rule → ℕ × ℕ × ℕ
@@ -28,7 +29,7 @@ outputOf (refused n) = refusalOf n
 
 -- the bytes that `rules` prints for a listing
 abbrev pub printed : List ℕ → List ℕ
-printed s = outputOf (planning s)
+printed s = outputOf (answer (planning s))
 
 -- the most bytes of a page: a line of numbers, as many rules and as many labels as there can be
 abbrev pub pageMost : ℕ

@@ -2,7 +2,7 @@
 // and one function writes it to standard output.
 use answers::Verdict;
 use libc::STDOUT_FILENO;
-use planner::Numbers;
+use planning::Numbers;
 use plant::Plant;
 use table::Rule;
 use table::Table;
@@ -19,7 +19,7 @@ ghost use Rattle.text.specs.Laid.{Laid};
 ghost use Rattle.printing.specs.Output.{triple, plantOutput, printed, pageMost};
 
 // The most bytes of a page: `pageMost` of specs/Output.antt.
-pub const PAGE: usize = text::SUMMARY
+const PAGE: usize = text::SUMMARY
     + table::RULES * text::RULE
     + text::TRAIL
     + Plant::MAX_HOPS * text::LABEL;
@@ -79,17 +79,17 @@ fn put_plant(p: Plant, buf: &mut [u8]) -> usize
     let hops = trail::hops(p, used, t, &via);
     let mut labels = [0u16; Plant::MAX_HOPS];
     trail::fill(p, used, t, &via, &mut labels);
-    let rules = put_numbers(planner::numbers_with(p, b, used, hops), buf);
+    let rules = put_numbers(planning::numbers_with(p, b, used, hops), buf);
     let end = put_table(table::table_of(p, used), buf, rules);
     text::put_trail(buf, end, &labels, hops as usize)
 }
 
 // The output for a listing, at the front of a buffer that has room for the longest page; the places after it keep their contents.
-pub fn put_listing(listing: &[u8], buf: &mut [u8]) -> usize
+fn put_listing(listing: &[u8], buf: &mut [u8]) -> usize
     requires { ⌜ pageMost ≤ length (now buf) ⌝ }
     ensures { λ r. ⌜ Laid (now (buf .entry)) 0 (printed (now (listing .entry))) (now (buf .exit)) r ⌝ }
 {
-    let d = planner::plan(listing);
+    let d = planning::plan(listing);
     let v = d.verdict;
     match v {
         Verdict::Accepted => {

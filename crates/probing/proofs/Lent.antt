@@ -19,7 +19,11 @@ use Rattle.order.specs.Labels.{OverArcs}
 use Rattle.order.proofs.Rings.{trail-arcs}
 use Rattle.packet.specs.Asked.{CanRun, CanProbe}
 use Rattle.packet.proofs.Rules.{probe-runs}
-use Rattle.probing.specs.Conditions.{trailDiffers, statesShort}
+use Rattle.answers.specs.declared.Verdict.{Verdict}
+use Rattle.answers.specs.declared.Verdict.the-variants as verdict
+use Rattle.answers.specs.Checks.{Judges}
+use Rattle.answers.proofs.Checks.{none-judged}
+use Rattle.probing.specs.Conditions.{trailDiffers, statesShort, lentChecks}
 
 -- no refusal 13: there is a byte for each link
 pub states-enough : (e : ℕ) (states : List ℕ) → statesShort e states ≡ false → e ≤ length states
@@ -47,3 +51,13 @@ module _ (p : Plant) (ok : Sound p) where
 
     pub can-run : CanRun p us states
     can-run = probe-runs p us states [] (can-probe [] (λ a h. absurd h))
+
+-- ---- a lent trail and state bytes that refusals 12 and 13 let pass
+
+module _ (p : Plant) (w states : List ℕ) (v : Verdict) (j : Judges (lentChecks p w states) v) (e : v ≡ verdict.Accepted) where
+  pub lent-same : w ≡ trailOf p
+  lent-same = trail-same p w (none-judged (lentChecks p w states) v j e .0)
+
+  pub lent-can : Sound p → Connected p → (us : List Bool) → Flags (2 * maxLinks) (used p) us → CanProbe p us states w
+  lent-can ok con us f =
+      can-probe p ok us states f (states-enough (p .count) states (none-judged (lentChecks p w states) v j e .1 .0)) w (lent-arcs p ok w con lent-same)

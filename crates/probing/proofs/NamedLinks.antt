@@ -12,6 +12,7 @@ use Rattle.lists.proofs.Members.{getD-in}
 use Rattle.plant.specs.declared.Plant.{Plant}
 use Rattle.plant.specs.Links.{live}
 use Rattle.answers.specs.Answers.{given, refuse}
+use Rattle.answers.specs.Checks.{answer}
 use Rattle.limits.specs.Sound.{Sound}
 use Rattle.answers.proofs.Checks.{given-given, refuse-given}
 use Rattle.walks.specs.Graph.{Connected, liveLinks}
@@ -44,7 +45,7 @@ OfPlant p none = Unit
 OfPlant p unknown = Unit
 
 module _ (p : Plant) (ok : Sound p) (con : Connected p) (x : ℕ) (x-in : x < p .switches) where
-  pub order-each : (w : List ℕ) (o : Order) → orderIn p x w ≡ given o → EachOnce p o
+  pub order-each : (w : List ℕ) (o : Order) → answer (orderIn x w p) ≡ given o → EachOnce p o
   unfolding orderIn listed
   order-each w o e = subst (EachOnce p) (given-given (listed ls) o (refuse-given 12 (trailDiffers p w) (given (listed ls)) o e .1)) each
     where
@@ -59,7 +60,7 @@ module _ (p : Plant) (ok : Sound p) (con : Connected p) (x : ℕ) (x-in : x < p 
       }
 
   -- a link that is named is a link of the plant
-  pub named-live : (w : List ℕ) (q : Search) (n : Name) → nameIn p x w q ≡ given n → OfPlant p n
+  pub named-live : (w : List ℕ) (q : Search) (n : Name) → answer (nameIn x w q p) ≡ given n → OfPlant p n
   unfolding nameIn
   named-live w q n e = subst (OfPlant p) (given-given (namedIn ls q) n (s .1)) (go q (good-here (liveLinks p) q (s .0)))
     where

@@ -1,14 +1,15 @@
 -- The parts of the lent trail that the call names are the outward labels; the labels of a probe are these and the way back; and the full check is probe E.
 -- Assumes nothing.
-use mathlib.Core.Path.{_≡_, refl, sym, ap, ap₂, _∙_}
+use mathlib.Core.Path.{_≡_, refl, sym, ap, ap₂, _∙_, subst}
 use mathlib.Core.Bool.{Bool, true, false}
 use mathlib.Core.List.{List, [], _++_, append-nil}
 use Prim.Native.Nat.{ℕ}
 use lib.Dec.{eqb}
 use Rattle.lists.specs.Tests.{choose}
 use Rattle.plant.specs.declared.Plant.{Plant}
-use Rattle.answers.specs.Answers.{given, refuse, _>>=_}
-use Rattle.answers.proofs.Checks.{given-given, refuse-given, then-given}
+use Rattle.answers.specs.Answers.{Answer, given}
+use Rattle.answers.specs.Checks.{check, answer}
+use Rattle.answers.proofs.Checks.{refuse-given, given-exactly, came-from, result-given}
 use Rattle.walks.specs.Graph.{liveLinks}
 use Rattle.routes.specs.Plants.{trailOf}
 use Rattle.rings.specs.Packet.{End}
@@ -20,8 +21,10 @@ use Rattle.order.specs.declared.Span.{Span}
 use Rattle.order.specs.Span.{ringSpan, spanOf, stretchOf, frontOf}
 use Rattle.order.proofs.Spans.{ring-parts, span-outward}
 use Rattle.search.specs.declared.Search.{Search}
-use Rattle.probing.specs.Conditions.{trailDiffers, statesShort, probeWanted}
-use Rattle.probing.specs.Calls.{outcomeOf, checkIn, outLabels, outSpan, outwardIn}
+use Rattle.probing.specs.Conditions.{trailDiffers, lentChecks, wantedChecks}
+use Rattle.probing.specs.Calls.{outcomeOf, checkIn, outLabels, outSpan, outwardIn, outgoing, OutwardParts}
+use Rattle.planning.specs.Planning.{planningAt}
+use Rattle.search.specs.Search.{wanted}
 use Rattle.probing.proofs.Lent.{trail-same}
 
 module _ (p : Plant) (x m : ℕ) where
@@ -45,26 +48,24 @@ module _ (p : Plant) (x m : ℕ) where
       go false r o = refl
 
 -- the parts of the lent trail that the call names
-pub outward-parts : (p : Plant) (x : ℕ) (w : List ℕ) (q : Search) (b : Span) → outwardIn p x w q ≡ given b
-    → (m : ℕ) × (probeWanted (liveLinks p) q ≡ given m) × (stretchOf w b ++ frontOf w b ≡ outLabels p x m)
-unfolding outwardIn
-outward-parts p x w q b e = (
-  n .0,
-  n .1,
-  ap₂ (λ (v : List ℕ) (c : Span). stretchOf v c ++ frontOf v c) (trail-same p w (d .0)) (sym (given-given (outSpan p x (n .0)) b (n .2))) ∙ out-labels p x (n .0),
-)
+pub outward-parts : (s : List ℕ) (x : ℕ) (w : List ℕ) (q : Search) (a : Answer Span) → a ≡ answer (outgoing s x w q) → OutwardParts s x w q a
+unfolding outgoing outwardIn
+outward-parts s x w q a f b e =
+    ap₂ (λ (v : List ℕ) (c : Span). stretchOf v c ++ frontOf v c) (trail-same p w (d .0)) (sym (given-exactly (wantedChecks (liveLinks p) q) (outSpan p x (wanted q)) b .0 (d .1) .1)) ∙ out-labels p x (wanted q)
   where
-    d : (trailDiffers p w ≡ false) × ((probeWanted (liveLinks p) q >>= λ m. given (outSpan p x m)) ≡ given b)
-    d = refuse-given 12 (trailDiffers p w) (probeWanted (liveLinks p) q >>= λ m. given (outSpan p x m)) b e
+    p : Plant
+    p = planningAt s x .result
 
-    n : (m : ℕ) × (probeWanted (liveLinks p) q ≡ given m) × (given (outSpan p x m) ≡ given b)
-    n = then-given (probeWanted (liveLinks p) q) (λ m. given (outSpan p x m)) b (d .1)
+    u : (r : Plant) × (answer (planningAt s x) ≡ given r) × (answer (outwardIn x w q r) ≡ given b)
+    u = came-from (planningAt s x) (outwardIn x w q) b (sym f ∙ e)
+
+    d : (trailDiffers p w ≡ false) × (answer (check (wantedChecks (liveLinks p) q) (outSpan p x (wanted q))) ≡ given b)
+    d =
+        refuse-given 12 (trailDiffers p w) (answer (check (wantedChecks (liveLinks p) q) (outSpan p x (wanted q)))) b
+        (subst (λ (r : Plant). answer (outwardIn x w q r) ≡ given b) (sym (result-given (planningAt s x) (u .0) (u .1))) (u .2))
 
 -- ---- the full check is probe E
 
-pub check-probe : (p : Plant) (x : ℕ) (w states : List ℕ)
-    → checkIn p x w states
-    ≡ refuse 12 (trailDiffers p w) (refuse 13 (statesShort (p .count) states) (given (outcomeOf (probeRun p (trailOf p) x (upBy states) (liveLinks p)))))
+pub check-probe : (p : Plant) (x : ℕ) (w states : List ℕ) → checkIn x w states p ≡ check (lentChecks p w states) (outcomeOf (probeRun p (trailOf p) x (upBy states) (liveLinks p)))
 unfolding checkIn
-check-probe p x w states =
-    ap (λ (e : End). refuse 12 (trailDiffers p w) (refuse 13 (statesShort (p .count) states) (given (outcomeOf e)))) (sym (full-run p (trailOf p) x (upBy states)))
+check-probe p x w states = ap (λ (e : End). check (lentChecks p w states) (outcomeOf e)) (sym (full-run p (trailOf p) x (upBy states)))

@@ -1,12 +1,13 @@
 -- What each call answers in a plant where nothing is refused, from what the code computes of a lent trail that is the plant's. Assumes nothing.
-use mathlib.Core.Path.{_≡_, refl, sym, ap, _∙_, subst}
+use mathlib.Core.Path.{_≡_, refl, sym, ap, _∙_}
 use mathlib.Core.Bool.{Bool, false}
 use mathlib.Core.List.{List}
 use Prim.Native.Nat.{ℕ, _-_, _*_}
 use lib.ListN.{getD}
 use borrow.Author.Tests.{eq-eqb, ne-eqb}
 use Rattle.plant.specs.declared.Plant.{Plant}
-use Rattle.answers.specs.Answers.{Answer, given}
+use Rattle.answers.specs.Answers.{given}
+use Rattle.answers.specs.Checks.{answer}
 use Rattle.limits.specs.Limits.{maxLinks}
 use Rattle.walks.specs.Arcs.{head}
 use Rattle.walks.specs.Graph.{used}
@@ -30,7 +31,6 @@ use Rattle.packet.proofs.Probes.{table-run}
 use Rattle.search.specs.declared.Search.{Search}
 use Rattle.search.specs.declared.Search.the-variants.{Down}
 use Rattle.search.specs.declared.Outcome.{Outcome}
-use Rattle.probing.specs.declared.Ordered.{Ordered}
 use Rattle.probing.specs.Conditions.{trailDiffers}
 use Rattle.probing.specs.Calls.{outcomeOf, orderIn, outSpan, link, namedIn}
 use Rattle.probing.specs.Answers.{Orders}
@@ -45,11 +45,6 @@ module _ (p : Plant) (us : List Bool) (states labels : List ℕ) (x : ℕ) (f : 
       → given b ≡ given (run (inTable p) (upBy states) (head p) x 0 labels .ended)
   ran-as i e b new goes q = ap given (sym q ∙ ap (λ (d : ring.End). d .ended) (table-run p us states (f .tells) x (endOf i) (endOf e) labels new goes))
 
--- ---- an order by another name of its answer
-
-pub orders-as : (a b : Answer Order) (r : Ordered) → a ≡ b → Orders a r → Orders b r
-orders-as a b r e o = subst (λ (c : Answer Order). Orders c r) e o
-
 -- ---- over a lent trail that is the plant's
 
 module _ (p : Plant) (w : List ℕ) (x : ℕ) (same : w ≡ trailOf p) where
@@ -59,8 +54,8 @@ module _ (p : Plant) (w : List ℕ) (x : ℕ) (same : w ≡ trailOf p) where
       ap given (f ∙ ap outcomeOf (g ∙ ap (λ (v : List ℕ). run (inTable p) up (head p) x 0 (ringOf p v x)) same))
 
   pub probed : (up : ℕ → Bool) (m : ℕ) (e : ring.End) (o : Outcome) → o ≡ outcomeOf e → e ≡ probeRun p w x up m
-      → given o ≡ given (outcomeOf (probeRun p (trailOf p) x up m))
-  probed up m e o f g = ap given (f ∙ ap outcomeOf (g ∙ ap (λ (v : List ℕ). probeRun p v x up m) same))
+      → o ≡ outcomeOf (probeRun p (trailOf p) x up m)
+  probed up m e o f g = f ∙ ap outcomeOf (g ∙ ap (λ (v : List ℕ). probeRun p v x up m) same)
 
   pub out-ring : (m : ℕ) (b : Span) → m ≡ p .count → b ≡ ringSpan p w x → b ≡ outSpan p x m
   unfolding outSpan
@@ -80,7 +75,7 @@ module _ (p : Plant) (w : List ℕ) (x : ℕ) (same : w ≡ trailOf p) where
       rw e (ap (λ (j : ℕ). given (link j)) l)
 
 pub ordered : (p : Plant) (w : List ℕ) (x : ℕ) (o : Order) → trailDiffers p w ≡ false → o ≡ listed (orderOf p w x)
-    → Orders (orderIn p x w) (record { verdict = verdict.Accepted; order = o })
+    → Orders (answer (orderIn x w p)) (record { verdict = verdict.Accepted; order = o })
 unfolding orderIn
 ordered p w x o d f =
     beside-given _ _ _ _ refl (sym (fails 12 _ _ _ d (ap given (f ∙ ap (λ (v : List ℕ). listed (orderOf p v x)) (trail-same p w d)))))

@@ -1,8 +1,8 @@
 -- State bytes past the links of the listing are not looked at. Assumes nothing.
 use mathlib.Core.Path.{_≡_, refl, sym, ap, ap₂, _∙_}
 use mathlib.Core.Logic.{_⊎_, inl, inr}
-use mathlib.Core.Bool.{true, false}
-use mathlib.Core.List.{List}
+use mathlib.Core.Bool.{Bool, true, false}
+use mathlib.Core.List.{List, [], _∷_}
 use Prim.Native.Nat.{ℕ}
 use native.Mathlib.Omega.{arith}
 use lib.Dec.{ltb}
@@ -11,7 +11,9 @@ use lib.Seq.{take-all, length-take-le}
 use borrow.Author.Tests.{ltb-true, ltb-false, le-ltb}
 use Rattle.lists.proofs.Tests.{bool?}
 use Rattle.plant.specs.declared.Plant.{Plant}
-use Rattle.answers.specs.Answers.{Answer, given, refused, refuse, _>>=_}
+use Rattle.answers.specs.Answers.{Answer, given, refused, _>>=_}
+use Rattle.answers.specs.Checks.{Checked, check, answer, _then_}
+use Rattle.answers.proofs.Checks.{then-is}
 use Rattle.walks.specs.Arcs.{head}
 use Rattle.walks.specs.Graph.{liveLinks}
 use Rattle.routes.specs.Plants.{trailOf}
@@ -21,9 +23,10 @@ use Rattle.rings.proofs.Rules.{table-arc, bytes-past}
 use Rattle.rings.specs.Injection.{ringOf}
 use Rattle.rings.proofs.Injection as injection
 use Rattle.search.specs.declared.Search.{Search}
-use Rattle.probing.specs.Conditions.{trailDiffers, statesShort, probeWanted}
+use Rattle.probing.specs.Conditions.{trailDiffers, statesShort, wantedChecks}
 use Rattle.probing.specs.Calls.{runIn, running, outcomeOf, checkIn, checking, probeIn, probing}
-use Rattle.planner.specs.Planning.{planningAt}
+use Rattle.planning.specs.Planning.{planningAt}
+use Rattle.search.specs.Search.{wanted}
 
 short-first : (e : ℕ) (states : List ℕ) → statesShort e states ≡ statesShort e (take e states)
 unfolding statesShort
@@ -35,49 +38,46 @@ short-first e states = go (bool? (ltb (length states) e))
         let k : length (take e states) ≡ e = length-take-le e states (ltb-false (length states) e f) in
         f ∙ sym (rw k (le-ltb e e (omega arith)))
 
--- what follows an answer, where both ways agree on its result
-then-same : {A B : Type 0} (a : Answer A) (f g : A → Answer B) → ((x : A) → a ≡ given x → f x ≡ g x) → (a >>= f) ≡ (a >>= g)
-then-same (given x) f g h = h x refl
-then-same (refused n) f g h = refl
-
 module _ (p : Plant) (x : ℕ) (states : List ℕ) where
   abbrev first-bytes : List ℕ
   first-bytes = take (p .count) states
 
-  tried : {A : Type 0} {a b : Answer A} → a ≡ b → refuse 13 (statesShort (p .count) states) a ≡ refuse 13 (statesShort (p .count) first-bytes) b
-  tried e = ap₂ (refuse 13) (short-first (p .count) states) e
-
   table-bytes : (labels : List ℕ) → run (inTable p) (upBy states) (head p) x 0 labels ≡ run (inTable p) (upBy first-bytes) (head p) x 0 labels
   table-bytes labels = bytes-past p (inTable p) (table-arc p) states (head p) labels x 0
 
-  pub run-bytes : (labels : List ℕ) → runIn p x labels states ≡ runIn p x labels first-bytes
+  pub run-bytes : (labels : List ℕ) → runIn x labels states p ≡ runIn x labels first-bytes p
   unfolding runIn
-  run-bytes labels = tried (ap (λ (e : End). given (e .ended)) (table-bytes labels))
+  run-bytes labels = ap₂ (λ (t : Bool) (e : End). check ((13, t) ∷ []) (e .ended)) (short-first (p .count) states) (table-bytes labels)
 
-  pub check-bytes : (w : List ℕ) → checkIn p x w states ≡ checkIn p x w first-bytes
+  pub check-bytes : (w : List ℕ) → checkIn x w states p ≡ checkIn x w first-bytes p
   unfolding checkIn
-  check-bytes w = ap (refuse 12 (trailDiffers p w)) (tried (ap (λ (e : End). given (outcomeOf e)) (table-bytes (ringOf p (trailOf p) x))))
+  check-bytes w =
+      ap₂ (λ (t : Bool) (e : End). check ((12, trailDiffers p w) ∷ (13, t) ∷ []) (outcomeOf e)) (short-first (p .count) states) (table-bytes (ringOf p (trailOf p) x))
 
-  pub probe-bytes : (w : List ℕ) (q : Search) → probeIn p x w states q ≡ probeIn p x w first-bytes q
+  pub probe-bytes : (w : List ℕ) (q : Search) → probeIn x w states q p ≡ probeIn x w first-bytes q p
   unfolding probeIn
   probe-bytes w q =
-      ap (refuse 12 (trailDiffers p w))
-      (tried (then-same (probeWanted (liveLinks p) q) _ _ (λ m h. ap (λ (e : End). given (outcomeOf e)) (injection.probe-bytes p (trailOf p) x states m))))
+      ap₂ (λ (t : Bool) (e : End). check ((12, trailDiffers p w) ∷ (13, t) ∷ wantedChecks (liveLinks p) q) (outcomeOf e))
+      (short-first (p .count) states) (injection.probe-bytes p (trailOf p) x states (wanted q))
 
 -- so two lists of bytes that begin alike, as far as there are links, have the same answer from each of these calls
-module _ (s : List ℕ) (x : ℕ) (states states′ : List ℕ) (alike : (p : Plant) → planningAt s x ≡ given p → take (p .count) states ≡ take (p .count) states′) where
-  bytes-alone : {B : Type 0} (f : Plant → List ℕ → Answer B) → ((p : Plant) (bs : List ℕ) → f p bs ≡ f p (take (p .count) bs))
-      → (planningAt s x >>= λ p. f p states) ≡ (planningAt s x >>= λ p. f p states′)
-  bytes-alone f first = then-same (planningAt s x) _ _ (λ p e. first p states ∙ ap (f p) (alike p e) ∙ sym (first p states′))
+module _ (s : List ℕ) (x : ℕ) (states states′ : List ℕ) (alike : (p : Plant) → answer (planningAt s x) ≡ given p → take (p .count) states ≡ take (p .count) states′) where
+  bytes-alone : {B : Type 0} (f : Plant → List ℕ → Checked B) → ((p : Plant) (bs : List ℕ) → f p bs ≡ f p (take (p .count) bs))
+      → answer (planningAt s x then λ p. f p states) ≡ answer (planningAt s x then λ p. f p states′)
+  bytes-alone {B} f first = then-is (planningAt s x) (λ p. f p states) ∙ go (answer (planningAt s x)) refl ∙ sym (then-is (planningAt s x) (λ p. f p states′))
+    where
+      go : (a : Answer Plant) → answer (planningAt s x) ≡ a → (a >>= λ p. answer (f p states)) ≡ (a >>= λ p. answer (f p states′))
+      go (given p) e = ap (λ (c : Checked B). answer c) (first p states ∙ ap (f p) (alike p e) ∙ sym (first p states′))
+      go (refused n) e = refl
 
-  pub running-bytes : (labels : List ℕ) → running s x labels states ≡ running s x labels states′
+  pub running-bytes : (labels : List ℕ) → answer (running s x labels states) ≡ answer (running s x labels states′)
   unfolding running
-  running-bytes labels = bytes-alone (λ p bs. runIn p x labels bs) (λ p bs. run-bytes p x bs labels)
+  running-bytes labels = bytes-alone (λ p bs. runIn x labels bs p) (λ p bs. run-bytes p x bs labels)
 
-  pub checking-bytes : (w : List ℕ) → checking s x w states ≡ checking s x w states′
+  pub checking-bytes : (w : List ℕ) → answer (checking s x w states) ≡ answer (checking s x w states′)
   unfolding checking
-  checking-bytes w = bytes-alone (λ p bs. checkIn p x w bs) (λ p bs. check-bytes p x bs w)
+  checking-bytes w = bytes-alone (λ p bs. checkIn x w bs p) (λ p bs. check-bytes p x bs w)
 
-  pub probing-bytes : (w : List ℕ) (q : Search) → probing s x w states q ≡ probing s x w states′ q
+  pub probing-bytes : (w : List ℕ) (q : Search) → answer (probing s x w states q) ≡ answer (probing s x w states′ q)
   unfolding probing
-  probing-bytes w q = bytes-alone (λ p bs. probeIn p x w bs q) (λ p bs. probe-bytes p x bs w q)
+  probing-bytes w q = bytes-alone (λ p bs. probeIn x w bs q p) (λ p bs. probe-bytes p x bs w q)

@@ -1,5 +1,4 @@
 -- What each answer of the calls stands for: values, or the number of a refusal.
-use mathlib.Core.Path.{_≡_}
 use mathlib.Core.Bool.{Bool, true, false}
 use mathlib.Core.List.{[]}
 use Rattle.answers.specs.Answers.{Answer, given, refused, numberOf, Beside}
@@ -7,6 +6,8 @@ use Rattle.order.specs.declared.Order.{Order}
 use Rattle.order.specs.declared.Span.{Span}
 use Rattle.order.specs.Order.{listed}
 use Rattle.search.specs.declared.Outcome.{Outcome}
+use Rattle.search.specs.declared.Search.{Search}
+use Rattle.search.specs.declared.Progress.{Progress}
 use Rattle.probing.specs.declared.Ran.{Ran}
 use Rattle.probing.specs.declared.Ran.the-variants as ran-is
 use Rattle.probing.specs.declared.Probed.{Probed}
@@ -16,6 +17,10 @@ use Rattle.probing.specs.declared.Outward.{Outward}
 use Rattle.probing.specs.declared.Outward.the-variants as outward-is
 use Rattle.probing.specs.declared.Named.{Named}
 use Rattle.probing.specs.declared.Named.the-variants as named-is
+use Rattle.probing.specs.declared.Begun.{Begun}
+use Rattle.probing.specs.declared.Begun.the-variants as begun-is
+use Rattle.probing.specs.declared.Performed.{Performed}
+use Rattle.probing.specs.declared.Performed.the-variants as performed-is
 use Rattle.probing.specs.Calls.{Name, link, none, unknown}
 
 -- has the packet ended, or is it lost?
@@ -42,3 +47,13 @@ namedAnswer (named-is.Refused k) = refused (numberOf k)
 
 abbrev pub Orders : Answer Order → Ordered → Type 0
 Orders a r = Beside (listed []) a (r .verdict) (r .order)
+
+-- ---- a new search, and a list of calls after it
+
+abbrev pub begunAnswer : Begun → Answer Search
+begunAnswer (begun-is.State s) = given s
+begunAnswer (begun-is.Refused k) = refused (numberOf k)
+
+abbrev pub performedAnswer : Performed → Answer Progress
+performedAnswer (performed-is.Done r) = given r
+performedAnswer (performed-is.Refused k) = refused (numberOf k)

@@ -1,12 +1,14 @@
--- What each call on packets and probes answers that is given a listing: its refusals in checking order, then its result. Each is a chain over the plant of the listing,
--- after 1 to 9 and 11. E is the number of links that a search is over, `liveLinks p`; state bytes are counted against the listing's link count, `p .count`.
+-- What each call on packets, probes and searches comes to that is given a listing: in the plant of the listing, after 1 to 9 and 11. E is the number of links that a
+-- search is over, `liveLinks p`; state bytes are counted against the listing's link count, `p .count`.
+use mathlib.Core.Path.{_≡_}
 use mathlib.Core.Bool.{Bool}
-use mathlib.Core.List.{List}
+use mathlib.Core.List.{List, [], _∷_, _++_}
 use Prim.Native.Nat.{ℕ}
 use lib.Dec.{eqb}
 use Rattle.lists.specs.Tests.{choose}
 use Rattle.plant.specs.declared.Plant.{Plant}
-use Rattle.answers.specs.Answers.{Answer, given, refuse, _>>=_}
+use Rattle.answers.specs.Answers.{Answer, given}
+use Rattle.answers.specs.Checks.{Checked, check, _then_, _giving_}
 use Rattle.walks.specs.Arcs.{head}
 use Rattle.walks.specs.Graph.{liveLinks}
 use Rattle.routes.specs.Plants.{trailOf}
@@ -18,22 +20,25 @@ use Rattle.rings.specs.Injection.{ringOf, orderOf, probeRun}
 use Rattle.order.specs.declared.Order.{Order}
 use Rattle.order.specs.declared.Span.{Span}
 use Rattle.order.specs.Order.{listed}
-use Rattle.order.specs.Span.{ringSpan, spanOf}
+use Rattle.order.specs.Span.{ringSpan, spanOf, stretchOf, frontOf}
 use Rattle.search.specs.declared.Search.{Search}
 use Rattle.search.specs.declared.Search.the-variants.{Checking, Halving, AllUp, Down}
 use Rattle.search.specs.declared.Outcome.{Outcome}
 use Rattle.search.specs.declared.Outcome.the-variants.{Returned, Lost}
-use Rattle.probing.specs.Conditions.{trailDiffers, statesShort, searchUnsound, probeWanted}
-use Rattle.planner.specs.Planning.{planningAt}
+use Rattle.search.specs.declared.Progress.{Progress}
+use Rattle.search.specs.Search.{newSearch, wanted}
+use Rattle.search.specs.Calls.{Call, perform, begun}
+use Rattle.planning.specs.Planning.{planningAt}
+use Rattle.probing.specs.Conditions.{trailDiffers, statesShort, searchUnsound, lentChecks, wantedChecks}
 
 -- ---- a packet that is no probe: 1 to 9, 11, 13
 
 -- it runs under the forwarding table alone. Has it ended?
-unfoldable pub runIn : Plant → ℕ → List ℕ → List ℕ → Answer Bool
-runIn p x labels states = refuse 13 (statesShort (p .count) states) (given (run (inTable p) (upBy states) (head p) x 0 labels .ended))
+unfoldable pub runIn : ℕ → List ℕ → List ℕ → Plant → Checked Bool
+runIn x labels states p = check ((13, statesShort (p .count) states) ∷ []) (run (inTable p) (upBy states) (head p) x 0 labels .ended)
 
-unfoldable pub running : List ℕ → ℕ → List ℕ → List ℕ → Answer Bool
-running s x labels states = planningAt s x >>= λ p. runIn p x labels states
+unfoldable pub running : List ℕ → ℕ → List ℕ → List ℕ → Checked Bool
+running s x labels states = planningAt s x then runIn x labels states
 
 -- ---- the full check: 1 to 9, 11, 12, 13
 
@@ -42,22 +47,19 @@ abbrev pub outcomeOf : End → Outcome
 outcomeOf e = choose (e .ended) Returned Lost
 
 -- the whole ring under the forwarding table
-unfoldable pub checkIn : Plant → ℕ → List ℕ → List ℕ → Answer Outcome
-checkIn p x w states =
-    refuse 12 (trailDiffers p w)
-    (refuse 13 (statesShort (p .count) states)
-    (given (outcomeOf (run (inTable p) (upBy states) (head p) x 0 (ringOf p (trailOf p) x)))))
+unfoldable pub checkIn : ℕ → List ℕ → List ℕ → Plant → Checked Outcome
+checkIn x w states p = check (lentChecks p w states) (outcomeOf (run (inTable p) (upBy states) (head p) x 0 (ringOf p (trailOf p) x)))
 
-unfoldable pub checking : List ℕ → ℕ → List ℕ → List ℕ → Answer Outcome
-checking s x w states = planningAt s x >>= λ p. checkIn p x w states
+unfoldable pub checking : List ℕ → ℕ → List ℕ → List ℕ → Checked Outcome
+checking s x w states = planningAt s x then checkIn x w states
 
 -- ---- the order of links: 1 to 9, 11, 12
 
-unfoldable pub orderIn : Plant → ℕ → List ℕ → Answer Order
-orderIn p x w = refuse 12 (trailDiffers p w) (given (listed (orderOf p (trailOf p) x)))
+unfoldable pub orderIn : ℕ → List ℕ → Plant → Checked Order
+orderIn x w p = check ((12, trailDiffers p w) ∷ []) (listed (orderOf p (trailOf p) x))
 
-unfoldable pub ordering : List ℕ → ℕ → List ℕ → Answer Order
-ordering s x w = planningAt s x >>= λ p. orderIn p x w
+unfoldable pub ordering : List ℕ → ℕ → List ℕ → Checked Order
+ordering s x w = planningAt s x then orderIn x w
 
 -- ---- the outward labels of the probe wanted: 1 to 9, 11, 12, 14, 15
 
@@ -69,22 +71,28 @@ outLabels p x m = choose (eqb m (liveLinks p)) (ringOf p (trailOf p) x) (outward
 unfoldable pub outSpan : Plant → ℕ → ℕ → Span
 outSpan p x m = choose (eqb m (liveLinks p)) (ringSpan p (trailOf p) x) (spanOf p (trailOf p) x m)
 
-unfoldable pub outwardIn : Plant → ℕ → List ℕ → Search → Answer Span
-outwardIn p x w q = refuse 12 (trailDiffers p w) (probeWanted (liveLinks p) q >>= λ m. given (outSpan p x m))
+unfoldable pub outwardIn : ℕ → List ℕ → Search → Plant → Checked Span
+outwardIn x w q p = check ((12, trailDiffers p w) ∷ wantedChecks (liveLinks p) q) (outSpan p x (wanted q))
 
-unfoldable pub outgoing : List ℕ → ℕ → List ℕ → Search → Answer Span
-outgoing s x w q = planningAt s x >>= λ p. outwardIn p x w q
+unfoldable pub outgoing : List ℕ → ℕ → List ℕ → Search → Checked Span
+outgoing s x w q = planningAt s x then outwardIn x w q
+
+-- the two parts of the lent trail w at the bounds that are answered, one after the other, are the outward labels of the probe wanted
+abbrev pub OutwardParts : List ℕ → ℕ → List ℕ → Search → Answer Span → Type 0
+OutwardParts s x w q a = (b : Span) → a ≡ given b → stretchOf w b ++ frontOf w b ≡ outLabels (planningAt s x .result) x (wanted q)
 
 -- ---- the run of the probe wanted: 1 to 9, 11, 12, 13, 14, 15
 
-unfoldable pub probeIn : Plant → ℕ → List ℕ → List ℕ → Search → Answer Outcome
-probeIn p x w states q =
-    refuse 12 (trailDiffers p w)
-    (refuse 13 (statesShort (p .count) states)
-    (probeWanted (liveLinks p) q >>= λ m. given (outcomeOf (probeRun p (trailOf p) x (upBy states) m))))
+-- 14 and 15, then how it comes out
+abbrev pub probeOver : Plant → ℕ → List ℕ → Search → Checked Outcome
+probeOver p x states q = check (wantedChecks (liveLinks p) q) (outcomeOf (probeRun p (trailOf p) x (upBy states) (wanted q)))
 
-unfoldable pub probing : List ℕ → ℕ → List ℕ → List ℕ → Search → Answer Outcome
-probing s x w states q = planningAt s x >>= λ p. probeIn p x w states q
+-- 12 and 13 before
+unfoldable pub probeIn : ℕ → List ℕ → List ℕ → Search → Plant → Checked Outcome
+probeIn x w states q p = check (lentChecks p w states ++ wantedChecks (liveLinks p) q) (outcomeOf (probeRun p (trailOf p) x (upBy states) (wanted q)))
+
+unfoldable pub probing : List ℕ → ℕ → List ℕ → List ℕ → Search → Checked Outcome
+probing s x w states q = planningAt s x then probeIn x w states q
 
 -- ---- the link named: 1 to 9, 11, 12, 14
 
@@ -101,11 +109,21 @@ namedIn ls (Halving low high) = unknown
 namedIn ls AllUp = none
 namedIn ls (Down place) = link (nth ls place)
 
-unfoldable pub nameIn : Plant → ℕ → List ℕ → Search → Answer Name
-nameIn p x w q =
-    refuse 12 (trailDiffers p w)
-    (refuse 14 (searchUnsound (liveLinks p) q)
-    (given (namedIn (orderOf p (trailOf p) x) q)))
+unfoldable pub nameIn : ℕ → List ℕ → Search → Plant → Checked Name
+nameIn x w q p = check ((12, trailDiffers p w) ∷ (14, searchUnsound (liveLinks p) q) ∷ []) (namedIn (orderOf p (trailOf p) x) q)
 
-unfoldable pub naming : List ℕ → ℕ → List ℕ → Search → Answer Name
-naming s x w q = planningAt s x >>= λ p. nameIn p x w q
+unfoldable pub naming : List ℕ → ℕ → List ℕ → Search → Checked Name
+naming s x w q = planningAt s x then nameIn x w q
+
+-- ---- a new search, and a list of calls after it: 1 to 9, 11
+
+-- a new search over the links of a listing, from an injection switch
+unfoldable pub beginning : List ℕ → ℕ → Checked Search
+beginning s x = planningAt s x giving λ p. newSearch (liveLinks p)
+
+-- a new search, and then a list of calls
+unfoldable pub performedIn : List Call → Plant → Progress
+performedIn cs p = perform (begun (liveLinks p)) cs
+
+unfoldable pub performing : List ℕ → ℕ → List Call → Checked Progress
+performing s x cs = planningAt s x giving performedIn cs

@@ -22,7 +22,7 @@ use Rattle.rings.specs.Order as orders
 use Rattle.rings.specs.Probe.{outward, probe}
 use Rattle.rings.specs.Injection.{probeRules, ringOf, orderOf, probeOf, probeRun}
 use Rattle.rings.specs.Parts.{out, outStretch, outFront}
-use Rattle.listing.specs.Part.{taken, valueOf, repeats, mapMissing, mapUndefined, fieldMissing, fieldRedundant, fieldValues, afterPart, part}
+use Rattle.listing.specs.Part.{taken, valueOf, repeats, mapMissing, mapUndefined, fieldMissing, fieldRedundant, fieldValues, afterPart}
 use Rattle.listing.specs.Listing as listing
 use Rattle.trail.specs.Filled.{sameList}
 use Rattle.order.specs.Order.{padded, listed}
@@ -31,8 +31,10 @@ use Rattle.search.specs.declared.Search.{Search}
 use Rattle.search.specs.declared.Search.the-variants.{Checking, Halving, AllUp, Down}
 use Rattle.search.specs.declared.Outcome.{Outcome}
 use Rattle.search.specs.declared.Outcome.the-variants.{Returned, Lost}
-use Rattle.planner.specs.Planning.{notConnected, joined, planning, planningAt, switchOutOfRange}
-use Rattle.probing.specs.Conditions.{trailDiffers, statesShort, searchUnsound, probeWanted}
+use Rattle.planning.specs.Planning.{notConnected, planning, planningAt, switchOutOfRange}
+use Rattle.answers.specs.Checks.{answer}
+use Rattle.listing.specs.Conditions.{conditions, plantIn, reading}
+use Rattle.probing.specs.Conditions.{trailDiffers, statesShort, searchUnsound}
 use Rattle.probing.specs.Calls.{runIn, checkIn, orderIn, outSpan, outwardIn, probeIn, Name, link, none, unknown, nameIn}
 
 pub record Row : Type 0 where
@@ -64,29 +66,29 @@ long = 1 ∷ 1 ∷ 1 ∷ 0 ∷ []
 -- ---- the refusals of the plant, with which each call begins
 
 abbrev at : ℕ → Answer (List ℕ) → Row
-at x a = record { got = λ _. planningAt triangle x >>= λ p. given (x ∷ []); said = a }
+at x a = record { got = λ _. answer (planningAt triangle x) >>= λ p. given (x ∷ []); said = a }
 
 -- ---- the calls in the plant: 1 if the packet ended or the probe returned, and else 0
 
 abbrev runs : ℕ → List ℕ → List ℕ → Answer (List ℕ) → Row
-runs x labels states a = record { got = λ p. runIn p x labels states >>= λ b. given (bit b ∷ []); said = a }
+runs x labels states a = record { got = λ p. answer (runIn x labels states p) >>= λ b. given (bit b ∷ []); said = a }
 
 abbrev home : Outcome → List ℕ
 home Returned = 1 ∷ []
 home Lost = 0 ∷ []
 
 abbrev checks : ℕ → List ℕ → List ℕ → Answer (List ℕ) → Row
-checks x w states a = record { got = λ p. checkIn p x w states >>= λ o. given (home o); said = a }
+checks x w states a = record { got = λ p. answer (checkIn x w states p) >>= λ o. given (home o); said = a }
 
 abbrev lists : ℕ → List ℕ → Answer (List ℕ) → Row
-lists x w a = record { got = λ p. orderIn p x w >>= λ o. given (take (o .count) (o .links)); said = a }
+lists x w a = record { got = λ p. answer (orderIn x w p) >>= λ o. given (take (o .count) (o .links)); said = a }
 
 -- the place, and the lengths of the two parts
 abbrev goes : ℕ → List ℕ → Search → Answer (List ℕ) → Row
-goes x w q a = record { got = λ p. outwardIn p x w q >>= λ b. given (b .from ∷ b .len ∷ b .front ∷ []); said = a }
+goes x w q a = record { got = λ p. answer (outwardIn x w q p) >>= λ b. given (b .from ∷ b .len ∷ b .front ∷ []); said = a }
 
 abbrev probes : ℕ → List ℕ → List ℕ → Search → Answer (List ℕ) → Row
-probes x w states q a = record { got = λ p. probeIn p x w states q >>= λ o. given (home o); said = a }
+probes x w states q a = record { got = λ p. answer (probeIn x w states q p) >>= λ o. given (home o); said = a }
 
 -- the link, or nothing if there is none, or twice 0 if the search has not ended
 abbrev told : Name → List ℕ
@@ -95,7 +97,7 @@ told none = []
 told unknown = 0 ∷ 0 ∷ []
 
 abbrev names : ℕ → List ℕ → Search → Answer (List ℕ) → Row
-names x w q a = record { got = λ p. nameIn p x w q >>= λ n. given (told n); said = a }
+names x w q a = record { got = λ p. answer (nameIn x w q p) >>= λ n. given (told n); said = a }
 
 -- ---- the table, and the test
 
@@ -143,6 +145,6 @@ table =
     ∷ names 1 whole (Down 4) (refused 14)
     ∷ []
 
-as-said : (planning triangle >>= λ p. given (map (λ r. r .got p) table)) ≡ given (map (λ r. r .said) table)
-unfolding runIn checkIn orderIn outwardIn outSpan probeIn nameIn switchOutOfRange trailDiffers statesShort searchUnsound planningAt probeWanted notConnected joined planning ringSpan spanOf listed padded sameList plantWith taken valueOf repeats mapMissing mapUndefined fieldMissing fieldRedundant fieldValues afterPart part listing.valueOutOfRange listing.endOutOfRange listing.selfLink listing.soundLink listing.bytesRemain listing.judgedHeader listing.header listing.judged listing.link listing.links listing.withLinks listing.finish listing.afterHeader listing.decode out outStretch outFront probeRules ringOf orderOf probeOf probeRun probe outward orders.order readFrom place ring upBy inTable inAll rulesFor trail trailFrom mostHops next goal nearest near hop dist within sources arcs others visitFrom visited connected bridge entered earlier used liveLinks opposite tail head scan visit live leastFrom count every
+as-said : (answer (planning triangle) >>= λ p. given (map (λ r. r .got p) table)) ≡ given (map (λ r. r .said) table)
+unfolding runIn checkIn orderIn outwardIn outSpan probeIn nameIn switchOutOfRange trailDiffers statesShort searchUnsound planningAt notConnected planning ringSpan spanOf listed padded sameList plantWith taken valueOf repeats mapMissing mapUndefined fieldMissing fieldRedundant fieldValues afterPart listing.valueOutOfRange listing.endOutOfRange listing.selfLink listing.bytesRemain listing.withLinks conditions plantIn reading out outStretch outFront probeRules ringOf orderOf probeOf probeRun probe outward orders.order readFrom place ring upBy inTable inAll rulesFor trail trailFrom mostHops next goal nearest near hop dist within sources arcs others visitFrom visited connected bridge entered earlier used liveLinks opposite tail head scan visit live leastFrom count every
 as-said = refl

@@ -1,11 +1,11 @@
--- The conditions of refusals 12 to 15 in a call that is given a listing (document 01, "Refusals in checking order"), each once; and the refusals that calls share.
+-- The conditions of refusals 12 to 15 in a call that is given a listing (document 01, "Refusals in checking order"), each once; and what calls try alike.
 use mathlib.Core.Bool.{Bool, not, _&&_}
-use mathlib.Core.List.{List}
+use mathlib.Core.List.{List, [], _∷_}
 use Prim.Native.Nat.{ℕ}
 use lib.Dec.{ltb}
 use lib.ListN.{length}
 use Rattle.plant.specs.declared.Plant.{Plant}
-use Rattle.answers.specs.Answers.{Answer, given, refuse}
+use Rattle.answers.specs.Checks.{Conditions, Checked, check}
 use Rattle.routes.specs.Plants.{trailOf}
 use Rattle.trail.specs.Filled.{sameList}
 use Rattle.search.specs.declared.Search.{Search}
@@ -25,6 +25,14 @@ searchUnsound e q = not (sound q && soundFor e q)
 
 -- ---- what calls share
 
--- 14, then 15 (a probe is wanted of All up or Down), or the m of the probe wanted
-unfoldable pub probeWanted : ℕ → Search → Answer ℕ
-probeWanted e q = refuse 14 (searchUnsound e q) (refuse 15 (ended q) (given (wanted q)))
+-- 12, then 13
+abbrev pub lentChecks : Plant → List ℕ → List ℕ → Conditions
+lentChecks p w states = (12, trailDiffers p w) ∷ (13, statesShort (p .count) states) ∷ []
+
+-- 14, then 15: a probe is wanted of All up or Down
+abbrev pub wantedChecks : ℕ → Search → Conditions
+wantedChecks e q = (14, searchUnsound e q) ∷ (15, ended q) ∷ []
+
+-- the m of the probe wanted
+unfoldable pub probeWanted : ℕ → Search → Checked ℕ
+probeWanted e q = check (wantedChecks e q) (wanted q)

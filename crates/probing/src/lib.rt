@@ -1,5 +1,5 @@
-// The calls on packets and probes that are given a listing (document 01, "Rules, packets, ring" and "Search"). Each begins with the refusals of planning and that of
-// a named switch; the others follow in the order of their numbers.
+// The calls on packets, probes and searches: each is given a listing, a search or a lent trail, asks nothing, and refuses what is wrong (docs/CALLS.md). Every public
+// function here is a call. Calls on listings, plants and orders are in the crate `planner`.
 use answers::Refusal;
 use answers::Verdict;
 use order::Order;
@@ -8,21 +8,27 @@ use packet::End;
 use plant::Plant;
 use search::Asked;
 use search::Outcome;
+use search::Progress;
 use search::Search;
+use search::Told;
 ghost use mathlib.Core.Path.{_≡_};
 ghost use Prim.Native.Nat.{_≤_};
 ghost use Rattle.answers.specs.Answers.{given, refused, numberOf};
+ghost use Rattle.answers.specs.Checks.{Judges, answer};
 ghost use Rattle.limits.specs.Sound.{Sound};
 ghost use Rattle.walks.specs.Graph.{Connected};
 ghost use Rattle.routes.specs.Plants.{trailOf};
 ghost use Rattle.rings.specs.Injection.{orderOf};
 ghost use Rattle.trail.specs.Steps.{Planned};
+ghost use Rattle.order.specs.Span.{stretchOf, frontOf};
+ghost use Rattle.packet.specs.Asked.{CanProbe};
 ghost use Rattle.packet.specs.Runs.{endOf};
-ghost use Rattle.search.specs.Search.{askedOf};
+ghost use Rattle.search.specs.Search.{ask, give, askedOf, toldOf};
+ghost use Rattle.search.specs.Calls.{callsIn};
 ghost use Rattle.search.specs.Sound.{Good};
-ghost use Rattle.probing.specs.Conditions.{trailDiffers, statesShort, searchUnsound, probeWanted};
-ghost use Rattle.probing.specs.Calls.{runIn, running, outcomeOf, checkIn, checking, orderIn, ordering, outSpan, outwardIn, outgoing, probeIn, probing, namedIn, nameIn, naming};
-ghost use Rattle.probing.specs.Answers.{ranAnswer, probedAnswer, Orders, outwardAnswer, namedAnswer};
+ghost use Rattle.probing.specs.Conditions.{trailDiffers, statesShort, searchUnsound, lentChecks, probeWanted};
+ghost use Rattle.probing.specs.Calls.{runIn, running, outcomeOf, checkIn, checking, orderIn, ordering, outSpan, outwardIn, outgoing, OutwardParts, probeOver, probeIn, probing, namedIn, nameIn, naming, beginning, performing};
+ghost use Rattle.probing.specs.Answers.{ranAnswer, probedAnswer, Orders, outwardAnswer, namedAnswer, begunAnswer, performedAnswer};
 
 // How the run of a packet comes out: it has ended, or it is lost.
 pub enum Ran {
@@ -43,7 +49,7 @@ pub struct Ordered {
     pub order: Order,
 }
 
-// Where the outward labels of a probe stand in the lent trail: `order::stretch` and `order::front` hand back the two parts of it.
+// Where the outward labels of a probe stand in the lent trail: `stretch` and `front` hand back the two parts of it.
 pub enum Outward {
     Parts(Span),
     Refused(Refusal),
@@ -54,6 +60,18 @@ pub enum Named {
     Link(u16),
     AllUp,
     Open,
+    Refused(Refusal),
+}
+
+// A new search, or a refusal.
+pub enum Begun {
+    State(Search),
+    Refused(Refusal),
+}
+
+// Where a list of calls led to, or a refusal.
+pub enum Performed {
+    Done(Progress),
     Refused(Refusal),
 }
 
@@ -77,6 +95,20 @@ fn too_few(states: &[u8], links: u16) -> bool
     states.len() < links as usize
 }
 
+// Refusals 12 and 13 of a lent trail and state bytes.
+fn judge_lent(p: Plant, used: [bool; Plant::LABELS], trail: &[u16], states: &[u8]) -> Verdict
+    requires { ⌜ Planned p used ⌝ }
+    ensures { λ r. ⌜ Judges (lentChecks p (now (trail .entry)) (now (states .entry))) r ⌝ }
+{
+    if differs(p, used, trail) {
+        return Verdict::Refused(Refusal::TrailDiffers);
+    }
+    if too_few(states, p.count) {
+        return Verdict::Refused(Refusal::StatesShort);
+    }
+    Verdict::Accepted
+}
+
 // Refusal 14, in a call with a listing of so many links.
 fn unsound(search: Search, links: u16) -> bool
     ensures { λ r. ⌜ r ≡ searchUnsound links search ⌝ }
@@ -89,7 +121,7 @@ fn unsound(search: Search, links: u16) -> bool
 
 // The probe that a search wants over so many links: refusals 14 and 15.
 fn probe_wanted(search: Search, links: u16) -> Asked
-    ensures { λ r. ⌜ askedOf r ≡ probeWanted links search ⌝ }
+    ensures { λ r. ⌜ askedOf r ≡ answer (probeWanted links search) ⌝ }
 {
     if unsound(search, links) {
         return Asked::Refused(Refusal::SearchUnsound);
@@ -102,7 +134,7 @@ fn probe_wanted(search: Search, links: u16) -> Asked
 // A packet runs in a plant, under the forwarding table alone: refusal 13.
 fn run_in(p: Plant, switch: u8, labels: &[u16], states: &[u8]) -> Ran
     requires { ⌜ Sound p ⌝ }
-    ensures { λ r. ⌜ ranAnswer r ≡ runIn p switch (now (labels .entry)) (now (states .entry)) ⌝ }
+    ensures { λ r. ⌜ ranAnswer r ≡ answer (runIn switch (now (labels .entry)) (now (states .entry)) p) ⌝ }
 {
     if too_few(states, p.count) {
         return Ran::Refused(Refusal::StatesShort);
@@ -114,9 +146,9 @@ fn run_in(p: Plant, switch: u8, labels: &[u16], states: &[u8]) -> Ran
 
 // The run of a packet that is injected at a switch and is no probe: refusals 1 to 9, 11 and 13.
 pub fn run(listing: &[u8], switch: u8, labels: &[u16], states: &[u8]) -> Ran
-    ensures { λ r. ⌜ ranAnswer r ≡ running (now (listing .entry)) switch (now (labels .entry)) (now (states .entry)) ⌝ }
+    ensures { λ r. ⌜ ranAnswer r ≡ answer (running (now (listing .entry)) switch (now (labels .entry)) (now (states .entry))) ⌝ }
 {
-    let d = planner::plan_at(listing, switch);
+    let d = planning::plan_at(listing, switch);
     let v = d.verdict;
     match v {
         Verdict::Accepted => {
@@ -142,24 +174,23 @@ fn outcome_of(e: End) -> Outcome
 // The full check in a plant that can be planned: refusals 12 and 13.
 fn check_in(p: Plant, switch: u8, trail: &[u16], states: &[u8]) -> Probed
     requires { ⌜ Sound p × Connected p ⌝ }
-    ensures { λ r. ⌜ probedAnswer r ≡ checkIn p switch (now (trail .entry)) (now (states .entry)) ⌝ }
+    ensures { λ r. ⌜ probedAnswer r ≡ answer (checkIn switch (now (trail .entry)) (now (states .entry)) p) ⌝ }
 {
     let used = graph::arcs_in_use(p);
-    if differs(p, used, trail) {
-        return Probed::Refused(Refusal::TrailDiffers);
+    match judge_lent(p, used, trail, states) {
+        Verdict::Accepted => {
+            let e = packet::full_check(p, used, states, switch, trail);
+            Probed::Outcome(outcome_of(e))
+        }
+        Verdict::Refused(k) => Probed::Refused(k),
     }
-    if too_few(states, p.count) {
-        return Probed::Refused(Refusal::StatesShort);
-    }
-    let e = packet::full_check(p, used, states, switch, trail);
-    Probed::Outcome(outcome_of(e))
 }
 
 // The full check from a switch: refusals 1 to 9, 11, 12 and 13.
 pub fn full_check(listing: &[u8], switch: u8, trail: &[u16], states: &[u8]) -> Probed
-    ensures { λ r. ⌜ probedAnswer r ≡ checking (now (listing .entry)) switch (now (trail .entry)) (now (states .entry)) ⌝ }
+    ensures { λ r. ⌜ probedAnswer r ≡ answer (checking (now (listing .entry)) switch (now (trail .entry)) (now (states .entry))) ⌝ }
 {
-    let d = planner::plan_at(listing, switch);
+    let d = planning::plan_at(listing, switch);
     let v = d.verdict;
     match v {
         Verdict::Accepted => {
@@ -186,7 +217,7 @@ fn refused_order(k: Refusal) -> Ordered
 // The order of links in a plant that can be planned: refusal 12.
 fn order_in(p: Plant, switch: u8, trail: &[u16]) -> Ordered
     requires { ⌜ Sound p × Connected p ⌝ }
-    ensures { λ r. ⌜ Orders (orderIn p switch (now (trail .entry))) r ⌝ }
+    ensures { λ r. ⌜ Orders (answer (orderIn switch (now (trail .entry)) p)) r ⌝ }
 {
     if differs(p, graph::arcs_in_use(p), trail) {
         return refused_order(Refusal::TrailDiffers);
@@ -200,9 +231,9 @@ fn order_in(p: Plant, switch: u8, trail: &[u16]) -> Ordered
 
 // The links by first crossing from the place of a switch: refusals 1 to 9, 11 and 12.
 pub fn order_of_links(listing: &[u8], switch: u8, trail: &[u16]) -> Ordered
-    ensures { λ r. ⌜ Orders (ordering (now (listing .entry)) switch (now (trail .entry))) r ⌝ }
+    ensures { λ r. ⌜ Orders (answer (ordering (now (listing .entry)) switch (now (trail .entry)))) r ⌝ }
 {
-    let d = planner::plan_at(listing, switch);
+    let d = planning::plan_at(listing, switch);
     let v = d.verdict;
     match v {
         Verdict::Accepted => {
@@ -232,7 +263,7 @@ fn span_in(p: Plant, switch: u8, trail: &[u16], m: u16) -> Span
 // The outward labels in a plant that can be planned: refusals 12, 14 and 15.
 fn outward_in(p: Plant, switch: u8, trail: &[u16], search: Search) -> Outward
     requires { ⌜ Sound p × Connected p ⌝ }
-    ensures { λ r. ⌜ outwardAnswer r ≡ outwardIn p switch (now (trail .entry)) search ⌝ }
+    ensures { λ r. ⌜ outwardAnswer r ≡ answer (outwardIn switch (now (trail .entry)) search p) ⌝ }
 {
     if differs(p, graph::arcs_in_use(p), trail) {
         return Outward::Refused(Refusal::TrailDiffers);
@@ -245,9 +276,10 @@ fn outward_in(p: Plant, switch: u8, trail: &[u16], search: Search) -> Outward
 
 // Where the outward labels of the probe that a search wants stand in the lent trail: refusals 1 to 9, 11, 12, 14 and 15.
 pub fn outward_labels(listing: &[u8], switch: u8, trail: &[u16], search: Search) -> Outward
-    ensures { λ r. ⌜ outwardAnswer r ≡ outgoing (now (listing .entry)) switch (now (trail .entry)) search ⌝ }
+    ensures { λ r. ⌜ outwardAnswer r ≡ answer (outgoing (now (listing .entry)) switch (now (trail .entry)) search) ⌝ }
+    ensures { λ r. ⌜ OutwardParts (now (listing .entry)) switch (now (trail .entry)) search (outwardAnswer r) ⌝ }
 {
-    let d = planner::plan_at(listing, switch);
+    let d = planning::plan_at(listing, switch);
     let v = d.verdict;
     match v {
         Verdict::Accepted => {
@@ -258,20 +290,35 @@ pub fn outward_labels(listing: &[u8], switch: u8, trail: &[u16], search: Search)
     }
 }
 
+// The stretch of a lent trail that the bounds name, as much of it as is there. No refusal.
+pub fn stretch<'a>(trail: &'a [u16], span: Span) -> &'a [u16]
+    ensures { λ r. ⌜ now r ≡ stretchOf (now (trail .entry)) span ⌝ }
+{
+    order::stretch(trail, span)
+}
+
+// The front of a lent trail that the bounds name, as much of it as is there. No refusal.
+pub fn front<'a>(trail: &'a [u16], span: Span) -> &'a [u16]
+    ensures { λ r. ⌜ now r ≡ frontOf (now (trail .entry)) span ⌝ }
+{
+    order::front(trail, span)
+}
+
 // ---- the run of the probe wanted
 
-// The run of the probe wanted in a plant that can be planned: refusals 12 to 15.
-fn probe_in(p: Plant, switch: u8, trail: &[u16], states: &[u8], search: Search) -> Probed
-    requires { ⌜ Sound p × Connected p ⌝ }
-    ensures { λ r. ⌜ probedAnswer r ≡ probeIn p switch (now (trail .entry)) (now (states .entry)) search ⌝ }
+// The run of the probe wanted over a lent trail that is the plant's, with enough state bytes: refusals 14 and 15.
+fn probe_over(
+    p: Plant,
+    used: [bool; Plant::LABELS],
+    switch: u8,
+    trail: &[u16],
+    states: &[u8],
+    search: Search,
+) -> Probed
+    requires { ⌜ CanProbe p used (now states) (now trail) ⌝ }
+    requires { ⌜ now trail ≡ trailOf p ⌝ }
+    ensures { λ r. ⌜ probedAnswer r ≡ answer (probeOver p switch (now (states .entry)) search) ⌝ }
 {
-    let used = graph::arcs_in_use(p);
-    if differs(p, used, trail) {
-        return Probed::Refused(Refusal::TrailDiffers);
-    }
-    if too_few(states, p.count) {
-        return Probed::Refused(Refusal::StatesShort);
-    }
     match probe_wanted(search, p.count) {
         Asked::Probe(m) => {
             let e = packet::probe_run(p, used, states, switch, trail, m);
@@ -281,11 +328,23 @@ fn probe_in(p: Plant, switch: u8, trail: &[u16], states: &[u8], search: Search) 
     }
 }
 
+// The run of the probe wanted in a plant that can be planned: refusals 12 to 15.
+fn probe_in(p: Plant, switch: u8, trail: &[u16], states: &[u8], search: Search) -> Probed
+    requires { ⌜ Sound p × Connected p ⌝ }
+    ensures { λ r. ⌜ probedAnswer r ≡ answer (probeIn switch (now (trail .entry)) (now (states .entry)) search p) ⌝ }
+{
+    let used = graph::arcs_in_use(p);
+    match judge_lent(p, used, trail, states) {
+        Verdict::Accepted => probe_over(p, used, switch, trail, states, search),
+        Verdict::Refused(k) => Probed::Refused(k),
+    }
+}
+
 // The run of the probe that a search wants: refusals 1 to 9 and 11 to 15.
 pub fn run_probe(listing: &[u8], switch: u8, trail: &[u16], states: &[u8], search: Search) -> Probed
-    ensures { λ r. ⌜ probedAnswer r ≡ probing (now (listing .entry)) switch (now (trail .entry)) (now (states .entry)) search ⌝ }
+    ensures { λ r. ⌜ probedAnswer r ≡ answer (probing (now (listing .entry)) switch (now (trail .entry)) (now (states .entry)) search) ⌝ }
 {
-    let d = planner::plan_at(listing, switch);
+    let d = planning::plan_at(listing, switch);
     let v = d.verdict;
     match v {
         Verdict::Accepted => {
@@ -320,7 +379,7 @@ fn name_of(p: Plant, switch: u8, trail: &[u16], search: Search) -> Named
 // What a search names in a plant that can be planned: refusals 12 and 14.
 fn name_in(p: Plant, switch: u8, trail: &[u16], search: Search) -> Named
     requires { ⌜ Sound p × Connected p ⌝ }
-    ensures { λ r. ⌜ namedAnswer r ≡ nameIn p switch (now (trail .entry)) search ⌝ }
+    ensures { λ r. ⌜ namedAnswer r ≡ answer (nameIn switch (now (trail .entry)) search p) ⌝ }
 {
     if differs(p, graph::arcs_in_use(p), trail) {
         return Named::Refused(Refusal::TrailDiffers);
@@ -333,9 +392,9 @@ fn name_in(p: Plant, switch: u8, trail: &[u16], search: Search) -> Named
 
 // The link that a search names from a switch: refusals 1 to 9, 11, 12 and 14.
 pub fn link_named(listing: &[u8], switch: u8, trail: &[u16], search: Search) -> Named
-    ensures { λ r. ⌜ namedAnswer r ≡ naming (now (listing .entry)) switch (now (trail .entry)) search ⌝ }
+    ensures { λ r. ⌜ namedAnswer r ≡ answer (naming (now (listing .entry)) switch (now (trail .entry)) search) ⌝ }
 {
-    let d = planner::plan_at(listing, switch);
+    let d = planning::plan_at(listing, switch);
     let v = d.verdict;
     match v {
         Verdict::Accepted => {
@@ -343,5 +402,46 @@ pub fn link_named(listing: &[u8], switch: u8, trail: &[u16], search: Search) -> 
             name_in(p, switch, trail, search)
         }
         Verdict::Refused(k) => Named::Refused(k),
+    }
+}
+
+// ---- the search
+
+// A new search over the links of a listing, from an injection switch: refusals 1 to 9 and 11.
+pub fn new_search(listing: &[u8], switch: u8) -> Begun
+    ensures { λ r. ⌜ begunAnswer r ≡ answer (beginning (now (listing .entry)) switch) ⌝ }
+{
+    let d = planning::plan_at(listing, switch);
+    let v = d.verdict;
+    match v {
+        Verdict::Accepted => Begun::State(Search::new(d.plant.count)),
+        Verdict::Refused(k) => Begun::Refused(k),
+    }
+}
+
+// The probe that a search wants, by its state alone: refusals 14 and 15.
+pub fn ask(search: Search) -> Asked
+    ensures { λ r. ⌜ askedOf r ≡ answer (ask search) ⌝ }
+{
+    search.ask()
+}
+
+// The state after the probe wanted had an outcome: refusals 14 and 15.
+pub fn give(search: Search, outcome: Outcome) -> Told
+    ensures { λ r. ⌜ toldOf r ≡ answer (give search outcome) ⌝ }
+{
+    search.give(outcome)
+}
+
+// The calls, each a byte, after a new search over the links of a listing from an injection switch: refusals 1 to 9 and 11. What demand 3 says of where they led to is
+// `Searches` of demands/specs/Demands.
+pub fn perform(listing: &[u8], switch: u8, calls: &[u8]) -> Performed
+    ensures { λ r. ⌜ performedAnswer r ≡ answer (performing (now (listing .entry)) switch (callsIn (now (calls .entry)))) ⌝ }
+{
+    let d = planning::plan_at(listing, switch);
+    let v = d.verdict;
+    match v {
+        Verdict::Accepted => Performed::Done(search::perform(d.plant.count, calls)),
+        Verdict::Refused(k) => Performed::Refused(k),
     }
 }

@@ -3,10 +3,11 @@ use mathlib.Core.Path.{_≡_, refl}
 use mathlib.Core.List.{List, [], _∷_, map}
 use Prim.Native.Nat.{ℕ}
 use Rattle.answers.specs.Answers.{Answer, given, refused, _>>=_}
+use Rattle.answers.specs.Checks.{answer}
 use Rattle.quantity.specs.Quantity.{orderQuantity}
 
 abbrev pub asked : ℕ → ℕ → Answer (List ℕ)
-asked a p = orderQuantity a p >>= λ n. given (n ∷ [])
+asked a p = answer (orderQuantity a p) >>= λ n. given (n ∷ [])
 
 abbrev pub rows : List (Answer (List ℕ) × Answer (List ℕ))
 rows = (asked 5 10, given (6 ∷ [])) ∷ (asked 5 0, given (5 ∷ [])) ∷ (asked 5 101, refused 17) ∷ []

@@ -1,7 +1,9 @@
 -- The order quantity of document 01: the rules and a spare of so many percent of them, rounded up.
+use mathlib.Core.List.{[], _∷_}
 use Prim.Native.Nat.{ℕ, _+_, _*_, _/_}
 use lib.Dec.{ltb}
-use Rattle.answers.specs.Answers.{numberOf, Answer, given, refused, refuse}
+use Rattle.answers.specs.Answers.{numberOf, Answer, given, refused}
+use Rattle.answers.specs.Checks.{Checked, check}
 use Rattle.quantity.specs.declared.Quantity.{Quantity}
 use Rattle.quantity.specs.declared.Quantity.the-variants as is
 
@@ -13,8 +15,8 @@ maxSpare = 100
 abbrev pub spare : ℕ → ℕ → ℕ
 spare a p = (a * p + 99) / 100
 
-unfoldable pub orderQuantity : ℕ → ℕ → Answer ℕ
-orderQuantity a p = refuse 17 (ltb maxSpare p) (given (a + spare a p))
+unfoldable pub orderQuantity : ℕ → ℕ → Checked ℕ
+orderQuantity a p = check ((17, ltb maxSpare p) ∷ []) (a + spare a p)
 
 -- what the code's answer says
 abbrev pub quantityOf : Quantity → Answer ℕ

@@ -1,5 +1,6 @@
 // The order quantity: how many rules to order, with a spare in percent.
 ghost use mathlib.Core.Path.{_≡_};
+ghost use Rattle.answers.specs.Checks.{answer};
 ghost use Rattle.quantity.specs.Quantity.{orderQuantity, quantityOf};
 use answers::Refusal;
 
@@ -15,7 +16,7 @@ impl Quantity {
 }
 
 pub fn order_quantity(rules: u16, spare: u8) -> Quantity
-    ensures { λ r. ⌜ quantityOf r ≡ orderQuantity rules spare ⌝ }
+    ensures { λ r. ⌜ quantityOf r ≡ answer (orderQuantity rules spare) ⌝ }
 {
     if Quantity::MAX_SPARE < spare {
         return Quantity::Refused(Refusal::SpareTooLarge);

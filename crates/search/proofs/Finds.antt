@@ -9,6 +9,7 @@ use Prim.Native.Nat.{ℕ, _+_, _≤_, _<_}
 use native.Mathlib.Omega.{arith}
 use Rattle.lists.proofs.Tests.{bool?, not-both}
 use Rattle.answers.specs.Answers.{given}
+use Rattle.answers.specs.Checks.{answer}
 use Rattle.limits.specs.Limits.{maxLinks}
 use Rattle.search.specs.declared.Search.{Search}
 use Rattle.search.specs.declared.Search.the-variants.{Checking, Halving, AllUp, Down}
@@ -38,7 +39,7 @@ module _ (e f : ℕ) (true? : ℕ → Outcome → Type 0) where
     pub few : r .probes ≤ limit e
     pub enough : r .probes ≡ limit e → ended (r .state) ≡ true
     -- until then it has a probe to send
-    pub goes-on : ended (r .state) ≡ false → (m : ℕ) × (1 ≤ m) × (m ≤ e) × (ask (r .state) ≡ given m)
+    pub goes-on : ended (r .state) ≡ false → (m : ℕ) × (1 ≤ m) × (m ≤ e) × (answer (ask (r .state)) ≡ given m)
     -- its state is never refused as unsound
     pub stays-sound : (sound (r .state) ≡ true) × (soundFor e (r .state) ≡ true)
     -- if every accepted outcome is true, an ended search is All up exactly if no link is broken, and else Down at the first broken link
@@ -86,7 +87,7 @@ module _ (e : ℕ) (fits : e ≤ maxLinks) where
   kept-all (c ∷ cs) p k = kept-all cs (step p c) (kept-step p c k)
 
   -- a sound search that has not ended answers a call for a probe
-  pub asks-on : (s : Search) → Good e s → ended s ≡ false → ask s ≡ given (wanted s)
+  pub asks-on : (s : Search) → Good e s → ended s ≡ false → answer (ask s) ≡ given (wanted s)
   unfolding ask
   asks-on s g q = answers-given s (wanted s) (good-sound e s fits g .0) q
 

@@ -7,6 +7,7 @@ use lib.ListN.{length, getD, drop, drop-of-length-le}
 use lib.Seq.{drop-cons}
 use borrow.Author.Tests.{eq-eqb, ne-eqb}
 use Rattle.answers.specs.Answers.{given, refused}
+use Rattle.answers.specs.Checks.{answer}
 use Rattle.search.specs.declared.Search.{Search}
 use Rattle.search.specs.declared.Outcome.{Outcome}
 use Rattle.search.specs.declared.Progress.{Progress}
@@ -19,12 +20,12 @@ pub step-asks : (p : Progress) (b : ℕ) → b ≡ 0 → p ≡ step p (callIn b)
 unfolding callIn
 step-asks p b e = rw (eq-eqb b 0 e)
 
-pub step-given : (p : Progress) (b : ℕ) (o : Outcome) (t : Search) → (b ≡ 0 → ⊥) → o ≡ outcomeIn b → give (p .state) o ≡ given t
+pub step-given : (p : Progress) (b : ℕ) (o : Outcome) (t : Search) → (b ≡ 0 → ⊥) → o ≡ outcomeIn b → answer (give (p .state) o) ≡ given t
     → record { state = t; probes = p .probes + 1 } ≡ step p (callIn b)
 unfolding callIn
 step-given p b o t n e g = rw (ne-eqb b 0 n, sym e, g)
 
-pub step-refused : (p : Progress) (b : ℕ) (o : Outcome) (k : ℕ) → (b ≡ 0 → ⊥) → o ≡ outcomeIn b → give (p .state) o ≡ refused k
+pub step-refused : (p : Progress) (b : ℕ) (o : Outcome) (k : ℕ) → (b ≡ 0 → ⊥) → o ≡ outcomeIn b → answer (give (p .state) o) ≡ refused k
     → p ≡ step p (callIn b)
 unfolding callIn
 step-refused p b o k n e g = rw (ne-eqb b 0 n, sym e, g)

@@ -4,26 +4,31 @@ use mathlib.Core.Bool.{true, false, _&&_}
 use Prim.Native.Nat.{ℕ, _≤_, _<_}
 use native.Mathlib.Omega.{arith}
 use lib.Dec.{leb, ltb}
-use borrow.Author.Tests.{eqb-true, leb-true, ltb-true, eq-eqb, le-leb, lt-ltb}
+use borrow.Author.Tests.{eqb-true, leb-true, ltb-true, eq-eqb, le-leb, lt-ltb, not-false}
 use Rattle.lists.proofs.Tests.{and-true, not-both}
 use Rattle.answers.specs.Answers.{given, refused}
+use Rattle.answers.specs.declared.Verdict.{Verdict}
+use Rattle.answers.specs.declared.Verdict.the-variants as verdict
+use Rattle.answers.specs.Checks.{Judges, check, answer}
+use Rattle.answers.proofs.Checks.{none-judged}
 use Rattle.limits.specs.Limits.{maxLinks}
 use Rattle.search.specs.declared.Search.{Search}
 use Rattle.search.specs.declared.Search.the-variants.{Checking, Halving, AllUp, Down}
-use Rattle.search.specs.Search.{counts, sound, soundFor, ended, wanted, unlessRefused}
+use Rattle.search.specs.Search.{counts, sound, soundFor, ended, wanted, callChecks}
 use Rattle.search.specs.Sound.{Good}
 
 -- ---- what a call answers
 
 module _ {A : Type 0} (s : Search) (a : A) where
-  pub answers-14 : sound s ≡ false → unlessRefused s a ≡ refused 14
-  answers-14 e = rw e
-
-  pub answers-15 : sound s ≡ true → ended s ≡ true → unlessRefused s a ≡ refused 15
+  pub answers-15 : sound s ≡ true → ended s ≡ true → answer (check (callChecks s) a) ≡ refused 15
   answers-15 e q = rw (e, q)
 
-  pub answers-given : sound s ≡ true → ended s ≡ false → unlessRefused s a ≡ given a
+  pub answers-given : sound s ≡ true → ended s ≡ false → answer (check (callChecks s) a) ≡ given a
   answers-given e q = rw (e, q)
+
+-- a state that a call accepts is sound
+pub judged-sound : (s : Search) (v : Verdict) → Judges (callChecks s) v → v ≡ verdict.Accepted → sound s ≡ true
+judged-sound s v j e = not-false (sound s) (none-judged (callChecks s) v j e .0)
 
 -- ---- a sound state
 

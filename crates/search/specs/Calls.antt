@@ -6,6 +6,7 @@ use Prim.Native.Nat.{ℕ, _+_}
 use lib.Dec.{eqb}
 use Rattle.lists.specs.Tests.{choose}
 use Rattle.answers.specs.Answers.{Answer, given, refused}
+use Rattle.answers.specs.Checks.{answer}
 use Rattle.search.specs.declared.Search.{Search}
 use Rattle.search.specs.declared.Outcome.{Outcome}
 use Rattle.search.specs.declared.Outcome.the-variants.{Returned, Lost}
@@ -34,7 +35,7 @@ counted p (refused n) = p
 
 abbrev pub step : Progress → Call → Progress
 step p asks = p
-step p (gives o) = counted p (give (p .state) o)
+step p (gives o) = counted p (answer (give (p .state) o))
 
 abbrev pub perform : Progress → List Call → Progress
 perform p [] = p
@@ -49,7 +50,7 @@ begun e = record { state = newSearch e; probes = 0 }
 module _ (true? : ℕ → Outcome → Type 0) where
   abbrev pub TrueCall : Search → Call → Type 0
   TrueCall s asks = Unit
-  TrueCall s (gives o) = (m : ℕ) → ask s ≡ given m → true? m o
+  TrueCall s (gives o) = (m : ℕ) → answer (ask s) ≡ given m → true? m o
 
   abbrev pub TrueCalls : Progress → List Call → Type 0
   TrueCalls p [] = Unit

@@ -1,9 +1,11 @@
 -- The search of document 01: its states, the probe that each wants, the state after an outcome, refusals 14 and 15, and the calls. Assumes nothing.
 use mathlib.Core.Bool.{Bool, true, false, not, _&&_}
+use mathlib.Core.List.{[], _∷_}
 use Prim.Native.Nat.{ℕ, _+_, _/_}
 use lib.Dec.{eqb, leb, ltb}
 use Rattle.lists.specs.Tests.{choose}
-use Rattle.answers.specs.Answers.{numberOf, Answer, given, refused, refuse}
+use Rattle.answers.specs.Answers.{numberOf, Answer, given, refused}
+use Rattle.answers.specs.Checks.{Conditions, Checked, check}
 use Rattle.limits.specs.Limits.{maxLinks}
 use Rattle.search.specs.declared.Search.{Search}
 use Rattle.search.specs.declared.Search.the-variants.{Checking, Halving, AllUp, Down}
@@ -67,17 +69,17 @@ next (Down place) o = Down place
 
 -- ---- the calls
 
--- what a call to a search answers, unless it is refused
-abbrev pub unlessRefused : {A : Type 0} → Search → A → Answer A
-unlessRefused s a = refuse 14 (not (sound s)) (refuse 15 (ended s) (given a))
+-- each of the two tries 14, then 15
+abbrev pub callChecks : Search → Conditions
+callChecks s = (14, not (sound s)) ∷ (15, ended s) ∷ []
 
 -- the call for a probe: its m
-unfoldable pub ask : Search → Answer ℕ
-ask s = unlessRefused s (wanted s)
+unfoldable pub ask : Search → Checked ℕ
+ask s = check (callChecks s) (wanted s)
 
 -- the call that gives an outcome: the next state
-unfoldable pub give : Search → Outcome → Answer Search
-give s o = unlessRefused s (next s o)
+unfoldable pub give : Search → Outcome → Checked Search
+give s o = check (callChecks s) (next s o)
 
 -- what the code's answers say
 abbrev pub askedOf : Asked → Answer ℕ

@@ -2,9 +2,11 @@
 ghost use mathlib.Core.Path.{_≡_};
 ghost use mathlib.Core.Bool.{true};
 ghost use Prim.Native.Nat.{_≤_, _<_, _+_};
-ghost use Rattle.search.specs.Search.{newSearch, counts, sound, soundFor, ended, wanted, settled, next, ask, give, askedOf, toldOf};
+ghost use Rattle.answers.specs.Checks.{Judges, answer};
+ghost use Rattle.search.specs.Search.{newSearch, counts, sound, soundFor, ended, wanted, settled, next, callChecks, ask, give, askedOf, toldOf};
 ghost use Rattle.search.specs.Calls.{outcomeIn, callIn, callsIn, step, perform, begun};
 use answers::Refusal;
+use answers::Verdict;
 use plant::Plant;
 
 // Checking a number of links, halving the places from low to high, all links are up, or the link at a place is down. Places count from 1 in the order of links.
@@ -121,30 +123,37 @@ impl Search {
         }
     }
 
-    // The call for a probe.
-    pub fn ask(self) -> Asked
-        ensures { λ r. ⌜ askedOf r ≡ ask self ⌝ }
+    // Refusals 14 and 15 of a call to a search.
+    fn judge(self) -> Verdict
+        ensures { λ r. ⌜ Judges (callChecks self) r ⌝ }
     {
         if !self.sound() {
-            return Asked::Refused(Refusal::SearchUnsound);
+            return Verdict::Refused(Refusal::SearchUnsound);
         }
         if self.ended() {
-            return Asked::Refused(Refusal::SearchEnded);
+            return Verdict::Refused(Refusal::SearchEnded);
         }
-        Asked::Probe(self.wanted())
+        Verdict::Accepted
+    }
+
+    // The call for a probe.
+    pub fn ask(self) -> Asked
+        ensures { λ r. ⌜ askedOf r ≡ answer (ask self) ⌝ }
+    {
+        match self.judge() {
+            Verdict::Accepted => Asked::Probe(self.wanted()),
+            Verdict::Refused(k) => Asked::Refused(k),
+        }
     }
 
     // The call that gives an outcome.
     pub fn give(self, o: Outcome) -> Told
-        ensures { λ r. ⌜ toldOf r ≡ give self o ⌝ }
+        ensures { λ r. ⌜ toldOf r ≡ answer (give self o) ⌝ }
     {
-        if !self.sound() {
-            return Told::Refused(Refusal::SearchUnsound);
+        match self.judge() {
+            Verdict::Accepted => Told::State(self.next(o)),
+            Verdict::Refused(k) => Told::Refused(k),
         }
-        if self.ended() {
-            return Told::Refused(Refusal::SearchEnded);
-        }
-        Told::State(self.next(o))
     }
 }
 

@@ -1,6 +1,9 @@
 -- `planner::find_bridges` meets its contract. Assumes nothing.
-use Rattle.planner.proofs.Plans.{read-sound, read-refused}
-use Rattle.planner.proofs.Bridging.{bridges-given, bridges-refused}
+use mathlib.Core.Path.{refl, sym}
+use Rattle.planning.specs.Planning.{planning}
+use Rattle.planner.specs.Calls.{bridgeFlags, bridging}
+use Rattle.planner.proofs.Trailing.{flags-are}
+use Rattle.answers.proofs.Beside.{beside-given, beside-refused, on-giving, off-giving}
 use borrow.Author.Needs.{needs}
 use Rattle.planner.proofs.find_bridges.Statement.{statement}
 use Rattle.planner.proofs.find_bridges.Tie as tie
@@ -18,14 +21,16 @@ enum-known-v : tie.Need-enum-known-v
 enum-known-v c = search needs
 
 returns : tie.Need-returns
+unfolding bridging
 returns c =
     let m = c .before in
-    bridges-given _ _ _ (read-sound _ _ (m .before .before .plan .ensures .0) (m .enum-told .given .1)) (c .bridges .ensures)
+    beside-given _ _ _ _ refl (sym (on-giving _ (planning _) _ _ (m .before .before .plan .ensures .0) bridgeFlags _ (m .enum-told .given .1) (flags-are _ _ (c .bridges .ensures))))
 
 returns-2 : tie.Need-returns-2
+unfolding bridging
 returns-2 c =
     let m = c .before in
-    bridges-refused _ _ (read-refused _ _ (m .before .before .plan .ensures .0) _ (m .v .given .1))
+    beside-refused _ _ _ _ _ refl refl (sym (off-giving _ (planning _) _ _ (m .before .before .plan .ensures .0) bridgeFlags _ (m .v .given .1)))
 
 pub find-bridges-spec : {M : Type 1} → statement M
 find-bridges-spec =

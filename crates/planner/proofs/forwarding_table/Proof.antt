@@ -1,6 +1,9 @@
 -- `planner::forwarding_table` meets its contract. Assumes nothing.
-use Rattle.planner.proofs.Plans.{read-sound, read-refused}
-use Rattle.planner.proofs.Tabling.{table-given, table-refused}
+use mathlib.Core.Path.{refl, sym}
+use Rattle.table.specs.Rules.{tableOf}
+use Rattle.planning.specs.Planning.{planning}
+use Rattle.planner.specs.Calls.{tabling}
+use Rattle.answers.proofs.Beside.{beside-given, beside-refused, on-giving, off-giving}
 use borrow.Author.Needs.{needs}
 use Rattle.planner.proofs.forwarding_table.Statement.{statement}
 use Rattle.planner.proofs.forwarding_table.Tie as tie
@@ -26,14 +29,16 @@ empty-requires : tie.Need-empty-requires
 empty-requires c κs = search needs
 
 returns : tie.Need-returns
+unfolding tabling
 returns c =
     let m = c .before .before .before in
-    table-given _ _ _ (read-sound _ _ (m .before .before .plan .ensures .0) (m .enum-told .given .1)) (c .table-of .ensures)
+    beside-given _ _ _ _ refl (sym (on-giving _ (planning _) _ _ (m .before .before .plan .ensures .0) tableOf _ (m .enum-told .given .1) (c .table-of .ensures)))
 
 returns-2 : tie.Need-returns-2
+unfolding tabling
 returns-2 c =
     let m = c .before .before in
-    table-refused _ _ _ (read-refused _ _ (m .before .before .plan .ensures .0) _ (m .v .given .1)) (c .empty .ensures)
+    beside-refused _ _ _ _ _ refl (c .empty .ensures) (sym (off-giving _ (planning _) _ _ (m .before .before .plan .ensures .0) tableOf _ (m .v .given .1)))
 
 pub forwarding-table-spec : {M : Type 1} → statement M
 forwarding-table-spec =

@@ -1,6 +1,6 @@
 -- `planner::lay_trail` meets its contract. Assumes nothing.
 use mathlib.Core.Path.{_∙_}
-use Rattle.planner.proofs.Plans.{read-sound, read-refused}
+use Rattle.answers.proofs.Beside.{accepted, was-refused}
 use Rattle.planner.proofs.Trailing.{trail-given, left-given, trail-refused, left-refused}
 use borrow.Author.Needs.{needs}
 use Rattle.planner.proofs.lay_trail.Statement.{statement}
@@ -25,14 +25,14 @@ returns : tie.Need-returns
 returns c =
     let t = c .before .before in
     let m = t .before .before .before in
-    let e = read-sound _ _ (m .before .before .plan .ensures .0) (m .enum-told .given .1) in
-    (t .put-trail .ensures .0 ∙ trail-given _ _ e _, t .put-trail .ensures .1 ∙ left-given _ _ e _)
+    let e = accepted _ _ _ _ (m .before .before .plan .ensures .0) (m .enum-told .given .1) in
+    (t .put-trail .ensures .0 ∙ trail-given _ _ _ e, t .put-trail .ensures .1 ∙ left-given _ _ _ e)
 
 returns-2 : tie.Need-returns-2
 returns-2 c =
     let m = c .before in
-    let e = read-refused _ _ (m .before .before .plan .ensures .0) _ (m .v .given .1) in
-    (trail-refused _ _ e _, left-refused _ _ e _)
+    let e = was-refused _ _ _ _ (m .before .before .plan .ensures .0) _ (m .v .given .1) in
+    (trail-refused _ _ _ e, left-refused _ _ _ e)
 
 pub lay-trail-spec : {M : Type 1} → statement M
 lay-trail-spec =

@@ -1,10 +1,12 @@
 -- `planner::put_trail` meets its contract. Assumes nothing.
-use mathlib.Core.Path.{_∙_}
+use mathlib.Core.Path.{ap, _∙_}
 use Prim.Native.Nat.{_≤_, _<_}
 use native.Mathlib.Omega.{arith}
 use lib.ListN.{length}
 use Rattle.routes.specs.Plants.{trailOf}
-use Rattle.planner.proofs.Trailing.{planned, lay-short, kept-short, lay-enough, laid-enough}
+use Rattle.planning.proofs.Counted.{planned}
+use Rattle.planner.specs.Calls.{trailLeft}
+use Rattle.planner.proofs.Trailing.{lay-short, lay-enough}
 use borrow.Author.Needs.{needs}
 use Rattle.planner.proofs.put_trail.Statement.{statement}
 use Rattle.planner.proofs.put_trail.Tie as tie
@@ -30,7 +32,8 @@ returns : tie.Need-returns
 returns c =
     let k = c .before .before .before .before .before .before .before in
     let h : length (k .args .buffer .now) < length (trailOf (k .args .p)) = omega (arith, c .if1 .taken, c .before .hops .ensures) in
-    (lay-short (k .args .p) (k .args .buffer .now) h, kept-short (k .args .p) (k .args .buffer .now) h)
+    let r = lay-short (k .args .p) (k .args .buffer .now) h in
+    (r, ap (trailLeft (k .args .p) (k .args .buffer .now)) r)
 
 fill-requires : tie.Need-fill-requires
 fill-requires c κs =
@@ -50,7 +53,8 @@ returns-2 c =
     let i = f .before .before .before in
     let k = i .before .before .before .before .before .before .before in
     let h : length (trailOf (k .args .p)) ≤ length (k .args .buffer .now) = omega (arith, i .if1 .left, i .before .hops .ensures) in
-    (lay-enough (k .args .p) (k .args .buffer .now) h _ (i .before .hops .ensures), f .fill .ensures ∙ laid-enough (k .args .p) (k .args .buffer .now) h)
+    let r = lay-enough (k .args .p) (k .args .buffer .now) h _ (i .before .hops .ensures) in
+    (r, f .fill .ensures ∙ ap (trailLeft (k .args .p) (k .args .buffer .now)) r)
 
 pub put-trail-spec : {M : Type 1} → statement M
 put-trail-spec =

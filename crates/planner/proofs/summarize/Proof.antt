@@ -1,8 +1,8 @@
 -- `planner::summarize` meets its contract. Assumes nothing.
-use mathlib.Core.Path.{ap, _∙_}
-use Rattle.answers.specs.Answers.{given}
-use Rattle.planner.proofs.Plans.{read-sound, read-refused}
-use Rattle.planner.proofs.Trailing.{sum-given, sum-refused}
+use Rattle.planning.specs.Planning.{planning}
+use Rattle.planning.specs.Numbers.{numbersOf}
+use Rattle.planner.specs.Calls.{summing}
+use Rattle.answers.proofs.Beside.{on-giving, off-giving}
 use borrow.Author.Needs.{needs}
 use Rattle.planner.proofs.summarize.Statement.{statement}
 use Rattle.planner.proofs.summarize.Tie as tie
@@ -20,14 +20,16 @@ enum-known-v : tie.Need-enum-known-v
 enum-known-v c = search needs
 
 returns : tie.Need-returns
+unfolding summing
 returns c =
     let m = c .before .before in
-    ap given (c .numbers-of .ensures) ∙ sum-given _ _ (read-sound _ _ (m .before .before .plan .ensures .0) (m .enum-told .given .1))
+    on-giving _ (planning _) _ _ (m .before .before .plan .ensures .0) numbersOf _ (m .enum-told .given .1) (c .numbers-of .ensures)
 
 returns-2 : tie.Need-returns-2
+unfolding summing
 returns-2 c =
     let m = c .before in
-    sum-refused _ _ (read-refused _ _ (m .before .before .plan .ensures .0) _ (m .v .given .1))
+    off-giving _ (planning _) _ _ (m .before .before .plan .ensures .0) numbersOf _ (m .v .given .1)
 
 pub summarize-spec : {M : Type 1} → statement M
 summarize-spec =

@@ -2,7 +2,7 @@
 use mathlib.Core.Path.{sym}
 use native.Mathlib.Omega.{arith}
 use borrow.Author.Needs.{needs}
-use Rattle.planner.proofs.Plans.{read-sound, read-refused}
+use Rattle.answers.proofs.Beside.{accepted, was-refused}
 use Rattle.printing.proofs.put_listing.Statement.{statement}
 use Rattle.printing.proofs.put_listing.Tie as tie
 
@@ -36,7 +36,7 @@ returns : tie.Need-returns
 returns c =
     let l = c .before .before in
     let m = l .before .before .before in
-    rw (read-sound _ _ (m .before .before .plan .ensures .0) (m .enum-told .given .1)) (l .put-plant .ensures)
+    rw (accepted _ _ _ _ (m .before .before .plan .ensures .0) (m .enum-told .given .1)) (l .put-plant .ensures)
 
 same-length-2 : tie.Need-same-length-2
 same-length-2 c = search needs
@@ -45,7 +45,7 @@ returns-2 : tie.Need-returns-2
 returns-2 c =
     let l = c .before .before in
     let m = l .before .before .before .before in
-    rw (read-refused _ _ (m .before .before .plan .ensures .0) _ (m .v .given .1), sym (l .before .number .ensures)) (l .put-refusal .ensures .0)
+    rw (was-refused _ _ _ _ (m .before .before .plan .ensures .0) _ (m .v .given .1), sym (l .before .number .ensures)) (l .put-refusal .ensures .0)
 
 pub put-listing-spec : {M : Type 1} → statement M
 put-listing-spec =

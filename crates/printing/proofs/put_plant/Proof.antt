@@ -6,7 +6,7 @@ use Rattle.limits.specs.Limits.{maxHops}
 use Rattle.routes.specs.Plants.{trailOf}
 use Rattle.trail.proofs.Trails.{hops-limit}
 use Rattle.text.proofs.LaidLaws.{laid-same}
-use Rattle.planner.proofs.Trailing.{planned}
+use Rattle.planning.proofs.Counted.{planned}
 use Rattle.printing.proofs.PageLaws.{table-few, trail-room, plant-laid}
 use Rattle.printing.proofs.put_plant.Statement.{statement}
 use Rattle.printing.proofs.put_plant.Tie as tie

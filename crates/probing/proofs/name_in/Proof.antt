@@ -1,6 +1,6 @@
 -- The link named: refusals 12 and 14, then what the search names. Assumes nothing.
 use mathlib.Core.Path.{sym, _∙_}
-use Rattle.planner.proofs.Trailing.{planned}
+use Rattle.planning.proofs.Counted.{planned}
 use Rattle.probing.specs.Calls.{nameIn}
 use Rattle.answers.proofs.Checks.{holds, fails}
 use Rattle.probing.proofs.Lent.{trail-same}

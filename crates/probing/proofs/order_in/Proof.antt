@@ -1,10 +1,11 @@
 -- The order of links: refusal 12, then the order. Assumes nothing.
 use mathlib.Core.Path.{sym, _∙_}
-use Rattle.planner.proofs.Trailing.{planned}
+use Rattle.planning.proofs.Counted.{planned}
 use Rattle.probing.specs.Calls.{orderIn}
 use Rattle.answers.proofs.Checks.{holds}
 use Rattle.probing.proofs.Lent.{trail-same, lent-arcs}
-use Rattle.probing.proofs.Results.{orders-as, ordered}
+use Rattle.answers.proofs.Beside.{beside-as}
+use Rattle.probing.proofs.Results.{ordered}
 use borrow.Author.Needs.{needs}
 use Rattle.probing.proofs.order_in.Statement.{statement}
 use Rattle.probing.proofs.order_in.Tie as tie
@@ -20,7 +21,7 @@ refused-order-requires c κs = search needs
 
 returns : tie.Need-returns
 unfolding orderIn
-returns c = orders-as _ _ _ (holds 12 _ _ (sym (c .before .before .differs .ensures) ∙ c .before .if1 .taken)) (c .refused-order .ensures)
+returns c = beside-as _ _ _ _ _ (holds 12 _ _ (sym (c .before .before .differs .ensures) ∙ c .before .if1 .taken)) (c .refused-order .ensures)
 
 order-of-requires : tie.Need-order-of-requires
 order-of-requires c κs =

@@ -1,9 +1,8 @@
 -- The refusals of the plant, then what is answered in it. Assumes nothing.
 use mathlib.Core.Path.{refl}
-use Rattle.planner.proofs.Plans.{read-sound, read-refused}
-use Rattle.probing.specs.Calls.{ordering}
-use Rattle.answers.proofs.Checks.{after-given, after-refused}
-use Rattle.probing.proofs.Results.{orders-as}
+use Rattle.probing.specs.Calls.{orderIn, ordering}
+use Rattle.answers.proofs.Beside.{beside-as, on-then, off-then}
+use Rattle.planning.specs.Planning.{planningAt}
 use borrow.Author.Needs.{needs}
 use Rattle.probing.proofs.order_of_links.Statement.{statement}
 use Rattle.probing.proofs.order_of_links.Tie as tie
@@ -27,13 +26,13 @@ returns : tie.Need-returns
 unfolding ordering
 returns c =
     let m = c .before .before in
-    orders-as _ _ _ (after-given _ _ _ _ (read-sound _ _ (m .before .before .plan-at .ensures .0) (m .enum-told .given .1)) refl) (c .order-in .ensures)
+    beside-as _ _ _ _ _ (on-then _ (planningAt _ _) _ _ (m .before .before .plan-at .ensures .0) (orderIn _ _) _ (m .enum-told .given .1) refl) (c .order-in .ensures)
 
 returns-2 : tie.Need-returns-2
 unfolding ordering
 returns-2 c =
     let m = c .before .before in
-    orders-as _ _ _ (after-refused _ _ _ (read-refused _ _ (m .before .before .plan-at .ensures .0) _ (m .v .given .1))) (c .refused-order .ensures)
+    beside-as _ _ _ _ _ (off-then _ (planningAt _ _) _ _ (m .before .before .plan-at .ensures .0) (orderIn _ _) _ (m .v .given .1)) (c .refused-order .ensures)
 
 pub order-of-links-spec : {M : Type 1} → statement M
 order-of-links-spec =

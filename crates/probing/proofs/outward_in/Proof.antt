@@ -1,9 +1,8 @@
 -- The outward labels: refusal 12, then 14 and 15 or the probe wanted. Assumes nothing.
-use mathlib.Core.Path.{sym, ap, _∙_}
-use Rattle.answers.specs.Answers.{given}
-use Rattle.planner.proofs.Trailing.{planned}
-use Rattle.probing.specs.Calls.{outwardIn}
-use Rattle.answers.proofs.Checks.{holds, fails, after-given, after-refused}
+use mathlib.Core.Path.{sym, _∙_}
+use Rattle.planning.proofs.Counted.{planned}
+use Rattle.probing.specs.Calls.{outSpan, outwardIn}
+use Rattle.answers.proofs.Checks.{holds, fails}
 use Rattle.probing.proofs.Lent.{trail-same}
 use Rattle.probing.proofs.Searching.{probe-given, probe-among, probe-refused}
 use borrow.Author.Needs.{needs}
@@ -44,7 +43,7 @@ returns-2 c =
     let d = a .before in
     let s = d .before .before .before .before in
     fails 12 _ _ _ (sym (d .before .differs .ensures) ∙ d .if1 .left)
-    (after-given _ _ _ _ (probe-given (s .args .p) _ _ (a .probe-wanted .ensures) _ (n .m .given .1)) (ap given (c .span-in .ensures)))
+    (probe-given (s .args .p) _ _ (a .probe-wanted .ensures) (outSpan (s .args .p) _) _ _ (n .m .given .1) (c .span-in .ensures))
 
 returns-3 : tie.Need-returns-3
 unfolding outwardIn
@@ -54,7 +53,7 @@ returns-3 c =
     let d = a .before in
     let s = d .before .before .before .before in
     fails 12 _ _ _ (sym (d .before .differs .ensures) ∙ d .if1 .left)
-    (after-refused _ _ _ (probe-refused (s .args .p) _ _ (a .probe-wanted .ensures) _ (n .k .given .1)))
+    (probe-refused (s .args .p) _ _ (a .probe-wanted .ensures) (outSpan (s .args .p) _) _ (n .k .given .1))
 
 pub outward-in-spec : {M : Type 1} → statement M
 outward-in-spec =

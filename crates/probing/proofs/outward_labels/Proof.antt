@@ -1,7 +1,8 @@
 -- The refusals of the plant, then what is answered in it. Assumes nothing.
-use Rattle.planner.proofs.Plans.{read-sound, read-refused}
-use Rattle.probing.specs.Calls.{outgoing}
-use Rattle.answers.proofs.Checks.{after-given, after-refused}
+use Rattle.probing.specs.Calls.{outwardIn, outgoing}
+use Rattle.answers.proofs.Beside.{on-then, off-then}
+use Rattle.planning.specs.Planning.{planningAt}
+use Rattle.probing.proofs.OutwardLabels.{outward-parts}
 use borrow.Author.Needs.{needs}
 use Rattle.probing.proofs.outward_labels.Statement.{statement}
 use Rattle.probing.proofs.outward_labels.Tie as tie
@@ -22,13 +23,15 @@ returns : tie.Need-returns
 unfolding outgoing
 returns c =
     let m = c .before .before in
-    after-given _ _ _ _ (read-sound _ _ (m .before .before .plan-at .ensures .0) (m .enum-told .given .1)) (c .outward-in .ensures)
+    let r = on-then _ (planningAt _ _) _ _ (m .before .before .plan-at .ensures .0) (outwardIn _ _ _) _ (m .enum-told .given .1) (c .outward-in .ensures) in
+    (r, outward-parts _ _ _ _ _ r)
 
 returns-2 : tie.Need-returns-2
 unfolding outgoing
 returns-2 c =
     let m = c .before in
-    after-refused _ _ _ (read-refused _ _ (m .before .before .plan-at .ensures .0) _ (m .v .given .1))
+    let r = off-then _ (planningAt _ _) _ _ (m .before .before .plan-at .ensures .0) (outwardIn _ _ _) _ (m .v .given .1) in
+    (r, outward-parts _ _ _ _ _ r)
 
 pub outward-labels-spec : {M : Type 1} → statement M
 outward-labels-spec =

@@ -1,7 +1,7 @@
 -- The refusals of the plant, then what is answered in it. Assumes nothing.
-use Rattle.planner.proofs.Plans.{read-sound, read-refused}
-use Rattle.probing.specs.Calls.{running}
-use Rattle.answers.proofs.Checks.{after-given, after-refused}
+use Rattle.probing.specs.Calls.{runIn, running}
+use Rattle.answers.proofs.Beside.{on-then, off-then}
+use Rattle.planning.specs.Planning.{planningAt}
 use borrow.Author.Needs.{needs}
 use Rattle.probing.proofs.run.Statement.{statement}
 use Rattle.probing.proofs.run.Tie as tie
@@ -22,13 +22,13 @@ returns : tie.Need-returns
 unfolding running
 returns c =
     let m = c .before .before in
-    after-given _ _ _ _ (read-sound _ _ (m .before .before .plan-at .ensures .0) (m .enum-told .given .1)) (c .run-in .ensures)
+    on-then _ (planningAt _ _) _ _ (m .before .before .plan-at .ensures .0) (runIn _ _ _) _ (m .enum-told .given .1) (c .run-in .ensures)
 
 returns-2 : tie.Need-returns-2
 unfolding running
 returns-2 c =
     let m = c .before in
-    after-refused _ _ _ (read-refused _ _ (m .before .before .plan-at .ensures .0) _ (m .v .given .1))
+    off-then _ (planningAt _ _) _ _ (m .before .before .plan-at .ensures .0) (runIn _ _ _) _ (m .v .given .1)
 
 pub run-spec : {M : Type 1} → statement M
 run-spec =

@@ -1,8 +1,8 @@
--- `planner::numbers_of` meets its contract. Assumes nothing.
-use Rattle.planner.proofs.Trailing.{planned}
+-- `planning::numbers_of` meets its contract. Assumes nothing.
+use Rattle.planning.proofs.Counted.{planned}
 use borrow.Author.Needs.{needs}
-use Rattle.planner.proofs.numbers_of.Statement.{statement}
-use Rattle.planner.proofs.numbers_of.Tie as tie
+use Rattle.planning.proofs.numbers_of.Statement.{statement}
+use Rattle.planning.proofs.numbers_of.Tie as tie
 
 bridges-requires : tie.Need-bridges-requires
 bridges-requires c κs = search needs

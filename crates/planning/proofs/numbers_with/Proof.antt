@@ -1,9 +1,9 @@
--- `planner::numbers_with` meets its contract: the flags that are set are as many as the bridges and the arcs in use. Assumes nothing.
+-- `planning::numbers_with` meets its contract: the flags that are set are as many as the bridges and the arcs in use. Assumes nothing.
 use native.Mathlib.Omega.{arith}
-use Rattle.planner.proofs.Trailing.{bridges-few, rules-few, numbers-are}
+use Rattle.planning.proofs.Counted.{bridges-few, rules-few, numbers-are}
 use borrow.Author.Needs.{needs}
-use Rattle.planner.proofs.numbers_with.Statement.{statement}
-use Rattle.planner.proofs.numbers_with.Tie as tie
+use Rattle.planning.proofs.numbers_with.Statement.{statement}
+use Rattle.planning.proofs.numbers_with.Tie as tie
 
 slice-aggregate-count-set : tie.Need-slice-aggregate-count-set
 slice-aggregate-count-set c = search needs

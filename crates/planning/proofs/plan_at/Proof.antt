@@ -1,8 +1,8 @@
--- `planner::plan_at` meets its contract. Assumes nothing.
-use Rattle.planner.proofs.Plans.{at-inside, at-outside, at-refused, none-ready}
+-- `planning::plan_at` meets its contract. Assumes nothing.
+use Rattle.planning.proofs.Plans.{at-inside, at-outside, at-refused, none-ready}
 use borrow.Author.Needs.{needs}
-use Rattle.planner.proofs.plan_at.Statement.{statement}
-use Rattle.planner.proofs.plan_at.Tie as tie
+use Rattle.planning.proofs.plan_at.Statement.{statement}
+use Rattle.planning.proofs.plan_at.Tie as tie
 
 plan-requires : tie.Need-plan-requires
 plan-requires c κs = search needs

@@ -1,0 +1,72 @@
+-- What demand 2 says of packets, rules and injection. Assumes a sound connected plant where it speaks of its trail.
+use mathlib.Core.Path.{_≡_, refl, sym, ap, _∙_, subst}
+use mathlib.Core.Logic.{_↔_}
+use mathlib.Core.Bool.{Bool, true, false, _&&_}
+use mathlib.Core.List.{List, [], _∷_, _++_}
+use Prim.Native.Nat.{ℕ, suc, _+_, _*_, _/_, _≤_, _<_}
+use native.Mathlib.Omega.{arith}
+use borrow.Author.Tests.{eqb-true, eq-eqb, ne-eqb}
+use lib.Dec.{T, eqb}
+use lib.ListN.{length}
+use Rattle.lists.proofs.Tests.{and-true, true-T, T-true}
+use Rattle.plant.specs.declared.Plant.{Plant}
+use Rattle.limits.specs.Sound.{Sound}
+use Rattle.walks.specs.Arcs.{tail, head}
+use Rattle.walks.specs.Graph.{Connected, liveLinks}
+use Rattle.walks.proofs.Valid.{sound-valid}
+use Rattle.routes.specs.Plants.{trailOf}
+use Rattle.rings.specs.Packet.{run, rulesFor}
+use Rattle.rings.specs.Rules.{inTable, inAll}
+use Rattle.rings.specs.Ring.{readFrom, ring}
+use Rattle.rings.specs.Order.{nth, order}
+use Rattle.rings.specs.Probe.{upTo, back, outward, probe}
+use Rattle.rings.specs.Injection.{placeOf, ringOf, orderOf, probeRules, probeOf, probeRun}
+use Rattle.rings.proofs.Packet.{lost-no-rule, lost-link-down}
+use Rattle.rings.proofs.Ring as rings
+use Rattle.rings.proofs.Probe as probes
+use Rattle.rings.proofs.Rules.{all-rules}
+use Rattle.rings.proofs.Injection.{has-place, order-links, order-once, order-length, full-run}
+use Rattle.probing.proofs.Lent.{trail-of}
+use Rattle.demands.specs.Demands.{RunIs, RulesAre, InjectionIs}
+
+pub run-is : (rule : ℕ → ℕ → Bool) (up : ℕ → Bool) (hd : ℕ → ℕ) → RunIs rule up hd
+run-is rule up hd = record {
+  crosses = λ at n a w e f. rw (e, f) refl;
+  ends = λ at n. refl;
+  no-rule = lost-no-rule rule up hd;
+  link-down = lost-link-down rule up hd;
+}
+
+-- a rule for each arc of a kind, at the switch that it leaves
+rule-is : (kind : ℕ → Bool) (tl : ℕ → ℕ) (at a : ℕ) → (rulesFor kind tl at a ≡ true) ↔ (T (kind a) × (tl a ≡ at))
+unfolding rulesFor
+rule-is kind tl at a = (
+  λ e. let r = and-true (kind a) (eqb (tl a) at) e in (true-T (kind a) (r .0), eqb-true (tl a) at (r .1)),
+  λ h. rw (T-true (kind a) (h .0), eq-eqb (tl a) at (h .1)) refl,
+)
+
+pub rules-are : (p : Plant) → RulesAre p
+unfolding inTable inAll
+rules-are p = record { table = rule-is _ (tail p); all = rule-is _ (tail p); number = all-rules p }
+
+module _ (p : Plant) (ok : Sound p) (con : Connected p) (x : ℕ) (x-in : x < p .switches) where
+  abbrev w : List ℕ
+  w = trailOf p
+
+  below : (up : ℕ → Bool) (m : ℕ) → m < liveLinks p
+      → probeRun p w x up m ≡ run (inAll p) up (head p) x 0 (upTo (nth (orderOf p w x) m) (ringOf p w x) ++ back (upTo (nth (orderOf p w x) m) (ringOf p w x)))
+  unfolding probeRun probeRules probeOf probe outward orderOf
+  below up m h = rw (ne-eqb m (liveLinks p) (λ e. omega arith)) refl
+
+  pub injection-is : InjectionIs p x
+  unfolding ringOf ring readFrom orderOf order outward
+  injection-is = record {
+    place = has-place p (sound-valid p ok) con w (trail-of p ok con) x x-in;
+    place-empty = λ e. rw e (rings.place-empty (tail p) x);
+    ring = refl;
+    order-each = order-links p (sound-valid p ok) con w (trail-of p ok con) x x-in;
+    order-once = order-once p w x;
+    order-rises = λ i j h k l. probes.order-rises (ringOf p w x) i j h k (omega (arith, order-length p (sound-valid p ok) con w (trail-of p ok con) x x-in));
+    probe = below;
+    full-check = full-run p w x;
+  }

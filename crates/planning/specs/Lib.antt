@@ -1,0 +1,2 @@
+pub mod Planning
+pub mod Numbers

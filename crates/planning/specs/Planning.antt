@@ -1,0 +1,34 @@
+-- What every call that is given a listing and does more than read it begins with: refusals 1 to 9, and 11 where it is also given a switch (document 01, "Refusals in
+-- checking order").
+use mathlib.Core.Path.{_≡_}
+use mathlib.Core.Bool.{Bool, not}
+use mathlib.Core.List.{List, [], _∷_}
+use Prim.Native.Nat.{ℕ}
+use lib.Dec.{leb}
+use Rattle.plant.specs.declared.Plant.{Plant}
+use Rattle.answers.specs.declared.Verdict.the-variants as verdict
+use Rattle.answers.specs.Checks.{Checked, check, _then_}
+use Rattle.limits.specs.Sound.{Sound}
+use Rattle.walks.specs.Graph.{Connected, connected}
+use Rattle.listing.specs.declared.Decoded.{Decoded}
+use Rattle.listing.specs.Conditions.{reading}
+
+-- 9: some switch can't be reached from the start
+unfoldable pub notConnected : Plant → Bool
+notConnected p = not (connected p)
+
+-- 1 to 9, or the plant
+unfoldable pub planning : List ℕ → Checked Plant
+planning s = reading s then λ p. check ((9, notConnected p) ∷ []) p
+
+-- 11: a named switch is not below S
+unfoldable pub switchOutOfRange : Plant → ℕ → Bool
+switchOutOfRange p x = leb (p .switches) x
+
+-- 1 to 9, then 11, or the plant
+unfoldable pub planningAt : List ℕ → ℕ → Checked Plant
+planningAt s x = planning s then λ p. check ((11, switchOutOfRange p x) ∷ []) p
+
+-- where a plan is not refused, its plant is sound and connected
+abbrev pub Ready : Decoded → Type 0
+Ready r = r .verdict ≡ verdict.Accepted → Sound (r .plant) × Connected (r .plant)

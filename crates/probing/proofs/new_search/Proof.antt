@@ -1,0 +1,39 @@
+-- The refusals of the plant, then what is answered in it. Assumes nothing.
+use mathlib.Core.Path.{sym, ap, _∙_}
+use Rattle.answers.proofs.Beside.{on-giving, off-giving}
+use Rattle.walks.specs.Graph.{liveLinks}
+use Rattle.walks.proofs.Live.{all-live}
+use Rattle.search.specs.Search.{newSearch}
+use Rattle.planning.specs.Planning.{planningAt}
+use Rattle.probing.specs.Calls.{beginning}
+use borrow.Author.Needs.{needs}
+use Rattle.probing.proofs.new_search.Statement.{statement}
+use Rattle.probing.proofs.new_search.Tie as tie
+
+plan-at-requires : tie.Need-plan-at-requires
+plan-at-requires c κs = search needs
+
+enum-told : tie.Need-enum-told
+enum-told c = search needs
+
+new-requires : tie.Need-new-requires
+new-requires c κs = search needs
+
+enum-known-v : tie.Need-enum-known-v
+enum-known-v c = search needs
+
+returns : tie.Need-returns
+unfolding beginning
+returns c =
+    let m = c .before in
+    on-giving _ (planningAt _ _) _ _ (m .before .before .plan-at .ensures .0) (λ p. newSearch (liveLinks p)) _ (m .enum-told .given .1) (c .new .ensures ∙ ap newSearch (sym (all-live (m .before .before .plan-at .result .plant))))
+
+returns-2 : tie.Need-returns-2
+unfolding beginning
+returns-2 c =
+    let m = c .before in
+    off-giving _ (planningAt _ _) _ _ (m .before .before .plan-at .ensures .0) (λ p. newSearch (liveLinks p)) _ (m .v .given .1)
+
+pub new-search-spec : {M : Type 1} → statement M
+new-search-spec =
+    tie.close (tie.spec plan-at-requires enum-told new-requires enum-known-v returns returns-2)
