@@ -24,7 +24,7 @@ use Rattle.walks.proofs.Tests.{bridge-is, connected-is}
 use Rattle.walks.proofs.ByLinks.{visited-by-links}
 use Rattle.routes.specs.Plants.{trailOf}
 use Rattle.routes.proofs.Plants.{distance-fewest}
-use Rattle.trail.proofs.Trails.{trail-is, trail-closed, trail-by-legs}
+use Rattle.trail.proofs.Trails.{trail-is, trail-closed}
 use Rattle.planning.specs.Planning.{planning}
 use Rattle.planning.proofs.Plans.{plan-joined, plan-apart, plan-refused, plan-ready, at-given}
 use Rattle.planner.specs.Calls.{rewriting, rewritten, rereading, trailLeft}
@@ -49,7 +49,6 @@ plan-is p ok con =
       bridges = λ l h. bridge-is p valid l h;
       visit = visited-by-links p valid (p .switches) (omega arith);
       distances = distance-fewest p valid;
-      by-legs = sym (trail-by-legs p ok con);
       trail = trail-is p ok con;
       closed = trail-closed p ok con;
     }

@@ -31,7 +31,7 @@ use Rattle.rings.specs.Order.{nth}
 use Rattle.rings.specs.Probe.{upTo, back}
 use Rattle.rings.specs.Injection.{placeOf, ringOf, orderOf, probeRun}
 use Rattle.rings.specs.FirstDown.{FirstDown}
-use Rattle.trail.specs.Trails.{IsTrail, legsOf}
+use Rattle.trail.specs.Trails.{IsTrail}
 use Rattle.table.specs.Rules.{ruleOf, rulesOf, tableWith}
 use Rattle.order.specs.declared.Span.{Span}
 use Rattle.order.specs.Span.{stretchOf, frontOf}
@@ -91,8 +91,7 @@ pub record PlanIs (p : Plant) : Type 0 where
   -- "the fewest hops over arcs in use between every two switches"
   pub distances : (u v : ℕ) → u < p .switches → v < p .switches
       → Fewest (p .switches) (2 * p .count) (tail p) (head p) (used p) u v (distanceOf p u v)
-  -- the trail leg by leg; it is a closed walk from the start over exactly the arcs in use, of at most 20,479 hops
-  pub by-legs : trailOf p ≡ legsOf p
+  -- the trail, which is defined leg by leg, is a closed walk from the start over exactly the arcs in use, of at most 20,479 hops
   pub trail : IsTrail p (trailOf p)
   pub closed : ClosedWalk p (trailOf p)
 

@@ -10,5 +10,5 @@ abbrev pub cell : List (List ℕ) → ℕ → ℕ → ℕ
 cell t i j = getD (getD t i []) j 0
 
 -- the table that holds f u v in row u at place v
-unfoldable pub tableOf : (ℕ → ℕ → ℕ) → List (List ℕ)
-tableOf f = map (λ u. map (f u) (range 0 maxSwitches)) (range 0 maxSwitches)
+unfoldable pub grid : (ℕ → ℕ → ℕ) → List (List ℕ)
+grid f = map (λ u. map (f u) (range 0 maxSwitches)) (range 0 maxSwitches)

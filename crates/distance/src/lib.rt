@@ -1,10 +1,11 @@
-// The fewest hops over arcs in use between every two switches, as a table by value.
+// The fewest hops over arcs in use between every two switches, as a table by value. Inner: no call of document 01 is here.
 ghost use mathlib.Core.Path.{_≡_};
 ghost use Prim.Native.Nat.{_+_, _<_};
 ghost use lib.ListN.{replicate};
 ghost use Rattle.limits.specs.Limits.{maxSwitches};
 ghost use Rattle.limits.specs.Sound.{Sound};
-ghost use Rattle.distance.specs.Distances.{apartOf, knownOf, distancesOf};
+ghost use Rattle.distance.specs.Distances.{distancesIn};
+ghost use Rattle.distance.specs.Levels.{apartOf, knownOf};
 use plant::Plant;
 use plant::head_of;
 use plant::tail_of;
@@ -69,7 +70,7 @@ fn level(
 // The fewest hops from each switch to each over the arcs that are flagged; the number of switches where there is no walk.
 pub fn distances(p: Plant, used: [bool; Plant::LABELS]) -> [[u8; Plant::PLACES]; Plant::PLACES]
     requires { ⌜ Sound p ⌝ }
-    ensures { λ r. ⌜ r ≡ distancesOf p used ⌝ }
+    ensures { λ r. ⌜ r ≡ distancesIn p used ⌝ }
 {
     let s = p.switches;
     let mut t = apart(s);

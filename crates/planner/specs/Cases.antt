@@ -18,8 +18,8 @@ use Rattle.lists.specs.Numbers.{every}
 use Rattle.walks.specs.Visit.{scan, visit}
 use Rattle.walks.specs.Arcs.{tail, head}
 use Rattle.walks.specs.Graph.{arcs, others, visitFrom, visited, connected, bridge, entered, earlier, used}
-use Rattle.routes.specs.Distance.{sources, within, dist, hop}
-use Rattle.routes.specs.Trail.{near, nearest, mostHops, goal, next, trailFrom, trail}
+use Rattle.routes.specs.Distance.{sources, within, dist, hop, hops, route}
+use Rattle.routes.specs.Trail.{near, nearest, legs, trail}
 use Rattle.table.specs.Rules.{tableWith, rulesBelow, tableOf}
 use Rattle.search.specs.Search.{newSearch, give}
 use Rattle.search.specs.Calls.{begun}
@@ -100,5 +100,5 @@ abbrev table : List Row
 table = readings ++ planned ++ map as-row searches ++ map as-row quantities
 
 as-said : map (λ r. r .got) table ≡ map (λ r. r .said) table
-unfolding plantWith taken valueOf repeats mapMissing mapUndefined fieldMissing fieldRedundant fieldValues afterPart valueOutOfRange endOutOfRange selfLink bytesRemain withLinks conditions plantIn reading trail trailFrom mostHops next goal nearest near hop dist within sources leastFrom count used bridge entered earlier visited visitFrom arcs others visit scan tail head live every connected notConnected planning rulesBelow tableWith tableOf tabling placesShort laying laidOut trailing begun newSearch give orderQuantity
+unfolding plantWith taken valueOf repeats mapMissing mapUndefined fieldMissing fieldRedundant fieldValues afterPart valueOutOfRange endOutOfRange selfLink bytesRemain withLinks conditions plantIn reading trail legs nearest near route hops hop dist within sources leastFrom count used bridge entered earlier visited visitFrom arcs others visit scan tail head live every connected notConnected planning rulesBelow tableWith tableOf tabling placesShort laying laidOut trailing begun newSearch give orderQuantity
 as-said = refl

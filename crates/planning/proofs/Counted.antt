@@ -19,7 +19,7 @@ use Rattle.planning.specs.Numbers.{numbersOf}
 
 module _ (p : Plant) (sound : Sound p) where
   pub planned : (us : List Bool) → Connected p → Flags (2 * maxLinks) (used p) us → Planned p us
-  planned us con f = record { sound = sound; connected = con; flags = λ a h. f .tells a }
+  planned us con f = record { sound = sound; connected = con; flags = f .tells }
 
   -- ---- the numbers
 

@@ -13,8 +13,8 @@ use Rattle.listing.specs.Conditions.{conditions, plantIn, reading}
 use Rattle.walks.specs.Visit.{scan, visit}
 use Rattle.walks.specs.Arcs.{tail, head}
 use Rattle.walks.specs.Graph.{arcs, others, visitFrom, visited, connected, bridge, entered, earlier, used, liveLinks, bridges, arcsUsed}
-use Rattle.routes.specs.Distance.{sources, within, dist, hop}
-use Rattle.routes.specs.Trail.{near, nearest, mostHops, goal, next, trailFrom, trail}
+use Rattle.routes.specs.Distance.{sources, within, dist, hop, hops, route}
+use Rattle.routes.specs.Trail.{near, nearest, legs, trail}
 use Rattle.table.specs.Rules.{rulesBelow}
 use Rattle.text.specs.Decimal.{digits, decimal}
 use Rattle.text.specs.Lines.{line, pageOf}
@@ -27,5 +27,5 @@ abbrev listings : List (List ℕ)
 listings = (3 ∷ 4 ∷ 4 ∷ 0 ∷ 2 ∷ 1 ∷ 3 ∷ 1 ∷ 2 ∷ 3 ∷ 2 ∷ 0 ∷ 3 ∷ 0 ∷ 3 ∷ []) ∷ (0 ∷ []) ∷ [] ∷ []
 
 as-said : map printed listings ≡ map (λ r. r .1) (take 3 rows)
-unfolding plantWith taken valueOf repeats mapMissing mapUndefined fieldMissing fieldRedundant fieldValues afterPart valueOutOfRange endOutOfRange selfLink bytesRemain withLinks conditions plantIn reading trail trailFrom mostHops next goal nearest near hop dist within sources leastFrom count used bridge entered earlier visited visitFrom arcs others visit scan tail head live every connected notConnected planning rulesBelow liveLinks bridges arcsUsed digits decimal line pageOf plantOutput
+unfolding plantWith taken valueOf repeats mapMissing mapUndefined fieldMissing fieldRedundant fieldValues afterPart valueOutOfRange endOutOfRange selfLink bytesRemain withLinks conditions plantIn reading trail legs nearest near route hops hop dist within sources leastFrom count used bridge entered earlier visited visitFrom arcs others visit scan tail head live every connected notConnected planning rulesBelow liveLinks bridges arcsUsed digits decimal line pageOf plantOutput
 as-said = refl

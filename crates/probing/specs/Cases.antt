@@ -13,8 +13,8 @@ use Rattle.answers.specs.Answers.{Answer, given, refused, _>>=_}
 use Rattle.walks.specs.Visit.{scan, visit}
 use Rattle.walks.specs.Arcs.{opposite, tail, head}
 use Rattle.walks.specs.Graph.{arcs, others, visitFrom, visited, connected, bridge, entered, earlier, used, liveLinks}
-use Rattle.routes.specs.Distance.{sources, within, dist, hop}
-use Rattle.routes.specs.Trail.{near, nearest, mostHops, goal, next, trailFrom, trail}
+use Rattle.routes.specs.Distance.{sources, within, dist, hop, hops, route}
+use Rattle.routes.specs.Trail.{near, nearest, legs, trail}
 use Rattle.rings.specs.Packet.{rulesFor}
 use Rattle.rings.specs.Rules.{upBy, inTable, inAll}
 use Rattle.rings.specs.Ring.{readFrom, place, ring}
@@ -146,5 +146,5 @@ table =
     ∷ []
 
 as-said : (answer (planning triangle) >>= λ p. given (map (λ r. r .got p) table)) ≡ given (map (λ r. r .said) table)
-unfolding runIn checkIn orderIn outwardIn outSpan probeIn nameIn switchOutOfRange trailDiffers statesShort searchUnsound planningAt notConnected planning ringSpan spanOf listed padded sameList plantWith taken valueOf repeats mapMissing mapUndefined fieldMissing fieldRedundant fieldValues afterPart listing.valueOutOfRange listing.endOutOfRange listing.selfLink listing.bytesRemain listing.withLinks conditions plantIn reading out outStretch outFront probeRules ringOf orderOf probeOf probeRun probe outward orders.order readFrom place ring upBy inTable inAll rulesFor trail trailFrom mostHops next goal nearest near hop dist within sources arcs others visitFrom visited connected bridge entered earlier used liveLinks opposite tail head scan visit live leastFrom count every
+unfolding runIn checkIn orderIn outwardIn outSpan probeIn nameIn switchOutOfRange trailDiffers statesShort searchUnsound planningAt notConnected planning ringSpan spanOf listed padded sameList plantWith taken valueOf repeats mapMissing mapUndefined fieldMissing fieldRedundant fieldValues afterPart listing.valueOutOfRange listing.endOutOfRange listing.selfLink listing.bytesRemain listing.withLinks conditions plantIn reading out outStretch outFront probeRules ringOf orderOf probeOf probeRun probe outward orders.order readFrom place ring upBy inTable inAll rulesFor trail legs nearest near route hops hop dist within sources arcs others visitFrom visited connected bridge entered earlier used liveLinks opposite tail head scan visit live leastFrom count every
 as-said = refl

@@ -100,10 +100,12 @@ fn judge_lent(p: Plant, used: [bool; Plant::LABELS], trail: &[u16], states: &[u8
     requires { ⌜ Planned p used ⌝ }
     ensures { λ r. ⌜ Judges (lentChecks p (now (trail .entry)) (now (states .entry))) r ⌝ }
 {
-    if differs(p, used, trail) {
+    let other = differs(p, used, trail);
+    let short = too_few(states, p.count);
+    if other {
         return Verdict::Refused(Refusal::TrailDiffers);
     }
-    if too_few(states, p.count) {
+    if short {
         return Verdict::Refused(Refusal::StatesShort);
     }
     Verdict::Accepted

@@ -1,24 +1,31 @@
 -- Laws of distance, hop and route: 0 from a switch to itself alone, one hop lessens it by one at most, some hop lessens it by one, and no walk is shorter.
 -- Assumes nothing of the arcs.
-use mathlib.Core.Path.{_≡_, refl, sym, ap, _∙_, subst}
-use mathlib.Core.Logic.{_⊎_, inl, inr}
+use mathlib.Core.Path.{_≡_, refl, sym, ap, subst}
+use mathlib.Core.Logic.{inl, inr, ⊎-elim}
 use mathlib.Core.Bool.{Bool, _&&_}
 use mathlib.Core.List.{List, [], _∷_}
 use Prim.Native.Nat.{ℕ, zero, suc, _≤_, _<_}
 use native.Mathlib.Omega.{arith}
-use lib.Dec.{T, not-T, eqb, eqb→eq, ltb, ltb→lt, lt→ltb, nltb→le}
+use lib.Dec.{T, eqb, eqb→eq, ltb, ltb→lt, lt→ltb}
 use lib.ListN.{length}
-use Rattle.lists.proofs.Tests.{eq→eqb, T-or, and-left, and-right, and-both}
+use Rattle.lists.proofs.Tests.{eq→eqb, and-left, and-right, and-both}
 use Rattle.lists.specs.Members.{In, memb}
 use Rattle.lists.proofs.Members.{memb→in, in→memb}
 use Rattle.lists.specs.Least.{least}
 use Rattle.lists.proofs.Least.{least-top, least-passes, least-le}
 use Rattle.walks.specs.Walk.{Walk}
 use Rattle.routes.specs.Distance.{within, dist, lessens, hop, hops, route}
-use Rattle.routes.specs.Meaning.{InUse, Way, Hop}
-use Rattle.routes.proofs.Levels.{LeadsInto, within-hop, within-new}
+use Rattle.routes.specs.Meaning.{InUse, Way}
+use Rattle.routes.proofs.Levels.{le?, within-hop, within-new}
 
 module _ (S n : ℕ) (tl hd : ℕ → ℕ) (ok : ℕ → Bool) where
+  -- a is a hop from u towards v: an arc in use that leaves u and lessens the distance left by one
+  pub record Hop (u v a : ℕ) : Type 0 where
+    pub is-arc : a < n
+    pub in-use : T (ok a)
+    pub leaves : tl a ≡ u
+    pub nearer : suc (dist S n tl hd ok (hd a) v) ≡ dist S n tl hd ok u v
+
   abbrev level : ℕ → ℕ → List ℕ
   level k v = within S n tl hd ok k v
 
@@ -30,7 +37,7 @@ module _ (S n : ℕ) (tl hd : ℕ → ℕ) (ok : ℕ → Bool) where
   unfolding dist
   dist-top u v = least-top S (λ k. memb u (level k v))
 
-  pub dist-in : (u v : ℕ) → D u v < S → In u (level (D u v) v)
+  dist-in : (u v : ℕ) → D u v < S → In u (level (D u v) v)
   unfolding dist
   dist-in u v h = memb→in u (level (D u v) v) (least-passes S (λ k. memb u (level k v)) h)
 
@@ -44,32 +51,22 @@ module _ (S n : ℕ) (tl hd : ℕ → ℕ) (ok : ℕ → Bool) where
 
   -- one hop lessens the distance by one at most
   pub dist-hop : (a v : ℕ) → a < n → T (ok a) → D (tl a) v ≤ suc (D (hd a) v)
-  dist-hop a v h t = go (T-or (ltb (D (hd a) v) S))
-    where
-      go : T (ltb (D (hd a) v) S) ⊎ (T (ltb (D (hd a) v) S) → ⊥) → D (tl a) v ≤ suc (D (hd a) v)
-      go (inl u) = dist-le (suc (D (hd a) v)) (tl a) v (within-hop S n tl hd ok (D (hd a) v) a v h t (dist-in (hd a) v (ltb→lt (D (hd a) v) S u)))
-      go (inr u) = omega (arith, dist-top (tl a) v, nltb→le (D (hd a) v) S (not-T (ltb (D (hd a) v) S) u))
-
-  dist-nil : (u v k : ℕ) → D u v ≡ k → k ≡ 0 → k < S → u ≡ v
-  unfolding within
-  dist-nil u v k e z h = go (subst (λ (j : ℕ). In u (level j v)) (e ∙ z) (dist-in u v (omega arith)))
-    where
-      go : (u ≡ v) ⊎ ⊥ → u ≡ v
-      go (inl q) = q
-      go (inr q) = absurd q
+  dist-hop a v h t =
+      ⊎-elim (λ l. omega (arith, l, dist-top (tl a) v))
+      (λ l. dist-le (suc (D (hd a) v)) (tl a) v (within-hop S n tl hd ok (D (hd a) v) a v h t (dist-in (hd a) v l))) (le? S (D (hd a) v))
 
   pub dist-zero : (u v : ℕ) → 0 < S → D u v ≡ 0 → u ≡ v
-  dist-zero u v h e = dist-nil u v 0 e refl h
+  unfolding within
+  dist-zero u v h e = ⊎-elim (λ q. q) (λ q. absurd q) (subst (λ (j : ℕ). In u (level j v)) e (dist-in u v (omega arith)))
 
   -- a distance that is not 0 has an arc that lessens it by one
   pub dist-down : (u v k : ℕ) → D u v ≡ suc k → suc k < S → (a : ℕ) × InUse n ok a × (tl a ≡ u) × (D (hd a) v ≡ k)
-  dist-down u v k e h = go (within-new S n tl hd ok k u v (subst (λ (j : ℕ). In u (level j v)) e (dist-in u v (omega arith))))
-    where
-      go : In u (level k v) ⊎ LeadsInto S n tl hd ok u (level k v) → (a : ℕ) × InUse n ok a × (tl a ≡ u) × (D (hd a) v ≡ k)
-      go (inl i) = absurd (omega (arith, dist-le k u v i))
-      go (inr r) =
-          let t : D u v ≤ suc (D (hd (r .0)) v) = subst (λ (x : ℕ). D x v ≤ suc (D (hd (r .0)) v)) (sym (r .4)) (dist-hop (r .0) v (r .1) (r .2)) in
-          (r .0, (r .1, r .2), sym (r .4), omega (arith, dist-le k (hd (r .0)) v (r .3), t))
+  dist-down u v k e h =
+      ⊎-elim (λ i. absurd (omega (arith, dist-le k u v i)))
+      (λ r.
+      let t : D u v ≤ suc (D (hd (r .0)) v) = subst (λ (x : ℕ). D x v ≤ suc (D (hd (r .0)) v)) (sym (r .4)) (dist-hop (r .0) v (r .1) (r .2)) in
+      (r .0, (r .1, r .2), sym (r .4), omega (arith, dist-le k (hd (r .0)) v (r .3), t)))
+      (within-new S n tl hd ok k u v (subst (λ (j : ℕ). In u (level j v)) e (dist-in u v (omega arith))))
 
   -- no walk over arcs in use is shorter
   pub dist-least : (w : List ℕ) (u v : ℕ) → Walk tl hd w u v → ((a : ℕ) → In a w → InUse n ok a) → D u v ≤ length w
@@ -88,7 +85,7 @@ module _ (S n : ℕ) (tl hd : ℕ → ℕ) (ok : ℕ → Bool) where
   abbrev nears : ℕ → ℕ → ℕ → Bool
   nears u v a = eqb (tl a) u && ltb (D (hd a) v) (D u v)
 
-  pub lessens-hop : (u v a : ℕ) → a < n → T (lessens S n tl hd ok u v a) → Hop S n tl hd ok u v a
+  lessens-hop : (u v a : ℕ) → a < n → T (lessens S n tl hd ok u v a) → Hop u v a
   lessens-hop u v a h t =
       let live = and-left (ok a) (nears u v a) t in
       let rest = and-right (ok a) (nears u v a) t in
@@ -101,12 +98,12 @@ module _ (S n : ℕ) (tl hd : ℕ → ℕ) (ok : ℕ → Bool) where
         nearer = omega (arith, lt, ap (λ (x : ℕ). D x v) at, dist-hop a v h live);
       }
 
-  pub hop-lessens : (u v a : ℕ) → T (ok a) → tl a ≡ u → D (hd a) v < D u v → T (lessens S n tl hd ok u v a)
+  hop-lessens : (u v a : ℕ) → T (ok a) → tl a ≡ u → D (hd a) v < D u v → T (lessens S n tl hd ok u v a)
   hop-lessens u v a t e h =
       and-both (ok a) (nears u v a) t (and-both (eqb (tl a) u) (ltb (D (hd a) v) (D u v)) (eq→eqb e) (lt→ltb (D (hd a) v) (D u v) h))
 
   -- where the distance is not 0, there is a hop, and it lessens the distance by one
-  pub hop-law : (u v k : ℕ) → D u v ≡ suc k → suc k < S → Hop S n tl hd ok u v (hop S n tl hd ok u v)
+  pub hop-law : (u v k : ℕ) → D u v ≡ suc k → suc k < S → Hop u v (hop S n tl hd ok u v)
   unfolding hop
   hop-law u v k e h =
       let p = lessens S n tl hd ok u v in
@@ -118,20 +115,15 @@ module _ (S n : ℕ) (tl hd : ℕ → ℕ) (ok : ℕ → Bool) where
   -- ---- a route
 
   -- k hops are a walk to v where v is k hops away
-  pub hops-way : (k u v : ℕ) → D u v ≡ k → k < S → Way S n tl hd ok u v (hops S n tl hd ok k u v)
+  hops-way : (k u v : ℕ) → D u v ≡ k → k < S → Way S n tl hd ok u v (hops S n tl hd ok k u v)
   unfolding hops
   hops-way zero u v e h = record { is-walk = dist-zero u v h e; in-use = λ a i. absurd i }
   hops-way (suc k) u v e h =
       let l = hop-law u v k e h in
       let r = hops-way k (hd (hop S n tl hd ok u v)) v (omega (arith, l .nearer)) (omega arith) in
-      record { is-walk = (l .leaves, r .is-walk); in-use = λ a i. used l r a i }
-    where
-      used : Hop S n tl hd ok u v (hop S n tl hd ok u v) → Way S n tl hd ok (hd (hop S n tl hd ok u v)) v (hops S n tl hd ok k (hd (hop S n tl hd ok u v)) v)
-          → (a : ℕ) → (a ≡ hop S n tl hd ok u v) ⊎ In a (hops S n tl hd ok k (hd (hop S n tl hd ok u v)) v) → InUse n ok a
-      used l r a (inl q) = (omega (arith, l .is-arc), subst (λ (b : ℕ). T (ok b)) (sym q) (l .in-use))
-      used l r a (inr i) = r .in-use a i
+      record { is-walk = (l .leaves, r .is-walk); in-use = λ a i. ⊎-elim (λ q. subst (InUse n ok) (sym q) (l .is-arc, l .in-use)) (r .in-use a) i }
 
-  pub hops-length : (k u v : ℕ) → length (hops S n tl hd ok k u v) ≡ k
+  hops-length : (k u v : ℕ) → length (hops S n tl hd ok k u v) ≡ k
   unfolding hops
   hops-length zero u v = refl
   hops-length (suc k) u v = ap suc (hops-length k (hd (hop S n tl hd ok u v)) v)
@@ -147,8 +139,4 @@ module _ (S n : ℕ) (tl hd : ℕ → ℕ) (ok : ℕ → Bool) where
 
   -- where there is no walk, it is S
   pub dist-none : (u v : ℕ) → ((w : List ℕ) → Way S n tl hd ok u v w → ⊥) → D u v ≡ S
-  dist-none u v f = go (T-or (ltb (D u v) S))
-    where
-      go : T (ltb (D u v) S) ⊎ (T (ltb (D u v) S) → ⊥) → D u v ≡ S
-      go (inl t) = absurd (f (route S n tl hd ok u v) (route-way u v (ltb→lt (D u v) S t)))
-      go (inr t) = omega (arith, dist-top u v, nltb→le (D u v) S (not-T (ltb (D u v) S) t))
+  dist-none u v f = ⊎-elim (λ l. omega (arith, l, dist-top u v)) (λ l. absurd (f (route S n tl hd ok u v) (route-way u v l))) (le? S (D u v))

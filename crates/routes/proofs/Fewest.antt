@@ -1,7 +1,7 @@
 -- The distance is the fewest hops. A switch that leads to v over arcs in use does so in fewer hops than its part of the plant has switches: each level set
 -- gains a switch until none leads into it. Assumes that v and the tails of the arcs in use are in that part.
-use mathlib.Core.Path.{_≡_, refl, sym, subst}
-use mathlib.Core.Logic.{_⊎_, inl, inr}
+use mathlib.Core.Path.{refl, sym, subst}
+use mathlib.Core.Logic.{_⊎_, inl, inr, ⊎-elim}
 use mathlib.Core.Bool.{Bool, false, not, _&&_}
 use mathlib.Core.List.{List, [], _∷_}
 use Prim.Native.Nat.{ℕ, zero, suc, _-_, _≤_, _<_}
@@ -13,11 +13,11 @@ use Rattle.lists.proofs.Members.{memb→in, in→memb, in?}
 use Rattle.lists.specs.Count.{count}
 use Rattle.lists.proofs.Count.{count-lt, count-all}
 use Rattle.lists.proofs.Least.{some?}
-use Rattle.walks.specs.Walk.{Walk, Reach, here, step}
+use Rattle.walks.specs.Walk.{Reach, here, step}
 use Rattle.walks.proofs.Walk.{walk→reach}
 use Rattle.routes.specs.Distance.{within, dist, route}
 use Rattle.routes.specs.Meaning.{InUse, Reached, Fewest}
-use Rattle.routes.proofs.Levels.{LeadsInto, within-old, within-hop, within-new, within-self}
+use Rattle.routes.proofs.Levels.{within-old, within-hop, within-new, within-self}
 use Rattle.routes.proofs.Distances.{dist-le, dist-least, dist-none, route-way, route-length}
 use Rattle.lists.proofs.Agree.{count-full}
 
@@ -38,32 +38,21 @@ module _ (S n : ℕ) (tl hd : ℕ → ℕ) (ok : ℕ → Bool) (part : ℕ → B
   Entered l = (a : ℕ) × (a < n) × T (ok a) × In (hd a) l × (In (tl a) l → ⊥)
 
   closed? : (l : List ℕ) → Entered l ⊎ Closed l
-  closed? l = go (some? n (λ a. ok a && (memb (hd a) l && not (memb (tl a) l))))
-    where
-      enters : ℕ → Bool
-      enters a = ok a && (memb (hd a) l && not (memb (tl a) l))
-
-      shut : ((j : ℕ) → j < n → T (enters j) → ⊥) → (a : ℕ) → a < n → T (ok a) → In (hd a) l → In (tl a) l ⊎ (In (tl a) l → ⊥) → In (tl a) l
-      shut f a h t i (inl j) = j
-      shut f a h t i (inr j) =
-          absurd
-          (f a h
-          (and-both (ok a) (memb (hd a) l && not (memb (tl a) l)) t
-          (and-both (memb (hd a) l) (not (memb (tl a) l)) (in→memb (hd a) l i) (not-T (memb (tl a) l) (λ u. j (memb→in (tl a) l u))))))
-
-      go : ((a : ℕ) × (a < n) × T (enters a)) ⊎ ((j : ℕ) → j < n → T (enters j) → ⊥) → Entered l ⊎ Closed l
-      go (inl r) =
-          let a = r .0 in
-          let rest = and-right (ok a) (memb (hd a) l && not (memb (tl a) l)) (r .2) in
-          inl (a, r .1, and-left (ok a) (memb (hd a) l && not (memb (tl a) l)) (r .2), memb→in (hd a) l (and-left (memb (hd a) l) (not (memb (tl a) l)) rest), λ i. T-not (memb (tl a) l) (and-right (memb (hd a) l) (not (memb (tl a) l)) rest) (in→memb (tl a) l i))
-      go (inr f) = inr (λ a h t i. shut f a h t i (in? (tl a) l))
+  closed? l =
+      ⊎-elim
+      (λ r.
+      let a = r .0 in
+      let rest = and-right (ok a) (memb (hd a) l && not (memb (tl a) l)) (r .2) in
+      inl (a, r .1, and-left (ok a) (memb (hd a) l && not (memb (tl a) l)) (r .2), memb→in (hd a) l (and-left (memb (hd a) l) (not (memb (tl a) l)) rest), λ i. T-not (memb (tl a) l) (and-right (memb (hd a) l) (not (memb (tl a) l)) rest) (in→memb (tl a) l i)))
+      (λ f. inr (λ a h t i. ⊎-elim (λ j. j)
+      (λ j. absurd (f a h (and-both (ok a) (memb (hd a) l && not (memb (tl a) l)) t
+      (and-both (memb (hd a) l) (not (memb (tl a) l)) (in→memb (hd a) l i) (not-T (memb (tl a) l) (λ u. j (memb→in (tl a) l u)))))))
+      (in? (tl a) l)))
+      (some? n (λ a. ok a && (memb (hd a) l && not (memb (tl a) l))))
 
   closed-next : (k : ℕ) → Closed (level k) → Closed (level (suc k))
-  closed-next k c a h t i = within-old S n tl hd ok k (tl a) v (c a h t (same (within-new S n tl hd ok k (hd a) v i)))
-    where
-      same : In (hd a) (level k) ⊎ LeadsInto S n tl hd ok (hd a) (level k) → In (hd a) (level k)
-      same (inl j) = j
-      same (inr r) = subst (λ (x : ℕ). In x (level k)) (sym (r .4)) (c (r .0) (r .1) (r .2) (r .3))
+  closed-next k c a h t i =
+      within-old S n tl hd ok k (tl a) v (c a h t (⊎-elim (λ j. j) (λ r. subst (λ (x : ℕ). In x (level k)) (sym (r .4)) (c (r .0) (r .1) (r .2) (r .3))) (within-new S n tl hd ok k (hd a) v i)))
 
   -- each level set has one more switch than the last, until it is closed
   levels : (k : ℕ) → (suc k ≤ size k) ⊎ Closed (level k)
@@ -93,29 +82,23 @@ module _ (S n : ℕ) (tl hd : ℕ → ℕ) (ok : ℕ → Bool) (part : ℕ → B
   unfolding within
   level-part zero x (inl e) = subst (λ (y : ℕ). T (part y)) (sym e) v-in
   level-part zero x (inr z) = absurd z
-  level-part (suc k) x i = go (within-new S n tl hd ok k x v i) (level-part k x)
-    where
-      go : In x (level k) ⊎ LeadsInto S n tl hd ok x (level k) → (In x (level k) → T (part x)) → T (part x)
-      go (inl j) rec = rec j
-      go (inr r) rec = subst (λ (y : ℕ). T (part y)) (sym (r .4)) (tl-in (r .0) (r .1) (r .2))
+  level-part (suc k) x i = ⊎-elim (level-part k x) (λ r. subst (λ (y : ℕ). T (part y)) (sym (r .4)) (tl-in (r .0) (r .1) (r .2))) (within-new S n tl hd ok k x v i)
 
   -- every switch of the part from which v is reached is fewer hops away than the part has switches
   pub dist-part : (u : ℕ) → T (part u) → Reached S n tl hd ok u v → dist S n tl hd ok u v < count S part
-  dist-part u h r = omega (arith, some-in, dist-le S n tl hd ok k u v (go (levels k)))
-    where
-      k : ℕ
-      k = count S part - 1
-
-      some-in : 1 ≤ count S part
-      some-in = omega (arith, count-lt S part (λ x. false) v (part-in v v-in) v-in (λ t. t) (λ x i t. absurd t))
-
-      go : (suc k ≤ size k) ⊎ Closed (level k) → In u (level k)
-      go (inl h′) =
-          memb→in u (level k) (count-full S part (λ x. memb x (level k)) (λ x i t. level-part k x (memb→in x (level k) t)) (omega (arith, some-in)) u (part-in u h) h)
-      go (inr c) = leads (level k) c (within-self S n tl hd ok k v) u r
+  dist-part u h r =
+      let k = count S part - 1 in
+      let some-in : 1 ≤ count S part = omega (arith, count-lt S part (λ x. false) v (part-in v v-in) v-in (λ t. t) (λ x i t. absurd t)) in
+      omega (
+        arith,
+        some-in,
+        dist-le S n tl hd ok k u v (⊎-elim
+            (λ g. memb→in u (level k) (count-full S part (λ x. memb x (level k)) (λ x i t. level-part k x (memb→in x (level k) t)) (omega (arith, g, some-in)) u (part-in u h) h))
+            (λ c. leads (level k) c (within-self S n tl hd ok k v) u r) (levels k)),
+      )
 
 -- where there is a walk, the distance is below S
-pub dist-below : (S n : ℕ) (tl hd : ℕ → ℕ) (ok : ℕ → Bool) → ((a : ℕ) → a < n → T (ok a) → tl a < S) → (u v : ℕ) → u < S → v < S → Reached S n tl hd ok u v
+dist-below : (S n : ℕ) (tl hd : ℕ → ℕ) (ok : ℕ → Bool) → ((a : ℕ) → a < n → T (ok a) → tl a < S) → (u v : ℕ) → u < S → v < S → Reached S n tl hd ok u v
     → dist S n tl hd ok u v < S
 dist-below S n tl hd ok tl-in u v h i r =
     omega (
@@ -133,25 +116,3 @@ dist-fewest S n tl hd ok tl-in u v h i = record {
   below = dist-below S n tl hd ok tl-in u v h i;
   none = λ f. dist-none S n tl hd ok u v (λ w p. f (walk→reach w u v (p .is-walk) (p .in-use)));
 }
-
--- ---- numbers that are no switches: 0 from each to itself, and S else
-
-module _ (S n : ℕ) (tl hd : ℕ → ℕ) (ok : ℕ → Bool) (tl-in : (a : ℕ) → a < n → T (ok a) → tl a < S) (hd-in : (a : ℕ) → a < n → T (ok a) → hd a < S) where
-  -- a walk that has a hop joins switches
-  walk-inside : (w : List ℕ) (u v : ℕ) → Walk tl hd w u v → ((a : ℕ) → In a w → InUse n ok a) → (u ≡ v) ⊎ ((u < S) × (v < S))
-  walk-inside [] u v e f = inl e
-  walk-inside (a ∷ w) u v p f = inr (subst (λ (x : ℕ). x < S) (p .0) (tl-in a (h .0) (h .1)), end (walk-inside w (hd a) v (p .1) (λ b i. f b (inr i))))
-    where
-      h : InUse n ok a
-      h = f a (inl refl)
-
-      end : (hd a ≡ v) ⊎ ((hd a < S) × (v < S)) → v < S
-      end (inl e) = subst (λ (x : ℕ). x < S) e (hd-in a (h .0) (h .1))
-      end (inr r) = r .1
-
-  pub dist-outside : (u v : ℕ) → (u < S → v < S → ⊥) → (u ≡ v → ⊥) → dist S n tl hd ok u v ≡ S
-  dist-outside u v out ne = dist-none S n tl hd ok u v (λ w p. no (walk-inside w u v (p .is-walk) (p .in-use)))
-    where
-      no : (u ≡ v) ⊎ ((u < S) × (v < S)) → ⊥
-      no (inl e) = ne e
-      no (inr r) = out (r .0) (r .1)

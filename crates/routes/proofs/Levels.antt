@@ -1,18 +1,22 @@
 -- The level sets, from which v is at most k hops away: who is in the next one. Assumes nothing.
 use mathlib.Core.Path.{_≡_, refl}
-use mathlib.Core.Logic.{_⊎_, inl, inr}
+use mathlib.Core.Logic.{_⊎_, inl, inr, ⊎-elim}
 use mathlib.Core.Bool.{Bool, _&&_}
 use mathlib.Core.List.{List}
-use Prim.Native.Nat.{ℕ, zero, suc, _<_}
+use Prim.Native.Nat.{ℕ, zero, suc, _≤_, _<_}
 use native.Mathlib.Omega.{arith}
-use lib.Dec.{T}
-use Rattle.lists.proofs.Tests.{and-left, and-right, and-both}
+use lib.Dec.{T, not-T, leb, leb→le, nleb→lt}
+use Rattle.lists.proofs.Tests.{T-or, and-left, and-right, and-both}
 use Rattle.lists.specs.Members.{In, memb}
 use Rattle.lists.proofs.Members.{memb→in, in→memb, in-append, in-append-left, in-append-right}
 use Rattle.lists.specs.Numbers.{range, keep}
 use Rattle.lists.proofs.Numbers.{range-in, in-range, keep-in, in-keep}
 use Rattle.routes.specs.Distance.{sources, within}
 use Rattle.lists.proofs.Agree.{in-map, map-in}
+
+-- x is at most y, or above it
+pub le? : (x y : ℕ) → (x ≤ y) ⊎ (y < x)
+le? x y = ⊎-elim (λ t. inl (leb→le x y t)) (λ f. inr (nleb→lt x y (not-T (leb x y) f))) (T-or (leb x y))
 
 module _ (S n : ℕ) (tl hd : ℕ → ℕ) (ok : ℕ → Bool) where
   abbrev before : List ℕ → List ℕ
@@ -54,11 +58,7 @@ module _ (S n : ℕ) (tl hd : ℕ → ℕ) (ok : ℕ → Bool) where
   -- who is in the next level set was in the last one, or is one hop before it
   pub within-new : (k x v : ℕ) → In x (level (suc k) v) → In x (level k v) ⊎ LeadsInto x (level k v)
   unfolding within
-  within-new k x v h = go (in-append x (before (level k v)) (level k v) h)
-    where
-      go : In x (before (level k v)) ⊎ In x (level k v) → In x (level k v) ⊎ LeadsInto x (level k v)
-      go (inl i) = inr (sources-in x (level k v) i)
-      go (inr i) = inl i
+  within-new k x v h = ⊎-elim (λ i. inr (sources-in x (level k v) i)) inl (in-append x (before (level k v)) (level k v) h)
 
   pub within-self : (k v : ℕ) → In v (level k v)
   unfolding within

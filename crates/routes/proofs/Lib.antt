@@ -6,5 +6,4 @@ pub mod Nearest
 pub mod Steps
 pub mod Trails
 pub mod Legs
-pub mod Agree
 pub mod Plants

@@ -1,15 +1,16 @@
 -- The nearest uncrossed arc in use: none is nearer, and none so near has a lower label. Assumes nothing.
 use mathlib.Core.Path.{_≡_, refl, sym, _∙_}
-use mathlib.Core.Logic.{_⊎_, inl, inr}
+use mathlib.Core.Logic.{_⊎_, inl, inr, ⊎-elim}
 use mathlib.Core.Bool.{Bool}
 use Prim.Native.Nat.{ℕ, _≤_, _<_}
 use native.Mathlib.Omega.{arith}
-use lib.Dec.{T, not-T, eqb, eqb→eq, ltb, ltb→lt, lt→ltb, nltb→le}
-use Rattle.lists.proofs.Tests.{eq→eqb, T-or, and-left, and-right, and-both}
+use lib.Dec.{T, eqb, eqb→eq, ltb→lt, lt→ltb}
+use Rattle.lists.proofs.Tests.{eq→eqb, and-left, and-right, and-both}
 use Rattle.lists.specs.Least.{least, some}
 use Rattle.lists.proofs.Least.{least-passes, least-first, least-le, least-none, some?}
 use Rattle.routes.specs.Distance.{dist}
 use Rattle.routes.specs.Trail.{uncrossed, leavesAt, near, nearest}
+use Rattle.routes.proofs.Levels.{le?}
 use Rattle.routes.proofs.Distances.{dist-top}
 
 module _ (S n : ℕ) (tl hd : ℕ → ℕ) (ok : ℕ → Bool) where
@@ -51,14 +52,9 @@ module _ (S n : ℕ) (tl hd : ℕ → ℕ) (ok : ℕ → Bool) where
 
     -- some uncrossed arc is so near
     near-some : (a : ℕ) → a < n → T (uncrossed ok m a) → T (some n (at (near S n tl hd ok m u)))
-    near-some a h t = go (T-or (ltb k S))
-      where
-        k : ℕ
-        k = near S n tl hd ok m u
-
-        go : T (ltb k S) ⊎ (T (ltb k S) → ⊥) → T (some n (at (near S n tl hd ok m u)))
-        go (inl v) = near-passes (ltb→lt k S v)
-        go (inr v) = at-some k a h t (omega (arith, near-le a h t, dist-top S n tl hd ok u (tl a), nltb→le k S (not-T (ltb k S) v)))
+    near-some a h t =
+        let k = near S n tl hd ok m u in
+        ⊎-elim (λ l. at-some k a h t (omega (arith, l, near-le a h t, dist-top S n tl hd ok u (tl a)))) near-passes (le? S k)
 
     -- if an arc is uncrossed, one is nearest
     pub nearest-some : (a : ℕ) → a < n → T (uncrossed ok m a) → Nearest m u best
@@ -85,23 +81,12 @@ module _ (S n : ℕ) (tl hd : ℕ → ℕ) (ok : ℕ → Bool) where
 
     -- it is the only such arc
     pub nearest-is : (a : ℕ) → Nearest m u a → best ≡ a
-    nearest-is a p = go (T-or (ltb best a)) (T-or (ltb a best))
-      where
-        q : Nearest m u best
-        q = nearest-some a (p .is-arc) (p .is-left)
-
-        same : D u (tl best) ≡ D u (tl a)
-        same = omega (arith, q .closest a (p .is-arc) (p .is-left), p .closest best (q .is-arc) (q .is-left))
-
-        go : T (ltb best a) ⊎ (T (ltb best a) → ⊥) → T (ltb a best) ⊎ (T (ltb a best) → ⊥) → best ≡ a
-        go (inl t) k = absurd (p .lowest best (ltb→lt best a t) (q .is-left) same)
-        go (inr t) (inl k) = absurd (q .lowest a (ltb→lt a best k) (p .is-left) (sym same))
-        go (inr t) (inr k) = omega (arith, nltb→le best a (not-T (ltb best a) t), nltb→le a best (not-T (ltb a best) k))
+    nearest-is a p =
+        let q = nearest-some a (p .is-arc) (p .is-left) in
+        let same : D u (tl best) ≡ D u (tl a) = omega (arith, q .closest a (p .is-arc) (p .is-left), p .closest best (q .is-arc) (q .is-left)) in
+        ⊎-elim (λ l. ⊎-elim (λ k. omega (arith, l, k)) (λ k. absurd (p .lowest best k (q .is-left) same)) (le? a best))
+        (λ k. absurd (q .lowest a k (p .is-left) (sym same))) (le? best a)
 
     -- an arc is nearest, or none is uncrossed
     pub nearest? : Nearest m u best ⊎ Finished m
-    nearest? = go (some? n (uncrossed ok m))
-      where
-        go : ((r : ℕ) × (r < n) × T (uncrossed ok m r)) ⊎ Finished m → Nearest m u best ⊎ Finished m
-        go (inl r) = inl (nearest-some (r .0) (r .1) (r .2))
-        go (inr f) = inr f
+    nearest? = ⊎-elim (λ r. inl (nearest-some (r .0) (r .1) (r .2))) inr (some? n (uncrossed ok m))

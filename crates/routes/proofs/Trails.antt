@@ -1,179 +1,126 @@
 -- Theorem D: the trail is a closed walk from the start, crosses the arcs in use and no other, and has at most K * (arcs in use) + (K - 1) hops, where K is the
--- number of switches of the part that it is in; with more fuel it is the same list.
+-- number of switches of the part that it is in: each leg has at most K hops and crosses an arc that was uncrossed, and the way back has fewer than K.
 -- Assumes that the arcs in use join switches of that part, and that each switch of it leads to each other over them.
-use mathlib.Core.Path.{_≡_, refl, sym, ap, _∙_, subst}
+use mathlib.Core.Path.{_≡_, refl, sym, subst}
 use mathlib.Core.Logic.{_⊎_, inl, inr}
-use mathlib.Core.Bool.{Bool, true}
-use mathlib.Core.List.{List, [], _∷_}
+use mathlib.Core.Bool.{Bool, true, not}
+use mathlib.Core.List.{List, _∷_, _++_}
 use Prim.Native.Nat.{ℕ, zero, suc, _+_, _-_, _*_, _≤_, _<_}
 use native.Mathlib.Omega.{arith}
-use native.Mathlib.Nat.{mul-le-mul-left, mul-le-mul-right}
-use lib.Dec.{T, ltb, ltb→lt, lt→ltb}
-use lib.ListN.{length}
+use native.Mathlib.Nat.{mul-le-mul-left}
+use lib.Dec.{T, ltb, lt→ltb}
+use lib.ListN.{length, length-append}
 use Rattle.lists.proofs.Tests.{eq?, and-left, and-both}
 use Rattle.lists.specs.Members.{In}
+use Rattle.lists.proofs.Members.{in?, in-append, in-append-left, in-append-right}
 use Rattle.lists.specs.Count.{count}
 use Rattle.lists.proofs.Count.{count-le, count-all, count-every}
 use Rattle.walks.specs.Walk.{Walk}
-use Rattle.routes.specs.Trail.{unmarked, mark, uncrossed, onward, mostHops, goal, next, trailFrom, trail}
-use Rattle.routes.specs.Meaning.{InUse, Reached, Strong, Tour}
-use Rattle.routes.proofs.Marks.{mark-other}
-use Rattle.routes.proofs.Steps.{onward-hop, onward-end, ahead, Onward, Ended, dist-lt, goal-in, next-law}
+use Rattle.walks.proofs.Walk.{walk-append}
+use Rattle.routes.specs.Distance.{route}
+use Rattle.routes.specs.Trail.{unmarked, mark, marks, uncrossed, nearest, legs, trail}
+use Rattle.routes.specs.Meaning.{InUse, Way}
+use Rattle.routes.proofs.Distances.{route-way, route-length}
+use Rattle.routes.proofs.Marks.{mark-other, marks-other, remaining, marks-less}
+use Rattle.routes.proofs.Nearest.{Nearest, Finished, nearest?}
+use Rattle.routes.proofs.Steps.{Strong, dist-lt, nearest-in}
+use Rattle.routes.proofs.Legs.{one-leg, last-leg, none-left}
 
-module _ (S n : ℕ) (tl hd : ℕ → ℕ) (ok : ℕ → Bool) (start : ℕ) where
-  abbrev then : (ℕ → Bool) → ℕ → ℕ
-  then m u = next S n tl hd ok start m u
+-- w is a closed walk from the start that crosses exactly the arcs in use, with at most so many hops
+pub record Tour (n : ℕ) (tl hd : ℕ → ℕ) (ok : ℕ → Bool) (start most : ℕ) (w : List ℕ) : Type 0 where
+  pub closed : Walk tl hd w start start
+  pub in-use : (a : ℕ) → In a w → InUse n ok a
+  pub crosses : (a : ℕ) → InUse n ok a → In a w
+  pub short : length w ≤ most
 
-  abbrev from : ℕ → (ℕ → Bool) → ℕ → List ℕ
-  from f m u = trailFrom S n tl hd ok start f m u
+module _ (S n : ℕ) (tl hd : ℕ → ℕ) (ok : ℕ → Bool) (start : ℕ) (part : ℕ → Bool) (st : Strong S n tl hd ok start part) where
+  abbrev K : ℕ
+  K = count S part
 
-  -- the trail goes on by hop a
-  pub from-hop : (f : ℕ) (m : ℕ → Bool) (u a : ℕ) → then m u ≡ a → a < n → from (suc f) m u ≡ a ∷ from f (mark a m) (hd a)
-  unfolding trailFrom
-  from-hop f m u a e h = ap (onward S n tl hd ok (from f) m) e ∙ onward-hop S n tl hd ok (from f) m a h
+  abbrev way : ℕ → ℕ → List ℕ
+  way u v = route S n tl hd ok u v
 
-  -- the trail has ended
-  pub from-end : (f : ℕ) (m : ℕ → Bool) (u : ℕ) → n ≤ then m u → from f m u ≡ []
-  unfolding trailFrom
-  from-end zero m u h = refl
-  from-end (suc f) m u h = onward-end S n tl hd ok (from f) m (then m u) h
-
-  -- w is a walk from u to the start over arcs in use that crosses all that are left
-  pub record Finish (m : ℕ → Bool) (u : ℕ) (w : List ℕ) : Type 0 where
+  -- w is a walk from u to the start over arcs in use that crosses all that are left, with at most so many hops
+  record Finish (m : ℕ → Bool) (u : ℕ) (w : List ℕ) : Type 0 where
     pub is-walk : Walk tl hd w u start
     pub in-use : (a : ℕ) → In a w → InUse n ok a
     pub covers : (a : ℕ) → a < n → T (uncrossed ok m a) → In a w
+    pub short : length w ≤ K * remaining ok n m + (K - 1)
 
-  module _ (part : ℕ → Bool) (st : Strong S n tl hd ok start part) where
-    abbrev A : (ℕ → Bool) → ℕ → ℕ
-    A m u = ahead S n tl hd ok start part m u
+  way-in : (u v : ℕ) → T (part u) → T (part v) → Way S n tl hd ok u v (way u v)
+  way-in u v h i = route-way S n tl hd ok u v (omega (arith, dist-lt S n tl hd ok start part st u v h i, count-all S part))
 
-    abbrev On : (ℕ → Bool) → ℕ → ℕ → Type 0
-    On m u a = Onward S n tl hd ok start part m u a
+  way-short : (u v : ℕ) → T (part u) → T (part v) → length (way u v) < K
+  way-short u v h i = omega (arith, dist-lt S n tl hd ok start part st u v h i, route-length S n tl hd ok u v)
 
-    abbrev End : (ℕ → Bool) → ℕ → ℕ → Type 0
-    End m u a = Ended S n tl hd ok start part m u a
+  last : (m : ℕ → Bool) (u : ℕ) → T (part u) → Finished S n tl hd ok m → Finish m u (way u start)
+  last m u h g =
+      let r = way-in u start h (st .starts) in
+      record { is-walk = r .is-walk; in-use = r .in-use; covers = λ a i t. absurd (g a i t); short = omega (arith, way-short u start h (st .starts)) }
 
-    law : (m : ℕ → Bool) (u : ℕ) → T (part u) → On m u (then m u) ⊎ End m u (then m u)
-    law m u h = next-law S n tl hd ok start part st m u h
+  leg : (m : ℕ → Bool) (u a : ℕ) (r : List ℕ) → T (part u) → Nearest S n tl hd ok m u a → Finish (mark a (marks (way u (tl a)) m)) (hd a) r
+      → Finish m u (way u (tl a) ++ (a ∷ r))
+  leg m u a r h p q = record {
+    is-walk = walk-append tl hd w (a ∷ r) u (tl a) start (to .is-walk) (refl, q .is-walk);
+    in-use = λ b i. used b (in-append b w (a ∷ r) i);
+    covers = λ b i t. cover b i t (in? b w) (eq? b a);
+    short = omega (arith, length-append w (a ∷ r), way-short u (tl a) h t-in, q .short, mul-le-mul-left K (marks-less ok n w m a (p .is-arc) (p .is-left)));
+  }
+    where
+      w : List ℕ
+      w = way u (tl a)
 
-    on-in : (m : ℕ → Bool) (u a : ℕ) → On m u a → T (part (hd a))
-    on-in m u a p = st .heads a (p .is-arc) (p .in-use)
+      t-in : T (part (tl a))
+      t-in = nearest-in S n tl hd ok start part st m u a p .0
 
-    ended : (m : ℕ → Bool) (u a : ℕ) → End m u a → Finish m u []
-    ended m u a p = record { is-walk = p .at-start; in-use = λ b i. absurd i; covers = λ b h t. absurd (p .none-left b h t) }
+      to : Way S n tl hd ok u (tl a) w
+      to = way-in u (tl a) h t-in
 
-    hopped : (m : ℕ → Bool) (u a : ℕ) (w : List ℕ) → On m u a → Finish (mark a m) (hd a) w → Finish m u (a ∷ w)
-    hopped m u a w p r = record { is-walk = (p .leaves, r .is-walk); in-use = use-of; covers = λ b h t. cover b h t (eq? b a) }
-      where
-        use-of : (b : ℕ) → (b ≡ a) ⊎ In b w → InUse n ok b
-        use-of b (inl e) = (omega (arith, p .is-arc), subst (λ (x : ℕ). T (ok x)) (sym e) (p .in-use))
-        use-of b (inr i) = r .in-use b i
+      used : (b : ℕ) → In b w ⊎ ((b ≡ a) ⊎ In b r) → InUse n ok b
+      used b (inl i) = to .in-use b i
+      used b (inr (inl e)) = subst (InUse n ok) (sym e) (p .is-arc, and-left (ok a) (not (m a)) (p .is-left))
+      used b (inr (inr i)) = q .in-use b i
 
-        cover : (b : ℕ) → b < n → T (uncrossed ok m b) → (b ≡ a) ⊎ (b ≡ a → ⊥) → (b ≡ a) ⊎ In b w
-        cover b h t (inl e) = inl e
-        cover b h t (inr f) = inr (r .covers b h (mark-other ok m a b f t))
+      cover : (b : ℕ) → b < n → T (uncrossed ok m b) → In b w ⊎ (In b w → ⊥) → (b ≡ a) ⊎ (b ≡ a → ⊥) → In b (w ++ (a ∷ r))
+      cover b i t (inl j) e = in-append-left b w (a ∷ r) j
+      cover b i t (inr j) (inl e) = in-append-right b w (a ∷ r) (inl e)
+      cover b i t (inr j) (inr e) = in-append-right b w (a ∷ r) (inr (q .covers b i (mark-other ok (marks w m) a b e (marks-other ok w m b j t))))
 
-    -- with as many hops as are ahead, or more, the trail comes to its end
-    finishes : (f : ℕ) (m : ℕ → Bool) (u : ℕ) → T (part u) → A m u ≤ f → Finish m u (from f m u)
-    finishes zero m u h k = go (law m u h)
-      where
-        go : On m u (then m u) ⊎ End m u (then m u) → Finish m u (from zero m u)
-        go (inl p) = absurd (omega (arith, p .shorter))
-        go (inr p) = subst (Finish m u) (sym (from-end zero m u (p .no-hop))) (ended m u (then m u) p)
-    finishes (suc f) m u h k = go (law m u h) (λ i j. finishes f (mark (then m u) m) (hd (then m u)) i j)
-      where
-        a : ℕ
-        a = then m u
+  -- with as many legs as there are arcs left, or more, the trail comes to its end
+  finishes : (f : ℕ) (m : ℕ → Bool) (u : ℕ) → T (part u) → remaining ok n m ≤ f → Finish m u (legs S n tl hd ok start f m u)
+  finishes zero m u h i = let g = none-left S n tl hd ok start m i in subst (Finish m u) (sym (last-leg S n tl hd ok start zero m u g)) (last m u h g)
+  finishes (suc f) m u h i = go (nearest? S n tl hd ok m u) (finishes f)
+    where
+      a : ℕ
+      a = nearest S n tl hd ok m u
 
-        go : On m u a ⊎ End m u a → (T (part (hd a)) → A (mark a m) (hd a) ≤ f → Finish (mark a m) (hd a) (from f (mark a m) (hd a))) → Finish m u (from (suc f) m u)
-        go (inl p) rec = subst (Finish m u) (sym (from-hop f m u a refl (p .is-arc))) (hopped m u a _ p (rec (on-in m u a p) (omega (arith, p .shorter))))
-        go (inr p) rec = subst (Finish m u) (sym (from-end (suc f) m u (p .no-hop))) (ended m u a p)
+      go : Nearest S n tl hd ok m u a ⊎ Finished S n tl hd ok m → ((m′ : ℕ → Bool) (v : ℕ) → T (part v) → remaining ok n m′ ≤ f → Finish m′ v (legs S n tl hd ok start f m′ v))
+          → Finish m u (legs S n tl hd ok start (suc f) m u)
+      go (inl p) rec =
+          let m′ = mark a (marks (way u (tl a)) m) in
+          let r = rec m′ (hd a) (nearest-in S n tl hd ok start part st m u a p .1) (omega (arith, marks-less ok n (way u (tl a)) m a (p .is-arc) (p .is-left))) in
+          subst (Finish m u) (sym (one-leg S n tl hd ok start f m u a p)) (leg m u a _ h p r)
+      go (inr g) rec = subst (Finish m u) (sym (last-leg S n tl hd ok start (suc f) m u g)) (last m u h g)
 
-    none-ahead : (f : ℕ) (m : ℕ → Bool) (u : ℕ) → T (part u) → A m u ≤ 0 → from f m u ≡ []
-    none-ahead f m u h k = go (law m u h)
-      where
-        go : On m u (then m u) ⊎ End m u (then m u) → from f m u ≡ []
-        go (inl p) = absurd (omega (arith, p .shorter))
-        go (inr p) = from-end f m u (p .no-hop)
-
-    -- more hops than are ahead change nothing
-    pub enough : (f g : ℕ) (m : ℕ → Bool) (u : ℕ) → T (part u) → A m u ≤ f → A m u ≤ g → from f m u ≡ from g m u
-    enough zero g m u h i j = none-ahead zero m u h i ∙ sym (none-ahead g m u h i)
-    enough (suc f) zero m u h i j = none-ahead (suc f) m u h j ∙ sym (none-ahead zero m u h j)
-    enough (suc f) (suc g) m u h i j = go (law m u h) (λ x y z. enough f g (mark (then m u) m) (hd (then m u)) x y z)
-      where
-        a : ℕ
-        a = then m u
-
-        go : On m u a ⊎ End m u a → (T (part (hd a)) → A (mark a m) (hd a) ≤ f → A (mark a m) (hd a) ≤ g → from f (mark a m) (hd a) ≡ from g (mark a m) (hd a))
-            → from (suc f) m u ≡ from (suc g) m u
-        go (inl p) rec =
-            from-hop f m u a refl (p .is-arc)
-            ∙ ap (λ (w : List ℕ). a ∷ w) (rec (on-in m u a p) (omega (arith, p .shorter)) (omega (arith, p .shorter)))
-            ∙ sym (from-hop g m u a refl (p .is-arc))
-        go (inr p) rec = from-end (suc f) m u (p .no-hop) ∙ sym (from-end (suc g) m u (p .no-hop))
-
-    -- no more hops than are ahead
-    from-ahead : (f : ℕ) (m : ℕ → Bool) (u : ℕ) → T (part u) → length (from f m u) ≤ A m u
-    unfolding trailFrom
-    from-ahead zero m u h = omega arith
-    from-ahead (suc f) m u h = go (law m u h) (λ i. from-ahead f (mark (then m u) m) (hd (then m u)) i)
-      where
-        a : ℕ
-        a = then m u
-
-        go : On m u a ⊎ End m u a → (T (part (hd a)) → length (from f (mark a m) (hd a)) ≤ A (mark a m) (hd a)) → length (from (suc f) m u) ≤ A m u
-        go (inl p) rec = omega (arith, ap length (from-hop f m u a refl (p .is-arc)), rec (on-in m u a p), p .shorter)
-        go (inr p) rec = omega (arith, ap length (from-end (suc f) m u (p .no-hop)))
-
-    first-ahead : A unmarked start ≤ count S part * count n ok + (count S part - 1)
-    unfolding ahead
-    first-ahead =
-        omega (
-          arith,
-          mul-le-mul-left (count S part) (count-le n (uncrossed ok unmarked) ok (λ a h t. and-left (ok a) true t)),
-          dist-lt S n tl hd ok start part st start (goal S n tl hd ok start unmarked start) (st .starts) (goal-in S n tl hd ok start part st unmarked start),
-        )
-
-    pub most-ahead : A unmarked start ≤ mostHops S n tl hd ok
-    unfolding mostHops
-    most-ahead = omega (arith, first-ahead, count-all S part, mul-le-mul-right (count n ok) (count-all S part))
-
-    pub trail-tour : Tour S n tl hd ok start (count S part * count n ok + (count S part - 1)) (trail S n tl hd ok start)
-    unfolding trail
-    trail-tour =
-        let most = mostHops S n tl hd ok in
-        let w = finishes most unmarked start (st .starts) most-ahead in
-        record {
-          closed = w .is-walk;
-          in-use = w .in-use;
-          crosses = λ a h. w .covers a (h .0) (and-both (ok a) true (h .1) tt);
-          short = omega (arith, first-ahead, from-ahead most unmarked start (st .starts));
-        }
-
-    pub trail-fuel : (f : ℕ) → mostHops S n tl hd ok ≤ f → trailFrom S n tl hd ok start f unmarked start ≡ trail S n tl hd ok start
-    unfolding trail
-    trail-fuel f h = enough f (mostHops S n tl hd ok) unmarked start (st .starts) (omega (arith, most-ahead)) most-ahead
+  trail-tour : Tour n tl hd ok start (K * count n ok + (K - 1)) (trail S n tl hd ok start)
+  unfolding trail
+  trail-tour =
+      let few = count-le n (uncrossed ok unmarked) ok (λ a h t. and-left (ok a) true t) in
+      let w = finishes (count n ok) unmarked start (st .starts) few in
+      record {
+        closed = w .is-walk;
+        in-use = w .in-use;
+        crosses = λ a h. w .covers a (h .0) (and-both (ok a) true (h .1) tt);
+        short = omega (arith, w .short, mul-le-mul-left K few);
+      }
 
 -- ---- the whole plant as the part
 
 abbrev pub whole : ℕ → ℕ → Bool
 whole S x = ltb x S
 
-module _ (S n : ℕ) (tl hd : ℕ → ℕ) (ok : ℕ → Bool) (start : ℕ) where
-  pub whole-strong : start < S → ((a : ℕ) → a < n → T (ok a) → tl a < S) → ((a : ℕ) → a < n → T (ok a) → hd a < S)
-      → ((x y : ℕ) → x < S → y < S → Reached S n tl hd ok x y) → Strong S n tl hd ok start (whole S)
-  whole-strong s t h j = record {
-    inside = λ x i. ltb→lt x S i;
-    tails = λ a i u. lt→ltb (tl a) S (t a i u);
-    heads = λ a i u. lt→ltb (hd a) S (h a i u);
-    starts = lt→ltb start S s;
-    joined = λ x y i k. j x y (ltb→lt x S i) (ltb→lt y S k);
-  }
-
-  pub theorem-D : Strong S n tl hd ok start (whole S) → Tour S n tl hd ok start (mostHops S n tl hd ok) (trail S n tl hd ok start)
-  unfolding mostHops
-  theorem-D st =
-      subst (λ (k : ℕ). Tour S n tl hd ok start (k * count n ok + (k - 1)) (trail S n tl hd ok start)) (count-every S (whole S) (λ x h. lt→ltb x S h))
-      (trail-tour S n tl hd ok start (whole S) st)
+pub theorem-D : (S n : ℕ) (tl hd : ℕ → ℕ) (ok : ℕ → Bool) (start : ℕ) → Strong S n tl hd ok start (whole S)
+    → Tour n tl hd ok start (S * count n ok + (S - 1)) (trail S n tl hd ok start)
+theorem-D S n tl hd ok start st =
+    subst (λ (k : ℕ). Tour n tl hd ok start (k * count n ok + (k - 1)) (trail S n tl hd ok start)) (count-every S (whole S) (λ x h. lt→ltb x S h))
+    (trail-tour S n tl hd ok start (whole S) st)

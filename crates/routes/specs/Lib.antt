@@ -2,3 +2,4 @@ pub mod Distance
 pub mod Trail
 pub mod Meaning
 pub mod Plants
+pub mod Steps

@@ -1,13 +1,12 @@
--- What distance and trail mean in terms of walks, and what the theorem on the trail assumes of the arcs. Assumes nothing.
+-- What distance means in terms of walks. Assumes nothing.
 use mathlib.Core.Path.{_≡_}
 use mathlib.Core.Bool.{Bool}
 use mathlib.Core.List.{List}
-use Prim.Native.Nat.{ℕ, suc, _≤_, _<_}
+use Prim.Native.Nat.{ℕ, _≤_, _<_}
 use lib.Dec.{T}
 use lib.ListN.{length}
 use Rattle.lists.specs.Members.{In}
 use Rattle.walks.specs.Walk.{Walk, Reach}
-use Rattle.routes.specs.Distance.{dist}
 
 -- a is the label of an arc in use
 abbrev pub InUse : ℕ → (ℕ → Bool) → ℕ → Type 0
@@ -34,25 +33,3 @@ module _ (S n : ℕ) (tl hd : ℕ → ℕ) (ok : ℕ → Bool) where
     pub below : Reached u v → d < S
     -- where there is none, it is S
     pub none : (Reached u v → ⊥) → d ≡ S
-
-  -- a is a hop from u towards v: an arc in use that leaves u and lessens the distance left by one
-  pub record Hop (u v a : ℕ) : Type 0 where
-    pub is-arc : a < n
-    pub in-use : T (ok a)
-    pub leaves : tl a ≡ u
-    pub nearer : suc (dist S n tl hd ok (hd a) v) ≡ dist S n tl hd ok u v
-
-  -- the arcs in use join switches of a part, the start among them, and each switch of that part leads to each other over them
-  pub record Strong (start : ℕ) (part : ℕ → Bool) : Type 0 where
-    pub inside : (x : ℕ) → T (part x) → x < S
-    pub tails : (a : ℕ) → a < n → T (ok a) → T (part (tl a))
-    pub heads : (a : ℕ) → a < n → T (ok a) → T (part (hd a))
-    pub starts : T (part start)
-    pub joined : (x y : ℕ) → T (part x) → T (part y) → Reached x y
-
-  -- w is a closed walk from the start that crosses exactly the arcs in use, with at most so many hops
-  pub record Tour (start most : ℕ) (w : List ℕ) : Type 0 where
-    pub closed : Walk tl hd w start start
-    pub in-use : (a : ℕ) → In a w → InUse n ok a
-    pub crosses : (a : ℕ) → InUse n ok a → In a w
-    pub short : length w ≤ most

@@ -1,11 +1,10 @@
--- Distance, hop, route and trail of a plant: over its switches, its labels and its arcs in use, from its start.
+-- Distance and trail of a plant: over its switches, its labels and its arcs in use, from its start.
 use mathlib.Core.List.{List}
-use Prim.Native.Nat.{ℕ, _*_, _<_}
-use lib.Dec.{T}
+use Prim.Native.Nat.{ℕ, _*_}
 use Rattle.plant.specs.declared.Plant.{Plant}
 use Rattle.walks.specs.Arcs.{tail, head}
-use Rattle.walks.specs.Graph.{To, used}
-use Rattle.routes.specs.Distance.{dist, hop, route}
+use Rattle.walks.specs.Graph.{used}
+use Rattle.routes.specs.Distance.{dist}
 use Rattle.routes.specs.Trail.{trail}
 
 module _ (p : Plant) where
@@ -13,15 +12,5 @@ module _ (p : Plant) where
   abbrev pub distanceOf : ℕ → ℕ → ℕ
   distanceOf u v = dist (p .switches) (2 * p .count) (tail p) (head p) (used p) u v
 
-  abbrev pub hopOf : ℕ → ℕ → ℕ
-  hopOf u v = hop (p .switches) (2 * p .count) (tail p) (head p) (used p) u v
-
-  abbrev pub routeOf : ℕ → ℕ → List ℕ
-  routeOf u v = route (p .switches) (2 * p .count) (tail p) (head p) (used p) u v
-
   abbrev pub trailOf : List ℕ
   trailOf = trail (p .switches) (2 * p .count) (tail p) (head p) (used p) (p .start)
-
-  -- every two switches are joined over arcs in use
-  abbrev pub AllJoined : Type 0
-  AllJoined = (x y : ℕ) → x < p .switches → y < p .switches → To p (λ a. T (used p a)) x y

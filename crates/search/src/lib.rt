@@ -127,10 +127,12 @@ impl Search {
     fn judge(self) -> Verdict
         ensures { λ r. ⌜ Judges (callChecks self) r ⌝ }
     {
-        if !self.sound() {
+        let sound = self.sound();
+        let ended = self.ended();
+        if !sound {
             return Verdict::Refused(Refusal::SearchUnsound);
         }
-        if self.ended() {
+        if ended {
             return Verdict::Refused(Refusal::SearchEnded);
         }
         Verdict::Accepted

@@ -1,30 +1,27 @@
 -- The table of first hops, label by label from the highest: after the labels from a on, each cell holds the lowest of them that lessens the distance.
 -- Assumes a sound plant and its table of distances.
-use mathlib.Core.Path.{_≡_, refl, sym, ap, ap₂, _∙_}
-use mathlib.Core.Logic.{_⊎_, inl, inr}
+use mathlib.Core.Path.{_≡_, sym, ap, ap₂, _∙_}
 use mathlib.Core.Bool.{Bool, _&&_}
 use mathlib.Core.List.{List, []}
 use Prim.Native.Nat.{ℕ, suc, _+_, _-_, _*_, _<_}
 use native.Mathlib.Omega.{arith}
 use native.Mathlib.Numerals.{add-one}
 use lib.Dec.{T, eqb, eqb→eq, ltb}
-use lib.ListN.{length, getD, set, replicate, length-set}
-use lib.Seq.{getD-set-same, getD-set-other}
+use lib.ListN.{getD, set, replicate}
 use Rattle.lists.specs.Tests.{choose}
-use Rattle.lists.proofs.Tests.{choose-false, T-true, eq?, eq→eqb, and-left, and-right}
+use Rattle.lists.proofs.Tests.{choose-false, T-true, eq→eqb, and-left, and-right}
 use Rattle.lists.specs.Least.{leastFrom}
 use Rattle.limits.specs.Limits.{maxSwitches}
 use Rattle.limits.specs.Sound.{Sound}
 use Rattle.plant.specs.declared.Plant.{Plant}
 use Rattle.walks.specs.Arcs.{tail, head}
 use Rattle.routes.specs.Distance.{lessens, hop}
-use Rattle.distance.specs.Table.{cell}
-use Rattle.distance.specs.Distances.{flag, distOf, distancesOf}
+use Rattle.distance.specs.Distances.{flag, distanceIn, distancesIn}
 use Rattle.distance.proofs.Arcs.{tail-lt, head-lt}
-use Rattle.distance.proofs.Tables.{Holds, flat-holds, holds-table}
+use Rattle.distance.proofs.Entries.{entry}
+use Rattle.distance.proofs.Tables.{Holds, flat-holds, holds-grid, set-cases, row-shape}
 use Rattle.trail.specs.Rows.{Lowered}
-use Rattle.trail.specs.Steps.{hopIn, firstHopsOf}
-use Rattle.trail.proofs.Cells.{cell-is}
+use Rattle.trail.specs.Steps.{hopIn, firstHopsIn}
 use Rattle.lists.proofs.Stepwise.{first-step}
 
 module _ (p : Plant) (us : List Bool) where
@@ -58,9 +55,9 @@ module _ (p : Plant) (us : List Bool) where
     cells = λ u v h k. let e : n - n ≡ 0 = omega arith in flat-holds n .cells u v h k ∙ ap (λ (f : ℕ). leastFrom f n (L u v)) (sym e);
   }
 
-  pub hops-all : (h : List (List ℕ)) → Holds (hopFrom 0) h → h ≡ firstHopsOf p us
+  pub hops-all : (h : List (List ℕ)) → Holds (hopFrom 0) h → h ≡ firstHopsIn p us
   unfolding hopFrom hop
-  hops-all h q = holds-table (hopIn p us) h (record {
+  hops-all h q = holds-grid (hopIn p us) h (record {
     shape = q .shape;
     cells = λ u v i k. let e : n - 0 ≡ n = omega arith in q .cells u v i k ∙ ap (λ (f : ℕ). leastFrom f 0 (L u v)) e;
   })
@@ -75,7 +72,7 @@ module _ (p : Plant) (us : List Bool) where
       cells = λ u v i k. q .cells u v i k ∙ on u v ∙ hop-other b u v inside (λ t. f (and-left (flag us b) _ t));
     }
 
-    module _ (ok : Sound p) (t : List (List ℕ)) (right : t ≡ distancesOf p us) (x y : ℕ) (tail-is : x ≡ tail p b) (head-is : y ≡ head p b) (r : List ℕ)
+    module _ (ok : Sound p) (t : List (List ℕ)) (right : t ≡ distancesIn p us) (x y : ℕ) (tail-is : x ≡ tail p b) (head-is : y ≡ head p b) (r : List ℕ)
         (row : Lowered (getD t y []) (getD t x []) (getD h x []) b maxSwitches r) (used : T (flag us b))
       where
         x-in : x < maxSwitches
@@ -87,8 +84,8 @@ module _ (p : Plant) (us : List Bool) where
         -- in row x the test of the code is the test of the definition
         same : (v : ℕ) → v < maxSwitches → L x v b ≡ ltb (getD (getD t y []) v 0) (getD (getD t x []) v 0)
         same v i =
-            ap₂ (λ (u w : Bool). u && (w && ltb (distOf p us (head p b) v) (distOf p us x v))) (T-true (flag us b) used) (T-true (eqb (tail p b) x) (eq→eqb (sym tail-is)))
-            ∙ ap₂ (λ (k l : ℕ). ltb k l) (ap (λ (z : ℕ). distOf p us z v) (sym head-is) ∙ sym (cell-is p us t right y v v y-in i refl)) (sym (cell-is p us t right x v v x-in i refl))
+            ap₂ (λ (u w : Bool). u && (w && ltb (distanceIn p us (head p b) v) (distanceIn p us x v))) (T-true (flag us b) used) (T-true (eqb (tail p b) x) (eq→eqb (sym tail-is)))
+            ∙ ap₂ (λ (k l : ℕ). ltb k l) (ap (λ (z : ℕ). distanceIn p us z v) (sym head-is) ∙ sym (entry p us t right y v y-in i)) (sym (entry p us t right x v x-in i))
 
         row-x : (v : ℕ) → v < maxSwitches → getD r v 0 ≡ hopFrom b x v
         row-x v i =
@@ -98,22 +95,8 @@ module _ (p : Plant) (us : List Bool) where
 
         pub hops-put : Holds (hopFrom b) (set h x r)
         hops-put = record {
-          shape = record { long = length-set h x r ∙ q .shape .long; wide = λ u i. wide u i (eq? u x) };
-          cells = λ u v i k. put u v i k (eq? u x);
+          shape = row-shape h (q .shape) x r x-in (row .places);
+          cells = λ u v i k. set-cases h x r [] (omega (arith, x-in, q .shape .long)) (λ a l. a < maxSwitches → getD l v 0 ≡ hopFrom b a v) (λ _. row-x v k)
+              (λ a f j. q .cells a v j k ∙ on a v ∙ hop-other b a v inside (λ z. f (sym (eqb→eq (tail p b) a (and-left (eqb (tail p b) a) _ (and-right (flag us b) _ z))) ∙ sym tail-is)))
+              u i;
         }
-          where
-            same-row : getD (set h x r) x [] ≡ r
-            same-row = getD-set-same h x r [] (omega (arith, x-in, q .shape .long))
-
-            wide : (u : ℕ) → u < maxSwitches → (u ≡ x) ⊎ (u ≡ x → ⊥) → length (getD (set h x r) u []) ≡ maxSwitches
-            wide u i (inl e) = ap (λ (z : ℕ). length (getD (set h x r) z [])) e ∙ ap length same-row ∙ row .places
-            wide u i (inr f) = ap length (getD-set-other h x u r [] f) ∙ q .shape .wide u i
-
-            put : (u v : ℕ) → u < maxSwitches → v < maxSwitches → (u ≡ x) ⊎ (u ≡ x → ⊥) → cell (set h x r) u v ≡ hopFrom b u v
-            put u v i k (inl e) =
-                ap (λ (z : ℕ). cell (set h x r) z v) e ∙ ap (λ (s : List ℕ). getD s v 0) same-row ∙ row-x v k ∙ ap (λ (z : ℕ). hopFrom b z v) (sym e)
-            put u v i k (inr f) =
-                ap (λ (s : List ℕ). getD s v 0) (getD-set-other h x u r [] f)
-                ∙ q .cells u v i k
-                ∙ on u v
-                ∙ hop-other b u v inside (λ z. f (sym (eqb→eq (tail p b) u (and-left (eqb (tail p b) u) _ (and-right (flag us b) _ z))) ∙ sym tail-is))

@@ -1,4 +1,3 @@
-pub mod Cells
 pub mod Rows
 pub mod FirstHops
 pub mod Best

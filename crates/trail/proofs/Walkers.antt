@@ -1,25 +1,25 @@
 -- What a walker knows at a switch: its nearest arc, its goal and its next hop are those of the definitions. Assumes a sound plant.
 use mathlib.Core.Path.{_≡_, sym, ap, ap₂, _∙_}
-use mathlib.Core.Logic.{_⊎_, inl, inr}
+use mathlib.Core.Logic.{⊎-elim}
 use mathlib.Core.Bool.{Bool}
 use mathlib.Core.List.{List}
 use Prim.Native.Nat.{ℕ, _*_, _≤_, _<_}
 use native.Mathlib.Omega.{arith}
-use lib.Dec.{T, not-T, eqb, ltb, ltb→lt, nltb→le}
+use lib.Dec.{eqb}
 use Rattle.lists.specs.Tests.{choose}
-use Rattle.lists.proofs.Tests.{T-or}
 use Rattle.limits.specs.Limits.{maxSwitches}
 use Rattle.limits.specs.Sound.{Sound}
 use Rattle.plant.specs.declared.Plant.{Plant}
 use Rattle.walks.specs.Arcs.{tail, head}
-use Rattle.routes.specs.Trail.{next}
+use Rattle.routes.specs.Steps.{next}
+use Rattle.routes.proofs.Levels.{le?}
 use Rattle.routes.proofs.Steps.{goal-some, goal-none}
 use Rattle.distance.specs.Table.{cell}
 use Rattle.distance.specs.Distances.{flag}
 use Rattle.distance.proofs.Arcs.{tail-lt}
-use Rattle.distance.proofs.Tables.{table-holds}
+use Rattle.distance.proofs.Tables.{grid-holds}
 use Rattle.trail.specs.declared.Walker.{Walker}
-use Rattle.trail.specs.Steps.{hopIn, firstHopsOf, nearestIn, goalIn, walkerAt}
+use Rattle.trail.specs.Steps.{hopIn, firstHopsIn, nearestIn, goalIn, walkerAt}
 
 module _ (p : Plant) (us m : List Bool) (u : ℕ) where
   abbrev best : ℕ
@@ -44,21 +44,17 @@ module _ (p : Plant) (us m : List Bool) (u : ℕ) where
     goal-start h f = f ∙ sym (goal-is-start (omega arith))
 
   pub goal-lt : Sound p → goalIn p us m u < p .switches
-  goal-lt ok = go (T-or (ltb best n))
-    where
-      go : T (ltb best n) ⊎ (T (ltb best n) → ⊥) → goalIn p us m u < p .switches
-      go (inl t) = let h = ltb→lt best n t in omega (arith, goal-is-tail h, tail-lt p ok best h)
-      go (inr f) = omega (arith, goal-is-start (nltb→le best n (not-T (ltb best n) f)), ok .start-in)
+  goal-lt ok = ⊎-elim (λ h. omega (arith, goal-is-start h, ok .start-in)) (λ h. omega (arith, goal-is-tail h, tail-lt p ok best h)) (le? n best)
 
   -- ---- the walker, from the nearest arc, the goal and the table of first hops
 
-  pub walker-is : Sound p → u < p .switches → (a to b : ℕ) (via : List (List ℕ)) → a ≡ nearestIn p us m u → to ≡ goalIn p us m u → via ≡ firstHopsOf p us
+  pub walker-is : Sound p → u < p .switches → (a to b : ℕ) (via : List (List ℕ)) → a ≡ nearestIn p us m u → to ≡ goalIn p us m u → via ≡ firstHopsIn p us
       → b ≡ choose (eqb u to) a (cell via u to) → _≡_ {A = Walker} (record { at = u; to = to; aim = a; next = b; crossed = m }) (walkerAt p us m u)
   unfolding walkerAt next
   walker-is ok h a to b via e f g k =
       let to-in : to < maxSwitches = omega (arith, goal-lt ok, ok .few-switches) in
       let first : cell via u to ≡ hopIn p us u to =
-      ap (λ (s : List (List ℕ)). cell s u to) g ∙ table-holds (hopIn p us) .cells u to (omega (arith, ok .few-switches)) to-in in
+      ap (λ (s : List (List ℕ)). cell s u to) g ∙ grid-holds (hopIn p us) .cells u to (omega (arith, ok .few-switches)) to-in in
       let next-is : b ≡ choose (eqb u (goalIn p us m u)) best (hopIn p us u (goalIn p us m u)) =
       k ∙ ap (λ (x : ℕ). choose (eqb u to) a x) first ∙ ap₂ (λ (x y : ℕ). choose (eqb u x) y (hopIn p us u x)) f e in
       rw (e, f, next-is)

@@ -10,8 +10,8 @@ use Rattle.walks.specs.Visit.{scan, visit}
 use Rattle.walks.specs.Arcs.{tail, head}
 use Rattle.walks.specs.Graph.{arcs, others, visitFrom, visited, bridge, entered, earlier, used}
 use Rattle.walks.specs.Cases as plants
-use Rattle.routes.specs.Distance.{sources, within, dist, hop}
-use Rattle.routes.specs.Trail.{near, nearest, mostHops, goal, next, trailFrom, trail}
+use Rattle.routes.specs.Distance.{sources, within, dist, hop, hops, route}
+use Rattle.routes.specs.Trail.{near, nearest, legs, trail}
 use Rattle.routes.specs.Plants.{trailOf}
 
 pub record Row : Type 0 where
@@ -40,5 +40,5 @@ abbrev pub table : List Row
 table = alone ∷ oneLink ∷ triangle ∷ threeParallel ∷ ringWithTail ∷ []
 
 pub as-expected : map (λ r. trailOf (r .plant)) table ≡ map (λ r. r .labels) table
-unfolding trail trailFrom mostHops next goal nearest near hop dist within sources leastFrom count used bridge entered earlier visited visitFrom arcs others visit scan tail head live
+unfolding trail legs nearest near route hops hop dist within sources leastFrom count used bridge entered earlier visited visitFrom arcs others visit scan tail head live
 as-expected = refl

@@ -1,4 +1,4 @@
--- A row of first hops when one more arc is tried, place by place: what holds after so many places. Assumes nothing.
+-- Inner: a row of first hops when one more arc is tried, place by place: what holds after so many places. No promise of a call needs it.
 use mathlib.Core.Path.{_≡_}
 use mathlib.Core.List.{List}
 use Prim.Native.Nat.{ℕ, _≤_, _<_}

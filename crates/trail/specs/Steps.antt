@@ -1,5 +1,5 @@
--- The steps of the trail over flags of the arcs in use: the table of first hops, and what a walker on the trail knows at a switch.
--- `Planned` says what a plant and its flags have to be for the trail to be the plant's.
+-- Inner: the steps of the trail over flags of the arcs in use, as loops and inner functions keep them: the table of first hops, and what a walker on the trail
+-- knows at a switch. `Planned` is what inner functions ask of a plant and its flags. No promise of a call needs these.
 use mathlib.Core.Path.{_≡_}
 use mathlib.Core.Bool.{Bool}
 use mathlib.Core.List.{List}
@@ -11,8 +11,9 @@ use Rattle.plant.specs.declared.Plant.{Plant}
 use Rattle.walks.specs.Arcs.{tail, head}
 use Rattle.walks.specs.Graph.{Connected, used}
 use Rattle.routes.specs.Distance.{hop}
-use Rattle.routes.specs.Trail.{nearest, goal, next}
-use Rattle.distance.specs.Table.{tableOf}
+use Rattle.routes.specs.Trail.{nearest}
+use Rattle.routes.specs.Steps.{goal, next}
+use Rattle.distance.specs.Table.{grid}
 use Rattle.distance.specs.Distances.{flag}
 use Rattle.trail.specs.declared.Walker.{Walker}
 
@@ -20,7 +21,7 @@ use Rattle.trail.specs.declared.Walker.{Walker}
 pub record Planned (p : Plant) (us : List Bool) : Type 0 where
   pub sound : Sound p
   pub connected : Connected p
-  pub flags : (a : ℕ) → a < 2 * p .count → flag us a ≡ used p a
+  pub flags : (a : ℕ) → flag us a ≡ used p a
 
 module _ (p : Plant) (us : List Bool) where
   -- the lowest label of an arc in use that leaves u and lessens the distance to v; the number of labels if there is none
@@ -28,8 +29,8 @@ module _ (p : Plant) (us : List Bool) where
   hopIn u v = hop (p .switches) (2 * p .count) (tail p) (head p) (flag us) u v
 
   -- the table of first hops
-  abbrev pub firstHopsOf : List (List ℕ)
-  firstHopsOf = tableOf hopIn
+  abbrev pub firstHopsIn : List (List ℕ)
+  firstHopsIn = grid hopIn
 
   -- the arc nearest to u of those in use that are not flagged as crossed: by distance, then by label; the number of labels if there is none
   abbrev pub nearestIn : List Bool → ℕ → ℕ

@@ -1,8 +1,7 @@
--- What document 01 says of the trail of a plant: a closed walk from the start over exactly the arcs in use, with at most so many hops; and the trail in its
--- words, leg by leg.
+-- What document 01 says of the trail of a plant: a closed walk from the start over exactly the arcs in use, with at most so many hops.
 use mathlib.Core.Logic.{_↔_}
 use mathlib.Core.List.{List}
-use Prim.Native.Nat.{ℕ, _*_, _≤_}
+use Prim.Native.Nat.{ℕ, _≤_}
 use lib.Dec.{T}
 use lib.ListN.{length}
 use Rattle.lists.specs.Members.{In}
@@ -10,8 +9,7 @@ use Rattle.limits.specs.Limits.{maxHops}
 use Rattle.plant.specs.declared.Plant.{Plant}
 use Rattle.walks.specs.Walk.{Walk}
 use Rattle.walks.specs.Arcs.{tail, head}
-use Rattle.walks.specs.Graph.{used, arcsUsed}
-use Rattle.routes.specs.Trail.{unmarked, legs}
+use Rattle.walks.specs.Graph.{used}
 
 module _ (p : Plant) where
   pub record IsTrail (w : List ℕ) : Type 0 where
@@ -20,7 +18,3 @@ module _ (p : Plant) where
     -- the arcs crossed are those in use
     pub exactly : (a : ℕ) → In a w ↔ T (used p a)
     pub short : length w ≤ maxHops
-
-  -- leg by leg: to the nearest switch with an uncrossed outgoing arc in use and over that arc, while there is one; then back to the start
-  abbrev pub legsOf : List ℕ
-  legsOf = legs (p .switches) (2 * p .count) (tail p) (head p) (used p) (p .start) (arcsUsed p) unmarked (p .start)

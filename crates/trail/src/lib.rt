@@ -1,5 +1,6 @@
 // The trail of a plant: the table of first hops, a walker that goes hop by hop, and the trail counted, written to a lent buffer, and compared with a lent
-// one. The flags of the arcs in use and the table of distances are the caller's.
+// one. Inner: the functions ask of their callers what those have shown, and no call of document 01 is here. The flags of the arcs in use and the table of
+// distances are the caller's.
 ghost use mathlib.Core.Path.{_≡_};
 ghost use mathlib.Core.Bool.{true, false};
 ghost use Prim.Native.Nat.{_*_, _≤_, _<_};
@@ -11,9 +12,9 @@ ghost use Rattle.limits.specs.Sound.{Sound};
 ghost use Rattle.walks.specs.Arcs.{head};
 ghost use Rattle.routes.specs.Plants.{trailOf};
 ghost use Rattle.distance.specs.Table.{cell};
-ghost use Rattle.distance.specs.Distances.{distancesOf};
+ghost use Rattle.distance.specs.Distances.{distancesIn};
 ghost use Rattle.trail.specs.Rows.{Lowered};
-ghost use Rattle.trail.specs.Steps.{Planned, firstHopsOf, nearestIn, walkerAt, Stands};
+ghost use Rattle.trail.specs.Steps.{Planned, firstHopsIn, nearestIn, walkerAt, Stands};
 ghost use Rattle.trail.specs.Filled.{filledWith, sameList};
 use plant::Plant;
 use plant::head_of;
@@ -57,8 +58,8 @@ pub fn first_hops(
     t: [[u8; Plant::PLACES]; Plant::PLACES],
 ) -> [[u16; Plant::PLACES]; Plant::PLACES]
     requires { ⌜ Sound p ⌝ }
-    requires { ⌜ t ≡ distancesOf p used ⌝ }
-    ensures { λ r. ⌜ r ≡ firstHopsOf p used ⌝ }
+    requires { ⌜ t ≡ distancesIn p used ⌝ }
+    ensures { λ r. ⌜ r ≡ firstHopsIn p used ⌝ }
 {
     let n = 2 * p.count;
     let none = [n; Plant::PLACES];
@@ -77,7 +78,7 @@ pub fn first_hops(
 }
 
 // The uncrossed arc in use that is nearest to u, by distance and then by label; the number of labels if there is none.
-pub fn nearest(
+fn nearest(
     p: Plant,
     used: [bool; Plant::LABELS],
     t: [[u8; Plant::PLACES]; Plant::PLACES],
@@ -85,7 +86,7 @@ pub fn nearest(
     u: u8,
 ) -> u16
     requires { ⌜ Sound p ⌝ }
-    requires { ⌜ t ≡ distancesOf p used ⌝ }
+    requires { ⌜ t ≡ distancesIn p used ⌝ }
     requires { ⌜ u < p .switches ⌝ }
     ensures { λ r. ⌜ r ≡ nearestIn p used crossed u ⌝ }
 {
@@ -135,8 +136,8 @@ fn aimed(
     u: u8,
 ) -> Walker
     requires { ⌜ Sound p ⌝ }
-    requires { ⌜ t ≡ distancesOf p used ⌝ }
-    requires { ⌜ now via ≡ firstHopsOf p used ⌝ }
+    requires { ⌜ t ≡ distancesIn p used ⌝ }
+    requires { ⌜ now via ≡ firstHopsIn p used ⌝ }
     requires { ⌜ u < p .switches ⌝ }
     ensures { λ r. ⌜ r ≡ walkerAt p used crossed u ⌝ }
 {
@@ -156,7 +157,7 @@ fn aimed(
 }
 
 // The walker crosses its next arc. On the way to the nearest arc that arc stays the nearest; once it is crossed, the walker looks for another.
-pub fn step(
+fn step(
     p: Plant,
     used: [bool; Plant::LABELS],
     t: [[u8; Plant::PLACES]; Plant::PLACES],
@@ -164,8 +165,8 @@ pub fn step(
     w: Walker,
 ) -> Walker
     requires { ⌜ Planned p used ⌝ }
-    requires { ⌜ t ≡ distancesOf p used ⌝ }
-    requires { ⌜ now via ≡ firstHopsOf p used ⌝ }
+    requires { ⌜ t ≡ distancesIn p used ⌝ }
+    requires { ⌜ now via ≡ firstHopsIn p used ⌝ }
     requires { ⌜ Stands p used w ⌝ }
     requires { ⌜ w .next < 2 * p .count ⌝ }
     ensures { λ r. ⌜ r ≡ walkerAt p used (set (w .crossed) (w .next) true) (head p (w .next)) ⌝ }
@@ -183,15 +184,15 @@ pub fn step(
 }
 
 // The walker at the start, with no arc crossed.
-pub fn begin(
+fn begin(
     p: Plant,
     used: [bool; Plant::LABELS],
     t: [[u8; Plant::PLACES]; Plant::PLACES],
     via: &[[u16; Plant::PLACES]; Plant::PLACES],
 ) -> Walker
     requires { ⌜ Sound p ⌝ }
-    requires { ⌜ t ≡ distancesOf p used ⌝ }
-    requires { ⌜ now via ≡ firstHopsOf p used ⌝ }
+    requires { ⌜ t ≡ distancesIn p used ⌝ }
+    requires { ⌜ now via ≡ firstHopsIn p used ⌝ }
     ensures { λ r. ⌜ r ≡ walkerAt p used (replicate (2 * maxLinks) false) (p .start) ⌝ }
 {
     aimed(p, used, t, via, [false; Plant::LABELS], p.start)
@@ -205,8 +206,8 @@ pub fn hops(
     via: &[[u16; Plant::PLACES]; Plant::PLACES],
 ) -> u16
     requires { ⌜ Planned p used ⌝ }
-    requires { ⌜ t ≡ distancesOf p used ⌝ }
-    requires { ⌜ now via ≡ firstHopsOf p used ⌝ }
+    requires { ⌜ t ≡ distancesIn p used ⌝ }
+    requires { ⌜ now via ≡ firstHopsIn p used ⌝ }
     ensures { λ r. ⌜ r ≡ length (trailOf p) ⌝ }
 {
     let n = 2 * p.count;
@@ -228,8 +229,8 @@ pub fn fill(
     buf: &mut [u16],
 )
     requires { ⌜ Planned p used ⌝ }
-    requires { ⌜ t ≡ distancesOf p used ⌝ }
-    requires { ⌜ now via ≡ firstHopsOf p used ⌝ }
+    requires { ⌜ t ≡ distancesIn p used ⌝ }
+    requires { ⌜ now via ≡ firstHopsIn p used ⌝ }
     requires { ⌜ length (trailOf p) ≤ length (now buf) ⌝ }
     ensures { λ _. ⌜ now (buf .exit) ≡ filledWith (trailOf p) (now (buf .entry)) ⌝ }
 {
@@ -252,8 +253,8 @@ pub fn same_trail(
     lent: &[u16],
 ) -> bool
     requires { ⌜ Planned p used ⌝ }
-    requires { ⌜ t ≡ distancesOf p used ⌝ }
-    requires { ⌜ now via ≡ firstHopsOf p used ⌝ }
+    requires { ⌜ t ≡ distancesIn p used ⌝ }
+    requires { ⌜ now via ≡ firstHopsIn p used ⌝ }
     ensures { λ r. ⌜ r ≡ sameList (now (lent .entry)) (trailOf p) ⌝ }
 {
     let n = 2 * p.count;

@@ -3,7 +3,7 @@ use mathlib.Core.Path.{_≡_, _∙_}
 use Prim.Native.Nat.{_≤_, _+_, _-_}
 use native.Mathlib.Omega.{arith}
 use borrow.Author.Needs.{needs}
-use Rattle.distance.specs.Distances.{knownOf}
+use Rattle.distance.specs.Levels.{knownOf}
 use Rattle.distance.proofs.Levels.{known-none, known-all}
 use Rattle.distance.proofs.distances.Statement.{statement}
 use Rattle.distance.proofs.distances.Tie as tie

@@ -7,22 +7,22 @@ use Rattle.probing.proofs.judge_lent.Tie as tie
 differs-requires : tie.Need-differs-requires
 differs-requires c κs = search needs
 
-returns : tie.Need-returns
-returns c = record { first = simp (sym (c .before .differs .ensures) ∙ c .if1 .taken) }
-
 too-few-requires : tie.Need-too-few-requires
 too-few-requires c κs = search needs
 
+returns : tie.Need-returns
+returns c = record { first = simp (sym (c .before .before .differs .ensures) ∙ c .if1 .taken) }
+
 returns-2 : tie.Need-returns-2
 returns-2 c =
-    let d = c .before .before in
-    record { first = simp (sym (d .before .differs .ensures) ∙ d .if1 .left, sym (c .before .too-few .ensures) ∙ c .if2 .taken) }
+    let k = c .before in
+    record { first = simp (sym (k .before .before .differs .ensures) ∙ k .if1 .left, sym (k .before .too-few .ensures) ∙ c .if2 .taken) }
 
 returns-3 : tie.Need-returns-3
 returns-3 c =
-    let d = c .before .before in
-    record { first = simp (sym (d .before .differs .ensures) ∙ d .if1 .left, sym (c .before .too-few .ensures) ∙ c .if2 .left) }
+    let k = c .before in
+    record { first = simp (sym (k .before .before .differs .ensures) ∙ k .if1 .left, sym (k .before .too-few .ensures) ∙ c .if2 .left) }
 
 pub judge-lent-spec : {M : Type 1} → statement M
 judge-lent-spec =
-    tie.close (tie.spec differs-requires returns too-few-requires returns-2 returns-3)
+    tie.close (tie.spec differs-requires too-few-requires returns returns-2 returns-3)

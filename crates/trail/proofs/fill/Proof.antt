@@ -1,4 +1,4 @@
--- The trail into a buffer. The invariant: to store what is left from place i on makes what the whole trail makes. The measure is the most hops ahead.
+-- The trail into a buffer. The invariant: to store what is left from place i on makes what the whole trail makes. The measure is the hops left.
 -- Assumes nothing.
 use mathlib.Core.Path.{_≡_, refl, sym, ap, _∙_}
 use Prim.Native.Nat.{_+_}
@@ -6,10 +6,11 @@ use native.Mathlib.Omega.{arith}
 use borrow.Author.Needs.{needs}
 use lib.ListN.{length, length-set}
 use lib.Seq.{sets}
+use Rattle.lists.proofs.Arrays.{sets-front}
 use Rattle.routes.specs.Plants.{trailOf}
 use Rattle.trail.specs.Steps.{Stands}
-use Rattle.trail.proofs.Filled.{store-one, store-none, store-all}
-use Rattle.trail.proofs.Rest.{restOf, aheadOf, begins, steps, ends}
+use Rattle.trail.proofs.Filled.{store-one}
+use Rattle.trail.proofs.Rest.{restOf, begins, steps, ends}
 use Rattle.trail.proofs.fill.Statement.{statement}
 use Rattle.trail.proofs.fill.Tie as tie
 
@@ -18,7 +19,7 @@ Inv-loop p used t via buf₀ end w₀ i₀ buf w i =
     Stands p used w × (i + length (restOf p used w) ≡ length (trailOf p)) × (length buf ≡ length buf₀) × (sets buf i (restOf p used w) ≡ sets buf₀ 0 (trailOf p))
 
 abbrev μ-loop : tie.MeasureT-loop
-μ-loop p used t via buf₀ end w₀ i₀ buf w i = aheadOf p used w
+μ-loop p used t via buf₀ end w₀ i₀ buf w i = length (restOf p used w)
 
 mul-end : tie.Need-mul-end Inv-loop μ-loop
 mul-end c = omega (arith, c .before .before .pre .0 .sound .few-links)
@@ -54,7 +55,7 @@ loop-less : tie.Need-loop-less Inv-loop μ-loop
 loop-less c =
     let k = c .before .before .before .loop in
     let s = c .before .before .before .before .before .before .before in
-    steps (s .pre .0) (k .inv .0) (omega (arith, c .before .if1 .taken)) (c .step .ensures) .less
+    omega (arith, ap length (steps (s .pre .0) (k .inv .0) (omega (arith, c .before .if1 .taken)) (c .step .ensures) .rest))
 
 loop-again : tie.Need-loop-again Inv-loop μ-loop
 loop-again c =
@@ -74,7 +75,7 @@ returns : tie.Need-returns Inv-loop μ-loop
 returns c =
     let k = c .before .before .loop in
     let s = c .before .before .before .before .before .before in
-    sym (store-none (k .buf) _ (k .i) (ends (s .pre .0) (k .inv .0) (c .if1 .left))) ∙ k .inv .3 ∙ store-all (s .args .buf .now) (trailOf (s .args .p)) (s .pre .1 .1 .1)
+    sym (ap (sets (k .buf) (k .i)) (ends (s .pre .0) (k .inv .0) (c .if1 .left))) ∙ k .inv .3 ∙ sets-front (s .args .buf .now) (trailOf (s .args .p)) (s .pre .1 .1 .1)
 
 pub fill-spec : {M : Type 1} → statement M
 fill-spec =

@@ -1,4 +1,4 @@
--- The number of hops. The invariant: those counted and those left make the whole trail. The measure is the most hops ahead. Assumes nothing.
+-- The number of hops. The invariant: those counted and those left make the whole trail. The measure is the hops left. Assumes nothing.
 use mathlib.Core.Path.{_≡_, ap}
 use Prim.Native.Nat.{_+_}
 use native.Mathlib.Omega.{arith}
@@ -6,7 +6,7 @@ use lib.ListN.{length}
 use Rattle.routes.specs.Plants.{trailOf}
 use Rattle.trail.specs.Steps.{Stands}
 use Rattle.trail.proofs.Trails.{hops-limit}
-use Rattle.trail.proofs.Rest.{restOf, aheadOf, begins, steps, ends}
+use Rattle.trail.proofs.Rest.{restOf, begins, steps, ends}
 use Rattle.trail.proofs.hops.Statement.{statement}
 use Rattle.trail.proofs.hops.Tie as tie
 
@@ -14,7 +14,7 @@ abbrev Inv-loop : tie.InvT-loop
 Inv-loop p used t via n w₀ count₀ w count = Stands p used w × (count + length (restOf p used w) ≡ length (trailOf p))
 
 abbrev μ-loop : tie.MeasureT-loop
-μ-loop p used t via n w₀ count₀ w count = aheadOf p used w
+μ-loop p used t via n w₀ count₀ w count = length (restOf p used w)
 
 mul-n : tie.Need-mul-n Inv-loop μ-loop
 mul-n c = omega (arith, c .before .pre .0 .sound .few-links)
@@ -44,7 +44,7 @@ loop-less : tie.Need-loop-less Inv-loop μ-loop
 loop-less c =
     let k = c .before .before .before .loop in
     let s = c .before .before .before .before .before .before in
-    steps (s .pre .0) (k .inv .0) (c .before .if1 .taken) (c .step .ensures) .less
+    omega (arith, ap length (steps (s .pre .0) (k .inv .0) (c .before .if1 .taken) (c .step .ensures) .rest))
 
 loop-again : tie.Need-loop-again Inv-loop μ-loop
 loop-again c =

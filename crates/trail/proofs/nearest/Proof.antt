@@ -1,14 +1,16 @@
 -- The nearest uncrossed arc in use. The invariant: the best of the labels below a. Assumes nothing.
+use mathlib.Core.Path.{_≡_, ap, _∙_}
 use mathlib.Core.Logic.{⊎-elim}
-use Prim.Native.Nat.{_≤_, _+_, _-_, _*_}
+use Prim.Native.Nat.{_≤_, _-_, _*_}
 use native.Mathlib.Omega.{arith}
 use borrow.Author.Needs.{needs}
 use borrow.Author.Tests.{not-true, not-false}
 use Rattle.walks.specs.Arcs.{tail, head}
-use Rattle.distance.specs.Distances.{flag}
+use Rattle.distance.specs.Table.{cell}
+use Rattle.distance.specs.Distances.{flag, distanceIn}
 use Rattle.distance.proofs.Arcs.{tail-lt}
-use Rattle.trail.proofs.Cells.{cell-is}
-use Rattle.trail.proofs.Best.{Best, best-none, best-skip, best-stay, best-new, best-at, best-top, best-all, left-yes, left-unused, left-crossed}
+use Rattle.distance.proofs.Entries.{entry}
+use Rattle.trail.proofs.Best.{Best, best-none, best-stay, best-new, best-top, best-all, left-yes, left-unused, left-crossed}
 use Rattle.trail.proofs.nearest.Statement.{statement}
 use Rattle.trail.proofs.nearest.Tie as tie
 
@@ -70,20 +72,20 @@ loop-again c =
     let k = c .before .before .loop in
     let s = c .before .before .before in
     let p = s .args .t1 in
+    let used = s .args .t2 in
+    let crossed = s .args .t4 in
     let low = tail-lt p (s .pre .0) (k .a) (c .before .loop-test .taken) in
-    let few = s .pre .0 .few-switches in (
+    let few = s .pre .0 .few-switches in
+    let d : (y : _) → y ≡ tail p (k .a) → cell (s .args .t3) (s .args .u) y ≡ distanceIn p used (s .args .u) (tail p (k .a)) =
+    λ y e. entry p used (s .args .t3) (s .pre .1 .0) (s .args .u) y (omega arith) (omega (arith, e)) ∙ ap (distanceIn p used (s .args .u)) e in (
       omega arith,
       ⊎-elim
-          (λ w. best-at _ _ _ _ _ _ _ (k .a + 1) _ _ _ _ (w .6) (w .7)
-          (best-new _ _ _ _ _ _ _ (k .a) (k .best) (k .least) _ (left-yes (flag (s .args .t2)) (flag (s .args .t4)) (k .a) (w .0 .taken) (not-true _ (w .1 .taken)))
-          (cell-is p (s .args .t2) (s .args .t3) (s .pre .1 .0) (s .args .u) (w .3 .result) (tail p (k .a)) (omega arith) (omega (arith, w .3 .ensures)) (w .3 .ensures)) (w .5 .taken) (k .inv .1)))
+          (λ w. best-new _ _ _ _ _ _ _ (k .a) _ _ _ _ (w .6) (w .7 ∙ d (w .3 .result) (w .3 .ensures)) (omega (arith, w .5 .taken, w .7)) (left-yes (flag used) (flag crossed) (k .a) (w .0 .taken) (not-true _ (w .1 .taken))) (k .inv .1))
           (⊎-elim
-          (λ w. best-at _ _ _ _ _ _ _ (k .a + 1) _ _ _ _ (w .6) (w .7)
-          (best-stay _ _ _ _ _ _ _ (k .a) (k .best) (k .least) _
-          (cell-is p (s .args .t2) (s .args .t3) (s .pre .1 .0) (s .args .u) (w .3 .result) (tail p (k .a)) (omega arith) (omega (arith, w .3 .ensures)) (w .3 .ensures)) (w .5 .left) (k .inv .1)))
+          (λ w. best-stay _ _ _ _ _ _ _ (k .a) _ _ _ _ (w .6) (w .7) (λ _. omega (arith, w .5 .left, d (w .3 .result) (w .3 .ensures))) (k .inv .1))
           (⊎-elim
-          (λ w. best-at _ _ _ _ _ _ _ (k .a + 1) _ _ _ _ (w .2) (w .3) (best-skip _ _ _ _ _ _ _ (k .a) (k .best) (k .least) (left-crossed (flag (s .args .t2)) (flag (s .args .t4)) (k .a) (not-false _ (w .1 .left))) (k .inv .1)))
-          (λ w. best-at _ _ _ _ _ _ _ (k .a + 1) _ _ _ _ (w .1) (w .2) (best-skip _ _ _ _ _ _ _ (k .a) (k .best) (k .least) (left-unused (flag (s .args .t2)) (flag (s .args .t4)) (k .a) (w .0 .left)) (k .inv .1)))))
+          (λ w. best-stay _ _ _ _ _ _ _ (k .a) _ _ _ _ (w .2) (w .3) (λ t. absurd (left-crossed (flag used) (flag crossed) (k .a) (not-false _ (w .1 .left)) t)) (k .inv .1))
+          (λ w. best-stay _ _ _ _ _ _ _ (k .a) _ _ _ _ (w .1) (w .2) (λ t. absurd (left-unused (flag used) (flag crossed) (k .a) (w .0 .left) t)) (k .inv .1))))
           (c .if1 .came),
     )
 

@@ -1,4 +1,4 @@
--- A lent trail compared. The invariant: what is left of both is the same just where the whole of both is. The measure is the most hops ahead. Assumes nothing.
+-- A lent trail compared. The invariant: what is left of both is the same just where the whole of both is. The measure is the hops left. Assumes nothing.
 use mathlib.Core.Path.{_≡_, refl, sym, ap, _∙_}
 use Prim.Native.Nat.{_≤_}
 use native.Mathlib.Omega.{arith}
@@ -8,7 +8,7 @@ use Rattle.routes.specs.Plants.{trailOf}
 use Rattle.trail.specs.Filled.{sameList}
 use Rattle.trail.specs.Steps.{Stands}
 use Rattle.trail.proofs.Filled.{same-short, same-differs, same-one, same-end}
-use Rattle.trail.proofs.Rest.{restOf, aheadOf, begins, steps, ends}
+use Rattle.trail.proofs.Rest.{restOf, begins, steps, ends}
 use Rattle.trail.proofs.same_trail.Statement.{statement}
 use Rattle.trail.proofs.same_trail.Tie as tie
 
@@ -16,7 +16,7 @@ abbrev Inv-loop : tie.InvT-loop
 Inv-loop p used t via lent n w₀ k₀ w k = Stands p used w × (k ≤ length lent) × (sameList (drop k lent) (restOf p used w) ≡ sameList lent (trailOf p))
 
 abbrev μ-loop : tie.MeasureT-loop
-μ-loop p used t via lent n w₀ k₀ w k = aheadOf p used w
+μ-loop p used t via lent n w₀ k₀ w k = length (restOf p used w)
 
 mul-n : tie.Need-mul-n Inv-loop μ-loop
 mul-n c = omega (arith, c .before .before .pre .0 .sound .few-links)
@@ -69,7 +69,7 @@ loop-less c =
     let else2 = c .before .before .before .before in
     let k = else2 .before .before .before .loop in
     let s = else2 .before .before .before .before .before .before .before in
-    steps (s .pre .0) (k .inv .0) (else2 .before .if1 .taken) (c .step .ensures) .less
+    omega (arith, ap length (steps (s .pre .0) (k .inv .0) (else2 .before .if1 .taken) (c .step .ensures) .rest))
 
 loop-again : tie.Need-loop-again Inv-loop μ-loop
 loop-again c =

@@ -8,21 +8,21 @@ use Rattle.search.proofs.Search.judge.Tie as tie
 sound-requires : tie.Need-sound-requires
 sound-requires c κs = search needs
 
-returns : tie.Need-returns
-returns c = record { first = simp (sym (c .before .sound .ensures) ∙ not-true _ (c .if1 .taken)) }
-
 ended-requires : tie.Need-ended-requires
 ended-requires c κs = search needs
 
+returns : tie.Need-returns
+returns c = record { first = simp (sym (c .before .before .sound .ensures) ∙ not-true _ (c .if1 .taken)) }
+
 returns-2 : tie.Need-returns-2
 returns-2 c =
-    let k = c .before .before in
-    record { first = simp (sym (k .before .sound .ensures) ∙ not-false _ (k .if1 .left), sym (c .before .ended .ensures) ∙ c .if2 .taken) }
+    let k = c .before in
+    record { first = simp (sym (k .before .before .sound .ensures) ∙ not-false _ (k .if1 .left), sym (k .before .ended .ensures) ∙ c .if2 .taken) }
 
 returns-3 : tie.Need-returns-3
 returns-3 c =
-    let k = c .before .before in
-    record { first = simp (sym (k .before .sound .ensures) ∙ not-false _ (k .if1 .left), sym (c .before .ended .ensures) ∙ c .if2 .left) }
+    let k = c .before in
+    record { first = simp (sym (k .before .before .sound .ensures) ∙ not-false _ (k .if1 .left), sym (k .before .ended .ensures) ∙ c .if2 .left) }
 
 pub judge-spec : {M : Type 1} → statement M
-judge-spec = tie.close (tie.spec sound-requires returns ended-requires returns-2 returns-3)
+judge-spec = tie.close (tie.spec sound-requires ended-requires returns returns-2 returns-3)
