@@ -8,7 +8,7 @@ use native.Mathlib.Omega.{arith}
 use borrow.Author.Tests.{eqb-true, eq-eqb, ne-eqb}
 use lib.Dec.{T, eqb}
 use lib.ListN.{length}
-use Rattle.lists.proofs.Tests.{and-true, true-T, T-true}
+use Rattle.lists.proofs.Tests.{and-comm, and-true, true-T, T-true}
 use Rattle.plant.specs.declared.Plant.{Plant}
 use Rattle.limits.specs.Sound.{Sound}
 use Rattle.walks.specs.Arcs.{tail, head}
@@ -21,7 +21,6 @@ use Rattle.rings.specs.Ring.{readFrom, ring}
 use Rattle.rings.specs.Order.{nth, order}
 use Rattle.rings.specs.Probe.{upTo, back, outward, probe}
 use Rattle.rings.specs.Injection.{placeOf, ringOf, orderOf, probeRules, probeOf, probeRun}
-use Rattle.rings.proofs.Packet.{lost-no-rule, lost-link-down}
 use Rattle.rings.proofs.Ring as rings
 use Rattle.rings.proofs.Probe as probes
 use Rattle.rings.proofs.Rules.{all-rules}
@@ -33,8 +32,8 @@ pub run-is : (rule : ℕ → ℕ → Bool) (up : ℕ → Bool) (hd : ℕ → ℕ
 run-is rule up hd = record {
   crosses = λ at n a w e f. rw (e, f) refl;
   ends = λ at n. refl;
-  no-rule = lost-no-rule rule up hd;
-  link-down = lost-link-down rule up hd;
+  no-rule = λ at n a w e. rw e refl;
+  link-down = λ at n a w e. rw (e, and-comm (rule at a) false) refl;
 }
 
 -- a rule for each arc of a kind, at the switch that it leaves

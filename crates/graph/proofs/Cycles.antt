@@ -20,7 +20,7 @@ use Rattle.limits.specs.Sound.{Sound}
 use Rattle.walks.specs.Arcs.{tail, head, Arc, Valid}
 use Rattle.walks.specs.Visit.{rank}
 use Rattle.walks.specs.Graph.{Crosses, arcs, visited, bridge, entered}
-use Rattle.walks.specs.Cycles.{Level}
+use Rattle.walks.specs.Inner.{Level}
 use Rattle.walks.proofs.Live.{live-below}
 use Rattle.walks.proofs.Visit.{rank-inj, Good}
 use Rattle.walks.proofs.Labels.{even-half, odd-half, tail-even, tail-odd, head-even, head-odd, crosses, ends, even-arc}
@@ -30,8 +30,7 @@ use Rattle.walks.proofs.Cycles.{rk, Ent, Seen, Round, one-way, entry, round-fli
 use Rattle.walks.proofs.Valid.{sound-valid}
 use Rattle.graph.specs.declared.Visited.{Visited}
 use Rattle.graph.specs.Shows.{Shows}
-use Rattle.graph.specs.Steps.{farEnd}
-use Rattle.graph.specs.Cycles.{EntryLinks, closes, Covered}
+use Rattle.graph.specs.Inner.{farEnd, EntryLinks, closes, Covered}
 
 -- a flag that is not set after one more is set was not set before
 unmarked : (flags : List Bool) (l m : ℕ) → l < length flags → getD (set flags l true) m false ≡ false → getD flags m false ≡ false
@@ -46,6 +45,12 @@ module _ (p : Plant) where
     pub y-in : Seen p y
     pub round : Round p x y
     pub level : (a : ℕ) → Ent p a → getD flags (a / 2) false ≡ false → Level p a x y → Level p a (first p k) (second p k)
+
+  -- x goes back over the link by which it was entered: there is a place for its flag, the number falls, and so the climb goes on
+  pub record Back (v : Visited) (up : List ℕ) (k : ℕ) (flags : List Bool) (x y : ℕ) : Type 0 where
+    pub place : getD up x 0 < maxLinks
+    pub less : getD (v .rank) (farEnd (linkAt p (getD up x 0)) x) 0 < getD (v .rank) x 0
+    pub step : Climbing k (set flags (getD up x 0) true) (farEnd (linkAt p (getD up x 0)) x) y
 
   module _ (sound : Sound p) where
     ok : Valid p
@@ -230,14 +235,7 @@ module _ (p : Plant) where
         far-is : farEnd (linkAt p (getD up x 0)) x ≡ tail p arc
         far-is = rw link (subst (λ (z : ℕ). farEnd (linkAt p (arc / 2)) z ≡ tail p arc) (above .2) (far-tail arc (entered-arc p ok arc (above .1))))
 
-        pub climb-place : getD up x 0 < maxLinks
-        climb-place = rw link (link-place arc (above .1))
-
-        pub climb-less : getD (v .rank) (farEnd (linkAt p (getD up x 0)) x) 0 < getD (v .rank) x 0
-        climb-less =
-            omega (arith, shows .ranks (farEnd (linkAt p (getD up x 0)) x), shows .ranks x, ap (rk p) far-is, good .up arc (above .1), ap (rk p) (above .2))
-
-        pub climb-step : Climbing k (set flags (getD up x 0) true) (farEnd (linkAt p (getD up x 0)) x) y
+        climb-step : Climbing k (set flags (getD up x 0) true) (farEnd (linkAt p (getD up x 0)) x) y
         climb-step = rw (far-is, link) (record {
           covered = mark k (arc / 2) flags (link-place arc (above .1)) (passed p ok arc y (above .1) less around (c .y-in)) (c .covered);
           x-in = good .low arc (above .1);
@@ -258,6 +256,13 @@ module _ (p : Plant) where
 
             differ : (a : ℕ) → getD (set flags (arc / 2) true) (a / 2) false ≡ false → a ≡ arc → ⊥
             differ a f q = not-both _ (ap (λ (z : ℕ). getD (set flags (arc / 2) true) (z / 2) false) q ∙ getD-set-same flags (arc / 2) true false place) f
+
+        pub climb-back : Back v up k flags x y
+        climb-back = record {
+          place = rw link (link-place arc (above .1));
+          less = omega (arith, shows .ranks (farEnd (linkAt p (getD up x 0)) x), shows .ranks x, ap (rk p) far-is, good .up arc (above .1), ap (rk p) (above .2));
+          step = climb-step;
+        }
 
     -- the two have met
     pub climb-end : {k : ℕ} {flags : List Bool} {x y : ℕ} → Climbing k flags x y → x ≡ y → Covered p (k + 1) flags

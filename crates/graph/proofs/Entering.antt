@@ -18,8 +18,8 @@ use Rattle.walks.specs.Visit.{St, rank}
 use Rattle.walks.proofs.Visit.{rank-eq, rank-ne}
 use Rattle.walks.proofs.Labels.{even-or-odd}
 use Rattle.graph.specs.declared.Visited.{Visited}
-use Rattle.graph.specs.Shows.{Shows, Room, unvisited}
-use Rattle.graph.specs.Steps.{enterOf, At}
+use Rattle.graph.specs.Shows.{Shows}
+use Rattle.graph.specs.Inner.{Room, unvisited, enterOf, At}
 use Rattle.graph.proofs.Unvisited.{unvisited-set}
 use Rattle.lists.proofs.Arrays.{flag-set}
 

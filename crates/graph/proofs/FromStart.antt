@@ -18,7 +18,7 @@ use Rattle.walks.specs.Arcs.{labels}
 use Rattle.walks.specs.Graph.{arcs, others, visitFrom, visited, connected}
 use Rattle.graph.specs.declared.Visited.{Visited}
 use Rattle.graph.specs.Shows.{Shows}
-use Rattle.graph.specs.Steps.{takesPart}
+use Rattle.graph.specs.Inner.{takesPart}
 use Rattle.lists.proofs.Tests.{and-not}
 use Rattle.lists.proofs.Stepwise.{every-true, every-false}
 use Rattle.lists.proofs.Agree.{keep-agree}

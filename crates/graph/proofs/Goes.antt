@@ -11,12 +11,13 @@ use Rattle.lists.proofs.Members.{memb→in, in→memb}
 use Rattle.plant.specs.declared.Plant.{Plant}
 use Rattle.plant.specs.Links.{linkAt}
 use Rattle.limits.specs.Sound.{Sound}
-use Rattle.walks.specs.Visit.{St, Scan, done}
+use Rattle.walks.specs.Visit.{St}
+use Rattle.walks.specs.Inner.{Scan, done}
 use Rattle.walks.specs.Arcs.{tail, head}
 use Rattle.walks.specs.Graph.{others}
 use Rattle.graph.specs.declared.Visited.{Visited}
-use Rattle.graph.specs.Shows.{Shows, Room}
-use Rattle.graph.specs.Steps.{farEnd, takesPart, enterOf, Went}
+use Rattle.graph.specs.Shows.{Shows}
+use Rattle.graph.specs.Inner.{Room, farEnd, takesPart, enterOf, Went}
 use Rattle.graph.proofs.Links.{Far, out, back, away, far-cases, from-none, from-all, Tries, tries-not, tries-old, tries-new, Enters}
 use Rattle.graph.proofs.Entering.{enter-shows}
 use Rattle.lists.proofs.Arrays.{set-keeps}

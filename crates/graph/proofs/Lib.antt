@@ -4,6 +4,5 @@ pub mod Entering
 pub mod Goes
 pub mod Whole
 pub mod FromStart
-pub mod Filled
 pub mod Uses
 pub mod Cycles

@@ -15,10 +15,11 @@ use Rattle.plant.specs.declared.Link.{Link}
 use Rattle.plant.specs.declared.Plant.{Plant}
 use Rattle.plant.specs.Links.{linkAt, first, second}
 use Rattle.walks.specs.Arcs.{labels, tail, head}
-use Rattle.walks.specs.Visit.{St, Scan, skip, enter}
+use Rattle.walks.specs.Visit.{St}
+use Rattle.walks.specs.Inner.{Scan, skip, enter}
 use Rattle.walks.specs.Graph.{others}
 use Rattle.walks.proofs.Labels.{tail-even, tail-odd, head-even, head-odd, even-half, odd-half}
-use Rattle.graph.specs.Steps.{farEnd, takesPart}
+use Rattle.graph.specs.Inner.{farEnd, takesPart}
 
 -- ---- the far end of a link
 

@@ -8,7 +8,7 @@ use lib.ListN.{length, getD, set}
 use lib.Seq.{getD-set-same}
 use Rattle.lists.proofs.Tests.{T-true, true-T, false-T}
 use Rattle.lists.proofs.Count.{count-le, count-lt}
-use Rattle.graph.specs.Shows.{unvisited}
+use Rattle.graph.specs.Inner.{unvisited}
 use Rattle.lists.proofs.Arrays.{set-keeps}
 
 pub unvisited-kept : (n : ℕ) (l m : List Bool) → ((x : ℕ) → getD l x false ≡ true → getD m x false ≡ true) → unvisited n m ≤ unvisited n l

@@ -3,12 +3,12 @@ use mathlib.Core.Path.{_≡_, refl, sym, ap, _∙_}
 use mathlib.Core.Logic.{_⊎_, inl, inr}
 use mathlib.Core.Bool.{Bool, true, false, not}
 use mathlib.Core.List.{List}
-use Prim.Native.Nat.{ℕ, _+_, _*_, _/_, _≤_, _<_}
+use Prim.Native.Nat.{ℕ, _+_, _-_, _*_, _/_, _≤_, _<_}
 use native.Mathlib.Omega.{arith}
-use lib.Dec.{T, not-T, ltb, ltb→lt, nltb→le}
+use lib.Dec.{T}
 use lib.ListN.{getD}
 use borrow.Author.Tests.{le-ltb}
-use Rattle.lists.proofs.Tests.{T-or, true-T, false-T, not-true-false}
+use Rattle.lists.proofs.Tests.{below?, true-T, false-T, not-true-false}
 use Rattle.lists.specs.Members.{In}
 use Rattle.lists.proofs.Members.{memb→in}
 use Rattle.plant.specs.declared.Link.{Link}
@@ -27,9 +27,18 @@ use Rattle.walks.proofs.Counting.{bridge-entered}
 use Rattle.graph.specs.declared.Visited.{Visited}
 use Rattle.graph.specs.Flags.{Flags, countSet}
 use Rattle.graph.specs.Shows.{Shows}
-use Rattle.graph.specs.Steps.{inUse}
+use Rattle.graph.specs.Inner.{inUse}
 use Rattle.walks.proofs.Valid.{sound-valid}
-use Rattle.graph.proofs.Filled.{flags-count}
+use Rattle.lists.specs.Count.{count}
+use Rattle.lists.proofs.Stepwise.{count-past}
+use Rattle.lists.proofs.Agree.{count-same}
+
+-- where the test fails from k on, as many flags are set as numbers below k pass
+flags-count : (n : ℕ) (test : ℕ → Bool) (k : ℕ) (flags : List Bool) → Flags n test flags → k ≤ n → ((j : ℕ) → k ≤ j → test j ≡ false) → countSet flags ≡ count k test
+unfolding countSet
+flags-count n test k flags f h g =
+    let e : n ≡ k + (n - k) = omega arith in
+    ap (λ (m : ℕ). count m (λ i. getD flags i false)) (f .places ∙ e) ∙ count-same (k + (n - k)) (λ i. getD flags i false) test (f .tells) ∙ count-past test k (n - k) g
 
 module _ (p : Plant) where
   -- ---- what does not take part is no bridge, and has no arc in use
@@ -64,11 +73,11 @@ module _ (p : Plant) where
 
   -- every place has a switch for its link's first end
   pub first-place : (l : ℕ) → Sound p → first p l < maxSwitches
-  first-place l sound = go (T-or (ltb l (p .count)))
+  first-place l sound = go (below? l (p .count))
     where
-      go : T (ltb l (p .count)) ⊎ (T (ltb l (p .count)) → ⊥) → first p l < maxSwitches
-      go (inl t) = omega (arith, sound .first-in l (ltb→lt l (p .count) t), sound .few-switches)
-      go (inr t) = omega (arith, ap (λ (k : Link). k .first) (sound .zeros l (nltb→le l (p .count) (not-T (ltb l (p .count)) t))))
+      go : (l < p .count) ⊎ (p .count ≤ l) → first p l < maxSwitches
+      go (inl h) = omega (arith, sound .first-in l h, sound .few-switches)
+      go (inr h) = omega (arith, ap (λ (k : Link). k .first) (sound .zeros l h))
 
   -- a link at a visited switch that the visit did not enter is no bridge
   pub bridge-not-met : (l : ℕ) (v : Visited) → Sound p → Shows v (visited p) → getD (v .entered) l false ≡ false → getD (v .seen) (first p l) false ≡ true → bridge p l ≡ false

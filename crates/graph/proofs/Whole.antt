@@ -21,8 +21,8 @@ use Rattle.walks.proofs.Labels.{others-are}
 use Rattle.walks.proofs.Fuel.{unique}
 use Rattle.walks.proofs.Visited.{begin, run}
 use Rattle.graph.specs.declared.Visited.{Visited}
-use Rattle.graph.specs.Shows.{Shows, unvisited}
-use Rattle.graph.specs.Steps.{beginOf, At, Went}
+use Rattle.graph.specs.Shows.{Shows}
+use Rattle.graph.specs.Inner.{unvisited, beginOf, At, Went}
 use Rattle.walks.proofs.Valid.{sound-valid}
 use Rattle.graph.proofs.Unvisited.{unvisited-set}
 use Rattle.lists.proofs.Arrays.{flag-set}

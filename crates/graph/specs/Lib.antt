@@ -1,4 +1,3 @@
 pub mod Flags
 pub mod Shows
-pub mod Steps
-pub mod Cycles
+pub mod Inner

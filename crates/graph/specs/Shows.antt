@@ -1,13 +1,9 @@
 -- What a value of `Visited` tells of a state of the depth-first visit. Assumes nothing.
 use mathlib.Core.Path.{_≡_}
-use mathlib.Core.Bool.{Bool, false, not, _||_}
-use mathlib.Core.List.{List}
-use Prim.Native.Nat.{ℕ, _+_, _*_, _≤_}
+use mathlib.Core.Bool.{false, _||_}
+use Prim.Native.Nat.{ℕ, _+_, _*_}
 use lib.ListN.{length, getD}
 use Rattle.lists.specs.Members.{memb}
-use Rattle.lists.specs.Count.{count}
-use Rattle.limits.specs.Limits.{maxSwitches, maxLinks}
-use Rattle.plant.specs.declared.Plant.{Plant}
 use Rattle.walks.specs.Visit.{St, rank}
 use Rattle.graph.specs.declared.Visited.{Visited}
 
@@ -17,14 +13,3 @@ pub record Shows (v : Visited) (s : St) : Type 0 where
   pub ranks : (x : ℕ) → getD (v .rank) x 0 ≡ rank x (s .ord)
   pub enters : (l : ℕ) → getD (v .entered) l false ≡ memb (2 * l) (s .ent) || memb (2 * l + 1) (s .ent)
   pub counts : v .next ≡ length (s .ord)
-
--- how many switches below n are not visited
-unfoldable pub unvisited : ℕ → List Bool → ℕ
-unvisited n seen = count n (λ x. not (getD seen x false))
-
--- there is a place for each switch and each link, and a number for each switch that is not visited
-pub record Room (p : Plant) (v : Visited) : Type 0 where
-  pub seen-places : length (v .seen) ≡ maxSwitches
-  pub rank-places : length (v .rank) ≡ maxSwitches
-  pub entered-places : length (v .entered) ≡ maxLinks
-  pub numbers : v .next + unvisited (p .switches) (v .seen) ≤ p .switches

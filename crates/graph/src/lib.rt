@@ -8,8 +8,7 @@ ghost use Rattle.plant.specs.Links.{live};
 ghost use Rattle.walks.specs.Graph.{others, visitFrom, visited, connected, bridge, used};
 ghost use Rattle.graph.specs.Flags.{Flags, countSet};
 ghost use Rattle.graph.specs.Shows.{Shows};
-ghost use Rattle.graph.specs.Cycles.{EntryLinks, closes, Covered};
-ghost use Rattle.graph.specs.Steps.{farEnd, takesPart, enterOf, beginOf, At, Went, inUse};
+ghost use Rattle.graph.specs.Inner.{EntryLinks, closes, Covered, farEnd, takesPart, enterOf, beginOf, At, Went, inUse};
 use plant::Link;
 use plant::Plant;
 

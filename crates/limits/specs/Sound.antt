@@ -1,4 +1,4 @@
--- A sound plant: document 01, "Plant and limits", and the zeros of "Listing bytes".
+-- A sound plant, one that keeps the limits: document 01, "Plant and limits", and the zeros of "Listing bytes".
 use mathlib.Core.Path.{_≡_}
 use Prim.Native.Nat.{ℕ, _^_, _≤_, _<_}
 use lib.ListN.{length}
@@ -6,6 +6,7 @@ use Rattle.plant.specs.declared.Plant.{Plant}
 use Rattle.plant.specs.Links.{zeroLink, linkAt, first, second}
 use Rattle.limits.specs.Limits.{maxSwitches, maxLinks}
 
+-- its switches and links are within the limits, its start and the two different ends of each link are switches
 pub record Sound (p : Plant) : Type 0 where
   pub some-switch : 1 ≤ p .switches
   pub few-switches : p .switches ≤ maxSwitches

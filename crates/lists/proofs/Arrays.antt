@@ -1,7 +1,7 @@
 -- Laws of arrays as lists: their length as ownership tells it, members laid one after the other, one member more, flags. Assumes nothing.
-use mathlib.Core.Path.{_≡_, refl, sym, ap, _∙_}
+use mathlib.Core.Path.{_≡_, sym, ap, _∙_}
 use mathlib.Core.Logic.{_⊎_, inl, inr}
-use mathlib.Core.Bool.{Bool, true, false, _||_}
+use mathlib.Core.Bool.{Bool, true, false, _||_, or-true}
 use mathlib.Core.List.{List, [], _∷_, _++_, map}
 use Prim.Native.Nat.{ℕ, suc, _+_, _≤_, _<_}
 use native.Mathlib.Numerals.{add-one}
@@ -41,10 +41,6 @@ laid b b′ i xs e = ap length e ∙ length-sets b i xs
 
 -- ---- arrays of flags
 
-or-last : (b : Bool) → b || true ≡ true
-or-last true = refl
-or-last false = refl
-
 -- one flag more is set
 pub flag-set : (l : List Bool) (i x : ℕ) → i < length l → getD (set l i true) x false ≡ eqb x i || getD l x false
 flag-set l i x h = go (eq? x i)
@@ -55,4 +51,4 @@ flag-set l i x h = go (eq? x i)
 
 -- what is set stays set
 pub set-keeps : (l : List Bool) (i x : ℕ) → i < length l → getD l x false ≡ true → getD (set l i true) x false ≡ true
-set-keeps l i x h e = flag-set l i x h ∙ rw e (or-last (eqb x i))
+set-keeps l i x h e = flag-set l i x h ∙ rw e (or-true (eqb x i))

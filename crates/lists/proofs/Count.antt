@@ -5,9 +5,10 @@ use mathlib.Core.Bool.{Bool, true, false}
 use mathlib.Core.List.{List, [], _∷_}
 use Prim.Native.Nat.{ℕ, zero, suc, _+_, _*_, _≤_, _<_}
 use native.Mathlib.Omega.{arith}
-use lib.Dec.{T, not-T, ltb, ltb→lt, nltb→le}
+use lib.Dec.{T, ltb}
+use borrow.Author.Tests.{lt-ltb, le-ltb}
 use lib.ListN.{length}
-use Rattle.lists.proofs.Tests.{eq?, T-or}
+use Rattle.lists.proofs.Tests.{eq?, below?}
 use Rattle.lists.specs.Members.{In, memb, Distinct}
 use Rattle.lists.proofs.Members.{memb→in, in→memb}
 use Rattle.lists.specs.Count.{bit, count}
@@ -31,13 +32,11 @@ bit-le-one false = omega arith
 
 -- of two different numbers just one is below the other
 pub bit-ltb : (m n : ℕ) → (m ≡ n → ⊥) → bit (ltb m n) + bit (ltb n m) ≡ 1
-bit-ltb m n e = go (T-or (ltb m n)) (T-or (ltb n m))
+bit-ltb m n e = go (below? m n)
   where
-    go : T (ltb m n) ⊎ (T (ltb m n) → ⊥) → T (ltb n m) ⊎ (T (ltb n m) → ⊥) → bit (ltb m n) + bit (ltb n m) ≡ 1
-    go (inl t) (inl u) = absurd (omega (arith, ltb→lt m n t, ltb→lt n m u))
-    go (inl t) (inr u) = omega (arith, bit-true (ltb m n) t, bit-false (ltb n m) u)
-    go (inr t) (inl u) = omega (arith, bit-false (ltb m n) t, bit-true (ltb n m) u)
-    go (inr t) (inr u) = absurd (omega (arith, nltb→le m n (not-T (ltb m n) t), nltb→le n m (not-T (ltb n m) u), e))
+    go : (m < n) ⊎ (n ≤ m) → bit (ltb m n) + bit (ltb n m) ≡ 1
+    go (inl h) = rw (lt-ltb m n h, le-ltb n m (omega arith))
+    go (inr h) = rw (le-ltb m n h, lt-ltb n m (omega (arith, e)))
 
 pub count-le : (n : ℕ) (p q : ℕ → Bool) → ((k : ℕ) → k < n → T (p k) → T (q k)) → count n p ≤ count n q
 unfolding count
@@ -135,7 +134,3 @@ distinct-count n (x ∷ xs) d f =
     go : (k : ℕ) → (k ≡ x) ⊎ In k xs → (k ≡ x) ⊎ T (memb k xs)
     go k (inl e) = inl e
     go k (inr h) = inr (in→memb k xs h)
-
--- a list of distinct numbers that has the numbers below n and no other has n members
-pub distinct-length : (n : ℕ) (xs : List ℕ) → Distinct xs → ((x : ℕ) → In x xs → x < n) → ((x : ℕ) → x < n → In x xs) → length xs ≡ n
-distinct-length n xs d f g = distinct-count n xs d f ∙ count-every n (λ k. memb k xs) (λ k h. in→memb k xs (g k h))

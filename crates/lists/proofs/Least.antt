@@ -4,8 +4,8 @@ use mathlib.Core.Logic.{_⊎_, inl, inr}
 use mathlib.Core.Bool.{Bool, true, false}
 use Prim.Native.Nat.{ℕ, zero, suc, _+_, _≤_, _<_}
 use native.Mathlib.Omega.{arith}
-use lib.Dec.{T, not-T, ltb, ltb→lt, lt→ltb, nltb→le}
-use Rattle.lists.proofs.Tests.{eq?, T-or}
+use lib.Dec.{T}
+use Rattle.lists.proofs.Tests.{eq?, below?}
 use Rattle.lists.specs.Least.{leastFrom, least}
 
 -- r is the first of the numbers k .. e - 1 that passes, or e
@@ -56,35 +56,32 @@ module _ (n : ℕ) (p : ℕ → Bool) where
 
   -- a number that passes is no less than the least
   pub least-le : (j : ℕ) → T (p j) → least n p ≤ j
-  least-le j t = go (T-or (ltb j (least n p)))
+  least-le j t = go (below? j (least n p))
     where
-      go : T (ltb j (least n p)) ⊎ (T (ltb j (least n p)) → ⊥) → least n p ≤ j
-      go (inl u) = absurd (least-first j (ltb→lt j (least n p) u) t)
-      go (inr u) = nltb→le j (least n p) (not-T (ltb j (least n p)) u)
+      go : (j < least n p) ⊎ (least n p ≤ j) → least n p ≤ j
+      go (inl h) = absurd (least-first j h t)
+      go (inr h) = h
 
   -- the only number below n that passes and has none before it
   pub least-is : (r : ℕ) → r < n → T (p r) → ((j : ℕ) → j < r → T (p j) → ⊥) → least n p ≡ r
-  least-is r h t f = go (T-or (ltb (least n p) r))
+  least-is r h t f = go (below? (least n p) r)
     where
-      le : least n p ≤ r
-      le = least-le r t
-
-      go : T (ltb (least n p) r) ⊎ (T (ltb (least n p) r) → ⊥) → least n p ≡ r
-      go (inl u) = absurd (f (least n p) (ltb→lt (least n p) r u) (least-passes (omega (arith, le))))
-      go (inr u) = omega (arith, le, nltb→le (least n p) r (not-T (ltb (least n p) r) u))
+      go : (least n p < r) ⊎ (r ≤ least n p) → least n p ≡ r
+      go (inl u) = absurd (f (least n p) u (least-passes (omega arith)))
+      go (inr u) = omega (arith, least-le r t)
 
   -- none passes
   pub least-none : ((j : ℕ) → j < n → T (p j) → ⊥) → least n p ≡ n
-  least-none f = go (T-or (ltb (least n p) n))
+  least-none f = go (below? (least n p) n)
     where
-      go : T (ltb (least n p) n) ⊎ (T (ltb (least n p) n) → ⊥) → least n p ≡ n
-      go (inl u) = absurd (f (least n p) (ltb→lt (least n p) n u) (least-passes (ltb→lt (least n p) n u)))
-      go (inr u) = omega (arith, least-top, nltb→le (least n p) n (not-T (ltb (least n p) n) u))
+      go : (least n p < n) ⊎ (n ≤ least n p) → least n p ≡ n
+      go (inl u) = absurd (f (least n p) u (least-passes u))
+      go (inr u) = omega (arith, least-top)
 
   -- some number passes, or none
   pub some? : ((r : ℕ) × (r < n) × T (p r)) ⊎ ((j : ℕ) → j < n → T (p j) → ⊥)
-  some? = go (T-or (ltb (least n p) n))
+  some? = go (below? (least n p) n)
     where
-      go : T (ltb (least n p) n) ⊎ (T (ltb (least n p) n) → ⊥) → ((r : ℕ) × (r < n) × T (p r)) ⊎ ((j : ℕ) → j < n → T (p j) → ⊥)
-      go (inl u) = inl (least n p, ltb→lt (least n p) n u, least-passes (ltb→lt (least n p) n u))
-      go (inr u) = inr (λ j h t. u (lt→ltb (least n p) n (omega (arith, least-le j t))))
+      go : (least n p < n) ⊎ (n ≤ least n p) → ((r : ℕ) × (r < n) × T (p r)) ⊎ ((j : ℕ) → j < n → T (p j) → ⊥)
+      go (inl u) = inl (least n p, u, least-passes u)
+      go (inr u) = inr (λ j h t. omega (arith, least-le j t))

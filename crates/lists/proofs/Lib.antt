@@ -8,3 +8,5 @@ pub mod Arrays
 pub mod Agree
 pub mod Stepwise
 pub mod Parts
+pub mod Padded
+pub mod Filled

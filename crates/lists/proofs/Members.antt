@@ -1,13 +1,13 @@
 -- Laws of membership: as a relation, as a test, at a place; a test at all members, and what holds of each. Assumes nothing.
 use mathlib.Core.Path.{_≡_, refl, sym, ap, _∙_}
 use mathlib.Core.Logic.{_⊎_, inl, inr}
-use mathlib.Core.Bool.{Bool, true, _&&_}
+use mathlib.Core.Bool.{Bool, true, _&&_, _||_, and-assoc, or-assoc}
 use mathlib.Core.List.{List, [], _∷_, _++_}
 use Prim.Native.Nat.{ℕ, zero, suc, _<_}
 use native.Mathlib.Omega.{arith}
 use lib.Dec.{T, eqb, eqb→eq}
 use lib.ListN.{length, getD, replicate}
-use Rattle.lists.proofs.Tests.{T-or, eq→eqb, or-left, or-right, or-cases, and-true, and-assoc}
+use Rattle.lists.proofs.Tests.{T-or, eq→eqb, or-left, or-right, or-cases, and-true}
 use Rattle.lists.specs.Members.{In, memb, all}
 
 pub memb→in : (x : ℕ) (l : List ℕ) → T (memb x l) → In x l
@@ -49,6 +49,10 @@ in-append x (y ∷ l) m (inr h) = go (in-append x l m h)
     go : In x l ⊎ In x m → In x (y ∷ l) ⊎ In x m
     go (inl i) = inl (inr i)
     go (inr i) = inr i
+
+pub memb-append : (x : ℕ) (l m : List ℕ) → memb x (l ++ m) ≡ memb x l || memb x m
+memb-append x [] m = refl
+memb-append x (y ∷ l) m = ap (λ (b : Bool). eqb x y || b) (memb-append x l m) ∙ sym (or-assoc (eqb x y) (memb x l) (memb x m))
 
 -- ---- members by place
 

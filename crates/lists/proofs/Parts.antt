@@ -1,11 +1,11 @@
 -- Parts of lists: the first members, and members of parts. Assumes nothing.
-use mathlib.Core.Path.{_≡_, sym, ap, _∙_, subst}
+use mathlib.Core.Path.{_≡_, sym, ap, _∙_}
 use mathlib.Core.Logic.{_⊎_, inl, inr, _↔_}
 use mathlib.Core.Bool.{Bool, true}
 use mathlib.Core.List.{List, [], _∷_, _++_}
 use Prim.Native.Nat.{ℕ, zero, suc, _-_, _≤_, _<_}
 use native.Mathlib.Omega.{arith}
-use lib.ListN.{length, getD, take, drop, take-append-drop}
+use lib.ListN.{length, getD, take}
 use lib.Seq.{length-take-le, getD-take, take-nil}
 use Rattle.lists.specs.Members.{In, all}
 use Rattle.lists.proofs.Members.{in-append, in-append-left, in-append-right, in-getD, getD-in, all-at, at-all}
@@ -26,9 +26,6 @@ pub take-append : (n : ℕ) (x y : List ℕ) → take n (x ++ y) ≡ take n x ++
 take-append n [] y = let e : n - 0 ≡ n = omega arith in rw (e, take-nil {A = ℕ} n)
 take-append zero (a ∷ x) y = let e : 0 - suc (length x) ≡ 0 = omega arith in rw e
 take-append (suc n) (a ∷ x) y = let e : suc n - suc (length x) ≡ n - length x = omega arith in rw e (ap (λ (l : List ℕ). a ∷ l) (take-append n x y))
-
-pub in-drop : (a k : ℕ) (w : List ℕ) → In a (drop k w) → In a w
-in-drop a k w h = subst (λ (l : List ℕ). In a l) (take-append-drop k w) (in-append-right a (take k w) (drop k w) h)
 
 -- two lists have the same members either way round
 pub in-swap : (a : ℕ) (x y : List ℕ) → In a (x ++ y) → In a (y ++ x)

@@ -1,13 +1,14 @@
 -- One number more: what holds of all numbers below i + 1, a test at each of them, how many pass, and the first that passes. Assumes nothing.
-use mathlib.Core.Path.{_≡_, sym, ap, _∙_, subst}
+use mathlib.Core.Path.{_≡_, sym, ap, _∙_}
 use mathlib.Core.Logic.{_⊎_, inl, inr}
 use mathlib.Core.Bool.{Bool, true, false}
 use Prim.Native.Nat.{ℕ, zero, suc, _+_, _≤_, _<_}
 use native.Mathlib.Numerals.{add-one}
 use native.Mathlib.Omega.{arith}
 use lib.Dec.{T}
+use borrow.Author.Count.{below-more}
 use Rattle.lists.specs.Tests.{choose}
-use Rattle.lists.proofs.Tests.{choose-true, choose-false, if-true, if-false, T-or, eq?, T-true, true-T, false-T, not-true-false}
+use Rattle.lists.proofs.Tests.{choose-true, choose-false, if-true, if-false, T-or, T-true, true-T, false-T, not-true-false}
 use Rattle.lists.specs.Count.{count}
 use Rattle.lists.specs.Numbers.{every}
 use Rattle.lists.proofs.Numbers.{every-at, at-every}
@@ -15,11 +16,7 @@ use Rattle.lists.specs.Least.{leastFrom}
 
 -- what holds below i and at i holds below i + 1
 pub upto : {P : ℕ → Type 0} {i : ℕ} → ((k : ℕ) → k < i → P k) → P i → (k : ℕ) → k < i + 1 → P k
-upto {P} {i} f h k l = go (eq? k i)
-  where
-    go : (k ≡ i) ⊎ (k ≡ i → ⊥) → P k
-    go (inl e) = subst P (sym e) h
-    go (inr n) = f k (omega (arith, n))
+upto {P} {i} f h = below-more P i f h
 
 pub every-true : (n : ℕ) (f : ℕ → Bool) → ((k : ℕ) → k < n → f k ≡ true) → every n f ≡ true
 every-true n f h = T-true (every n f) (at-every n f (λ k l. true-T (f k) (h k l)))

@@ -2,9 +2,10 @@
 use mathlib.Core.Path.{_≡_, refl, sym, ap, subst}
 use mathlib.Core.Logic.{_⊎_, inl, inr, _↔_}
 use mathlib.Core.Bool.{Bool, true, false, not, _&&_, _||_}
-use Prim.Native.Nat.{ℕ}
-use lib.Dec.{T, eqb, eqb→eq, eqb-refl}
+use Prim.Native.Nat.{ℕ, _≤_, _<_}
+use lib.Dec.{T, not-T, eqb, ltb, eqb→eq, eqb-refl, ltb→lt, nltb→le}
 use Rattle.lists.specs.Tests.{choose}
+pub use mathlib.Core.Bool.{and-comm}
 
 -- ---- a test passes or fails
 
@@ -84,20 +85,6 @@ pub and-true : (a b : Bool) → a && b ≡ true → (a ≡ true) × (b ≡ true)
 and-true true b e = (refl, e)
 and-true false b e = absurd (not-both false e refl)
 
-pub and-comm : (a b : Bool) → a && b ≡ b && a
-and-comm true true = refl
-and-comm true false = refl
-and-comm false true = refl
-and-comm false false = refl
-
-pub and-assoc : (a b c : Bool) → (a && b) && c ≡ a && (b && c)
-and-assoc true b c = refl
-and-assoc false b c = refl
-
-pub and-same : (a : Bool) → a && a ≡ a
-and-same true = refl
-and-same false = refl
-
 -- the second test matters only where the first passes
 pub and-when : (a : Bool) {b c : Bool} → (a ≡ true → b ≡ c) → a && b ≡ a && c
 and-when true f = f refl
@@ -158,3 +145,10 @@ eq? x y = go (T-or (eqb x y))
     go : T (eqb x y) ⊎ (T (eqb x y) → ⊥) → (x ≡ y) ⊎ (x ≡ y → ⊥)
     go (inl t) = inl (eqb→eq x y t)
     go (inr f) = inr (λ h. f (eq→eqb h))
+
+pub below? : (m n : ℕ) → (m < n) ⊎ (n ≤ m)
+below? m n = go (T-or (ltb m n))
+  where
+    go : T (ltb m n) ⊎ (T (ltb m n) → ⊥) → (m < n) ⊎ (n ≤ m)
+    go (inl t) = inl (ltb→lt m n t)
+    go (inr f) = inr (nltb→le m n (not-T (ltb m n) f))

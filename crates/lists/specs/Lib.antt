@@ -3,3 +3,4 @@ pub mod Members
 pub mod Count
 pub mod Numbers
 pub mod Least
+pub mod Padded

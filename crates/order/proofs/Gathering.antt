@@ -1,17 +1,19 @@
 -- The links of a ring gathered label by label: what the loop's values hold after i labels. Assumes that each link has a place.
 use mathlib.Core.Path.{_≡_, refl, sym, ap, _∙_, subst}
-use mathlib.Core.Logic.{_⊎_, inl, inr}
-use mathlib.Core.Bool.{Bool, true, false}
-use mathlib.Core.List.{List, [], _∷_, _++_, append-assoc}
-use Prim.Native.Nat.{ℕ, zero, suc, _+_, _-_, _/_, _≤_, _<_}
+use mathlib.Core.Bool.{Bool, true, false, _||_, or-comm, or-false}
+use mathlib.Core.List.{List, [], _∷_, _++_}
+use Prim.Native.Nat.{ℕ, _+_, _-_, _/_, _≤_, _<_}
 use native.Mathlib.Omega.{arith}
 use native.Mathlib.Numerals.{add-one}
-use lib.ListN.{length, getD, take, drop, set, replicate, length-append, length-set, length-replicate, getD-replicate, take-append-drop}
-use lib.Seq.{take-suc, take-all, take-at, getD-set-same, getD-set-other, set-at}
+use lib.Dec.{eqb}
+use lib.ListN.{length, getD, take, drop, set, replicate, length-append, length-set, length-replicate, take-append-drop}
+use lib.Seq.{take-suc, take-all, take-append-seam}
 use Rattle.lists.specs.Tests.{choose}
-use Rattle.lists.proofs.Tests.{eq?, T-true, true-T, same-test}
 use Rattle.lists.specs.Members.{In, memb}
-use Rattle.lists.proofs.Members.{memb→in, in→memb, in-append, in-append-left, in-append-right, getD-in}
+use Rattle.lists.proofs.Members.{in-append-left, memb-append, getD-in, getD-same}
+use Rattle.lists.specs.Padded.{padded}
+use Rattle.lists.proofs.Padded.{padded-put, padded-at}
+use Rattle.lists.proofs.Arrays.{flag-set}
 use Rattle.lists.proofs.Count.{count-all, distinct-count}
 use Rattle.limits.specs.Limits.{maxLinks}
 use Rattle.rings.specs.Ring.{readFrom}
@@ -19,81 +21,34 @@ use Rattle.rings.proofs.Ring.{read-labels}
 use Rattle.rings.proofs.Parts.{read-length}
 use Rattle.rings.specs.Order.{order, nth}
 use Rattle.rings.proofs.Order.{order-distinct, order-label, order-snoc}
-use Rattle.order.specs.Order.{padded, listed}
-
--- ---- members of a list and one more
-
-memb-last : (l : ℕ) (xs : List ℕ) → memb l (xs ++ (l ∷ [])) ≡ true
-memb-last l xs = T-true (memb l (xs ++ (l ∷ []))) (in→memb l (xs ++ (l ∷ [])) (in-append-right l xs (l ∷ []) (inl refl)))
-
-memb-other : (j l : ℕ) (xs : List ℕ) → (j ≡ l → ⊥) → memb j xs ≡ memb j (xs ++ (l ∷ []))
-memb-other j l xs n =
-    same-test (memb j xs) (memb j (xs ++ (l ∷ [])))
-    (λ e. T-true (memb j (xs ++ (l ∷ []))) (in→memb j (xs ++ (l ∷ [])) (in-append-left j xs (l ∷ []) (memb→in j xs (true-T (memb j xs) e)))))
-    (λ e. T-true (memb j xs) (in→memb j xs (go (in-append j xs (l ∷ []) (memb→in j (xs ++ (l ∷ [])) (true-T (memb j (xs ++ (l ∷ []))) e))))))
-  where
-    go : In j xs ⊎ In j (l ∷ []) → In j xs
-    go (inl h) = h
-    go (inr (inl q)) = absurd (n q)
-    go (inr (inr z)) = absurd z
-
--- ---- links with zeros after them
-
--- one link more is put in the first place that is zero
-padded-set : (ls : List ℕ) (l : ℕ) → length ls < maxLinks → set (padded ls) (length ls) l ≡ padded (ls ++ (l ∷ []))
-unfolding padded
-padded-set ls l h =
-    let k : maxLinks - length ls ≡ suc (maxLinks - suc (length ls)) = omega arith in
-    let q : length (ls ++ (l ∷ [])) ≡ suc (length ls) = length-append ls (l ∷ []) ∙ omega arith in
-    rw (k, q)
-    (set-at ls 0 (replicate (maxLinks - suc (length ls)) 0) l (length ls) refl ∙ sym (append-assoc ls (l ∷ []) (replicate (maxLinks - suc (length ls)) 0)))
-
-zeros : (n i : ℕ) → getD {A = ℕ} (replicate n 0) i 0 ≡ 0
-zeros zero i = refl
-zeros (suc n) zero = refl
-zeros (suc n) (suc i) = zeros n i
-
--- a place past the links reads as 0, as it does in the list
-padded-at : (ls : List ℕ) (i : ℕ) → getD (padded ls) i 0 ≡ getD ls i 0
-unfolding padded
-padded-at ls i = go ls (maxLinks - length ls) i
-  where
-    go : (xs : List ℕ) (n j : ℕ) → getD (xs ++ replicate n 0) j 0 ≡ getD xs j 0
-    go [] n j = zeros n j
-    go (x ∷ xs) n zero = refl
-    go (x ∷ xs) n (suc j) = go xs n j
+use Rattle.order.specs.Order.{listed}
 
 -- the links listed are the places up to the count
 pub listed-links : (ls : List ℕ) → take (listed ls .count) (listed ls .links) ≡ ls
-unfolding listed padded
-listed-links ls = take-at ls (replicate (maxLinks - length ls) 0) (length ls) refl
+unfolding listed
+listed-links ls = take-append-seam ls (replicate (maxLinks - length ls) 0)
 
 -- and the m-th of them is where the code looks for it
 pub listed-nth : (ls : List ℕ) (m : ℕ) → getD (listed ls .links) (m - 1) 0 ≡ nth ls m
 unfolding listed
-listed-nth ls m = padded-at ls (m - 1)
+listed-nth ls m = padded-at maxLinks 0 ls (m - 1)
 
 -- ---- the loop
 
 -- after the first i labels of the ring
 pub record Gathered (ring : List ℕ) (i : ℕ) (links : List ℕ) (seen : List Bool) (n : ℕ) : Type 0 where
-  pub placed : links ≡ padded (order (take i ring))
+  pub placed : links ≡ padded maxLinks 0 (order (take i ring))
   pub counted : n ≡ length (order (take i ring))
   pub flags : length seen ≡ maxLinks
-  pub told : (l : ℕ) → l < maxLinks → getD seen l false ≡ memb l (order (take i ring))
-
--- the same values by other names
-pub gathered-same : {ring : List ℕ} {i : ℕ} {links links′ : List ℕ} {seen seen′ : List Bool} {n n′ : ℕ} → links′ ≡ links → seen′ ≡ seen → n′ ≡ n
-    → Gathered ring i links seen n → Gathered ring i links′ seen′ n′
-gathered-same x y z g = rw (x, y, z) g
+  pub told : (l : ℕ) → getD seen l false ≡ memb l (order (take i ring))
 
 pub gathered-none : (ring : List ℕ) → Gathered ring 0 (replicate maxLinks 0) (replicate maxLinks false) 0
-unfolding padded order
+unfolding order
 gathered-none ring = record {
   placed = refl;
   counted = refl;
   flags = length-replicate maxLinks false;
-  told = λ l h. getD-replicate maxLinks l false false h;
+  told = λ l. getD-same maxLinks l false;
 }
 
 module _ (w : List ℕ) (k : ℕ) (k-in : k ≤ length w) (few : (b : ℕ) → In b w → b / 2 < maxLinks) where
@@ -137,32 +92,32 @@ module _ (w : List ℕ) (k : ℕ) (k-in : k ≤ length w) (few : (b : ℕ) → I
       -- the link was crossed before
       pub gathered-old : getD seen (a / 2) false ≡ true → Gathered r (i + 1) links seen n
       gathered-old t =
-          let same : order (take i r) ≡ order (take (i + 1) r) = sym (next ∙ rw (sym (g .told (a / 2) link-in) ∙ t)) in
+          let same : order (take i r) ≡ order (take (i + 1) r) = sym (next ∙ rw (sym (g .told (a / 2)) ∙ t)) in
           record {
-            placed = g .placed ∙ ap padded same;
+            placed = g .placed ∙ ap (padded maxLinks 0) same;
             counted = g .counted ∙ ap length same;
             flags = g .flags;
-            told = λ j q. g .told j q ∙ ap (memb j) same;
+            told = λ j. g .told j ∙ ap (memb j) same;
           }
 
       -- the link is crossed for the first time
       module _ (t : getD seen (a / 2) false ≡ false) where
         one-more : order (take (i + 1) r) ≡ order (take i r) ++ ((a / 2) ∷ [])
-        one-more = next ∙ rw (sym (g .told (a / 2) link-in) ∙ t)
+        one-more = next ∙ rw (sym (g .told (a / 2)) ∙ t)
 
         pub room : n < maxLinks
         room = omega (arith, g .counted, order-fits (i + 1), ap length one-more, length-append (order (take i r)) ((a / 2) ∷ []))
 
-        told-new : (j : ℕ) → j < maxLinks → (j ≡ a / 2) ⊎ (j ≡ a / 2 → ⊥) → getD (set seen (a / 2) true) j false ≡ memb j (order (take i r) ++ ((a / 2) ∷ []))
-        told-new j q (inl f) =
-            ap (λ (x : ℕ). getD (set seen (a / 2) true) x false) f ∙ getD-set-same seen (a / 2) true false (omega (arith, g .flags, link-in))
-            ∙ sym (ap (λ (x : ℕ). memb x (order (take i r) ++ ((a / 2) ∷ []))) f ∙ memb-last (a / 2) (order (take i r)))
-        told-new j q (inr f) = getD-set-other seen (a / 2) j true false f ∙ g .told j q ∙ memb-other j (a / 2) (order (take i r)) f
+        told-new : (j : ℕ) → getD (set seen (a / 2) true) j false ≡ memb j (order (take i r) ++ ((a / 2) ∷ []))
+        told-new j =
+            flag-set seen (a / 2) j (omega (arith, g .flags, link-in)) ∙ ap (λ (b : Bool). eqb j (a / 2) || b) (g .told j)
+            ∙ or-comm (eqb j (a / 2)) (memb j (order (take i r))) ∙ ap (λ (b : Bool). memb j (order (take i r)) || b) (sym (or-false (eqb j (a / 2))))
+            ∙ sym (memb-append j (order (take i r)) ((a / 2) ∷ []))
 
         pub gathered-new : Gathered r (i + 1) (set links n (a / 2)) (set seen (a / 2) true) (n + 1)
         gathered-new = record {
-          placed = rw (g .placed, g .counted) (padded-set (order (take i r)) (a / 2) (omega (arith, g .counted, room))) ∙ ap padded (sym one-more);
+          placed = rw (g .placed, g .counted) (padded-put maxLinks 0 (order (take i r)) (a / 2) (omega (arith, g .counted, room))) ∙ ap (padded maxLinks 0) (sym one-more);
           counted = omega (arith, g .counted, ap length one-more, length-append (order (take i r)) ((a / 2) ∷ []));
           flags = length-set seen (a / 2) true ∙ g .flags;
-          told = λ j q. told-new j q (eq? j (a / 2)) ∙ ap (memb j) (sym one-more);
+          told = λ j. told-new j ∙ ap (memb j) (sym one-more);
         }

@@ -1,4 +1,4 @@
--- What the code asks of a lent trail.
+-- Inner: what the functions of this crate ask of a lent trail. No promise of a call needs it.
 use mathlib.Core.List.{List}
 use Prim.Native.Nat.{ℕ}
 use Rattle.lists.specs.Members.{In}

@@ -17,8 +17,8 @@ use Rattle.rings.specs.Packet.{run, runOn, rulesFor}
 use Rattle.rings.specs.Packet as ring
 use Rattle.rings.specs.Rules.{upBy}
 use Rattle.distance.specs.Distances.{flag}
-use Rattle.packet.specs.Flags.{flagged, ForArcs}
-use Rattle.packet.specs.Runs.{way, goesOn}
+use Rattle.packet.specs.Runs.{flagged, goesOn}
+use Rattle.packet.specs.Asked.{ForArcs, way}
 use Rattle.packet.proofs.Ways.{way-length}
 
 module _ (p : Plant) (rules : List Bool) (states : List ℕ) where

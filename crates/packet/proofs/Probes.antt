@@ -22,8 +22,8 @@ use Rattle.rings.proofs.Parts.{there-and-back}
 use Rattle.order.specs.declared.Span.{Span}
 use Rattle.order.specs.Span.{spanOf, stretchOf, frontOf}
 use Rattle.order.proofs.Spans.{span-stretch, span-front}
-use Rattle.packet.specs.Flags.{flagged, ForTable, ForAll}
-use Rattle.packet.specs.Runs.{injectedAt, outAndBack, goesOn}
+use Rattle.packet.specs.Runs.{flagged, injectedAt, goesOn}
+use Rattle.packet.specs.Asked.{ForTable, ForAll, outAndBack}
 use Rattle.packet.proofs.Rules.{on-table, on-all}
 
 -- ---- the part of a trail from a place on

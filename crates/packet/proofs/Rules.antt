@@ -1,16 +1,13 @@
--- Flags that are set one after the other, and runs under flags of the two kinds. Assumes nothing.
+-- Rules as flags: those of all rules are set below a number, and runs under flags of the two kinds. Assumes nothing.
 use mathlib.Core.Path.{_≡_, refl, sym, ap, _∙_}
-use mathlib.Core.Logic.{_⊎_, inl, inr}
-use mathlib.Core.Bool.{Bool, true, false, _&&_}
+use mathlib.Core.Bool.{Bool, _&&_}
 use mathlib.Core.List.{List}
-use Prim.Native.Nat.{ℕ, zero, suc, _+_, _*_, _/_, _<_}
+use Prim.Native.Nat.{ℕ, _*_, _/_}
 use native.Mathlib.Omega.{arith}
 use lib.Dec.{eqb, ltb}
-use lib.ListN.{length, set, replicate}
-use lib.Seq.{getD-set-same, getD-set-other}
-use borrow.Author.Tests.{ltb-true, lt-ltb, le-ltb}
+use borrow.Author.Tests.{ltb-true, lt-ltb}
 use Rattle.lists.specs.Tests.{choose}
-use Rattle.lists.proofs.Tests.{eq?, same-test, true-T}
+use Rattle.lists.proofs.Tests.{same-test, true-T}
 use Rattle.plant.specs.declared.Plant.{Plant}
 use Rattle.plant.specs.Links.{live}
 use Rattle.walks.specs.Arcs.{tail, head}
@@ -21,28 +18,8 @@ use Rattle.rings.specs.Packet.{End, runOn, rulesFor}
 use Rattle.rings.proofs.Packet.{run-same}
 use Rattle.rings.specs.Rules.{upBy, inTable, inAll}
 use Rattle.distance.specs.Distances.{flag}
-use Rattle.packet.specs.Flags.{flagged, ForArcs, ForTable, ForAll}
-use Rattle.packet.specs.Runs.{goesOn}
-use Rattle.packet.specs.Asked.{CanRun, CanProbe}
-
--- ---- flags below a number
-
-pub flag-none : (n b : ℕ) → flag (replicate n false) b ≡ ltb b 0
-flag-none n b = go n b ∙ sym (le-ltb b 0 (omega arith))
-  where
-    go : (k c : ℕ) → flag (replicate k false) c ≡ false
-    go zero c = refl
-    go (suc k) zero = refl
-    go (suc k) (suc c) = go k c
-
-pub flag-more : (rules : List Bool) (a : ℕ) → a < length rules → ((b : ℕ) → flag rules b ≡ ltb b a) → (b : ℕ) → flag (set rules a true) b ≡ ltb b (a + 1)
-flag-more rules a h f b = go (eq? b a)
-  where
-    go : (b ≡ a) ⊎ (b ≡ a → ⊥) → flag (set rules a true) b ≡ ltb b (a + 1)
-    go (inl e) = ap (flag (set rules a true)) e ∙ getD-set-same rules a true false h ∙ sym (lt-ltb b (a + 1) (omega arith))
-    go (inr n) =
-        getD-set-other rules a b true false n ∙ f b
-        ∙ same-test (ltb b a) (ltb b (a + 1)) (λ t. lt-ltb b (a + 1) (omega (arith, ltb-true b a t))) (λ t. lt-ltb b a (omega (arith, n, ltb-true b (a + 1) t)))
+use Rattle.packet.specs.Runs.{flagged, goesOn}
+use Rattle.packet.specs.Asked.{ForArcs, ForTable, ForAll, CanRun, CanProbe}
 
 module _ (p : Plant) (rules : List Bool) where
   pub flag-all : ((b : ℕ) → flag rules b ≡ ltb b (2 * p .count)) → ForAll p rules

@@ -10,7 +10,7 @@ use lib.Seq.{getD-at}
 use Rattle.lists.proofs.Tests.{eq?}
 use Rattle.walks.specs.Arcs.{opposite}
 use Rattle.rings.specs.Probe.{back}
-use Rattle.packet.specs.Runs.{way}
+use Rattle.packet.specs.Asked.{way}
 
 pub back-length : (w : List ℕ) → length (back w) ≡ length w
 back-length [] = refl

@@ -11,9 +11,8 @@ ghost use Rattle.rings.specs.Packet.{run};
 ghost use Rattle.rings.specs.Rules.{upBy, inTable};
 ghost use Rattle.rings.specs.Probe.{back};
 ghost use Rattle.rings.specs.Injection.{ringOf, probeRun};
-ghost use Rattle.packet.specs.Flags.{ForAll};
-ghost use Rattle.packet.specs.Asked.{CanRun, CanProbe};
-ghost use Rattle.packet.specs.Runs.{endOf, injectedAt, way, outAndBack, goesOn};
+ghost use Rattle.packet.specs.Runs.{endOf, injectedAt, goesOn};
+ghost use Rattle.packet.specs.Asked.{ForAll, CanRun, CanProbe, way, outAndBack};
 use order::front;
 use order::place_of;
 use order::span_of;
@@ -200,12 +199,6 @@ pub fn probe_run(
         return full_check(p, table, states, s, trail);
     }
     let span = span_of(p, s, trail, m);
-    there_and_back(
-        p,
-        all_rules(p),
-        states,
-        s,
-        stretch(trail, span),
-        front(trail, span),
-    )
+    let all = all_rules(p);
+    there_and_back(p, all, states, s, stretch(trail, span), front(trail, span))
 }

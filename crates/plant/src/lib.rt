@@ -1,4 +1,5 @@
-// The plant: switches joined by two-way links, as a value, and its limits.
+// The plant: switches joined by two-way links, as a value. The limits are constants of its type, and are written here and nowhere else; so are the array
+// lengths that follow from them, a place for each switch and one for each label. With it: a plant without links, and the two ends of an arc by its label.
 ghost use mathlib.Core.Path.{_≡_};
 ghost use Prim.Native.Nat.{_%_};
 ghost use Rattle.plant.specs.Links.{zeroLink, plantWith, side};
@@ -32,11 +33,12 @@ impl Link {
 }
 
 impl Plant {
+    // The most switches and the most links that a plant can have.
     pub const MAX_SWITCHES: u8 = 64;
 
     pub const MAX_LINKS: usize = 256;
 
-    // A place for each switch that a plant can have, and one for each label.
+    // The lengths of arrays with a place for each switch that a plant can have, and with one for each label.
     pub const PLACES: usize = Plant::MAX_SWITCHES as usize;
 
     pub const LABELS: usize = 2 * Plant::MAX_LINKS;

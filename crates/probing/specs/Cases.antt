@@ -25,7 +25,7 @@ use Rattle.rings.specs.Parts.{out, outStretch, outFront}
 use Rattle.listing.specs.Part.{taken, valueOf, repeats, mapMissing, mapUndefined, fieldMissing, fieldRedundant, fieldValues, afterPart}
 use Rattle.listing.specs.Listing as listing
 use Rattle.trail.specs.Filled.{sameList}
-use Rattle.order.specs.Order.{padded, listed}
+use Rattle.order.specs.Order.{listed}
 use Rattle.order.specs.Span.{ringSpan, spanOf}
 use Rattle.search.specs.declared.Search.{Search}
 use Rattle.search.specs.declared.Search.the-variants.{Checking, Halving, AllUp, Down}
@@ -146,5 +146,5 @@ table =
     ∷ []
 
 as-said : (answer (planning triangle) >>= λ p. given (map (λ r. r .got p) table)) ≡ given (map (λ r. r .said) table)
-unfolding runIn checkIn orderIn outwardIn outSpan probeIn nameIn switchOutOfRange trailDiffers statesShort searchUnsound planningAt notConnected planning ringSpan spanOf listed padded sameList plantWith taken valueOf repeats mapMissing mapUndefined fieldMissing fieldRedundant fieldValues afterPart listing.valueOutOfRange listing.endOutOfRange listing.selfLink listing.bytesRemain listing.withLinks conditions plantIn reading out outStretch outFront probeRules ringOf orderOf probeOf probeRun probe outward orders.order readFrom place ring upBy inTable inAll rulesFor trail legs nearest near route hops hop dist within sources arcs others visitFrom visited connected bridge entered earlier used liveLinks opposite tail head scan visit live leastFrom count every
+unfolding runIn checkIn orderIn outwardIn outSpan probeIn nameIn switchOutOfRange trailDiffers statesShort searchUnsound planningAt notConnected planning ringSpan spanOf listed sameList plantWith taken valueOf repeats mapMissing mapUndefined fieldMissing fieldRedundant fieldValues afterPart listing.valueOutOfRange listing.endOutOfRange listing.selfLink listing.bytesRemain listing.withLinks conditions plantIn reading out outStretch outFront probeRules ringOf orderOf probeOf probeRun probe outward orders.order readFrom place ring upBy inTable inAll rulesFor trail legs nearest near route hops hop dist within sources arcs others visitFrom visited connected bridge entered earlier used liveLinks opposite tail head scan visit live leastFrom count every
 as-said = refl

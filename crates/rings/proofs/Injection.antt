@@ -8,13 +8,12 @@ use Prim.Native.Nat.{ℕ, _+_, _*_, _/_, _≤_, _<_}
 use native.Mathlib.Omega.{arith}
 use native.Mathlib.Nat.{zero-add}
 use lib.Dec.{T, eqb, ltb}
-use lib.ListN.{length, take, drop}
-use lib.Seq.{drop-nil}
+use lib.ListN.{length, take}
 use borrow.Author.Tests.{eq-eqb, ne-eqb}
 use Rattle.lists.specs.Tests.{choose}
 use Rattle.lists.proofs.Tests.{bool?, eq?}
 use Rattle.lists.specs.Members.{In, memb, all, Distinct}
-use Rattle.lists.proofs.Members.{memb→in, in→memb, all-at, at-all}
+use Rattle.lists.proofs.Members.{memb→in, in→memb}
 use Rattle.lists.specs.Count.{count}
 use Rattle.lists.proofs.Count.{count-le, count-none, distinct-count}
 use Rattle.lists.proofs.Least.{some?}
@@ -27,22 +26,21 @@ use Rattle.walks.proofs.Live.{live-below}
 use Rattle.walks.proofs.Labels.{even-half, odd-half, tail-opposite, head-opposite, opposite-arc}
 use Rattle.walks.proofs.Orientation.{used-arc, strongly-connected}
 use Rattle.walks.proofs.Counting.{one-used}
-use Rattle.rings.specs.Packet.{End, run, runOn, rulesFor, clear}
+use Rattle.rings.specs.Packet.{run, rulesFor}
 use Rattle.rings.specs.Rules.{upBy, inTable, inAll}
 use Rattle.rings.specs.Trail.{Trail}
-use Rattle.rings.specs.Ring.{readFrom, FirstHop, ring}
+use Rattle.rings.specs.Ring.{FirstHop, ring}
 use Rattle.rings.specs.Order.{order}
 use Rattle.rings.specs.Probe.{outward, back, probe}
 use Rattle.rings.specs.FirstDown.{FirstDown}
 use Rattle.rings.proofs.FirstDown.{firstDown}
 use Rattle.rings.proofs.FirstDown.{first-most, first-take, first-some, first-none}
 use Rattle.rings.specs.Injection.{probeRules, placeOf, ringOf, orderOf, probeOf, probeRun}
-use Rattle.rings.proofs.Packet.{run-append, run-ended, run-clear}
-use Rattle.rings.proofs.Rules.{table-arc, all-arc, table-ended, bytes-past}
-use Rattle.rings.proofs.Ring.{place-first, ring-empty, read-labels, stretches, read-walk}
+use Rattle.rings.proofs.Packet.{clear, run-ended, run-clear}
+use Rattle.rings.proofs.Rules.{table-arc, all-arc, bytes-past}
+use Rattle.rings.proofs.Ring.{place-first, ring-empty, read-labels, read-walk}
 use Rattle.rings.proofs.Order.{order-distinct, label-order, order-label}
-use Rattle.rings.proofs.Probe.{ring-clear, probe-clear, probe-in, probe-walk}
-use Rattle.lists.proofs.Parts.{in-drop}
+use Rattle.rings.proofs.Probe.{probe-clear, probe-in, probe-walk}
 
 -- ---- whatever the plant and the trail
 
@@ -62,12 +60,6 @@ module _ (p : Plant) (w : List ℕ) (s : ℕ) (up : ℕ → Bool) where
   pub full-run : probeRun p w s up (liveLinks p) ≡ run (inTable p) up (head p) s 0 (ringOf p w s)
   unfolding probeRun probeRules probeOf probe
   full-run = rw (eq-eqb (liveLinks p) (liveLinks p) refl)
-
-  -- whose run is over the stretch from the place of s, and then over the front
-  pub ring-run : run (inTable p) up (head p) s 0 (ringOf p w s)
-      ≡ runOn (inTable p) up (head p) (run (inTable p) up (head p) s 0 (drop (placeOf p w s) w)) (take (placeOf p w s) w)
-  unfolding ringOf ring readFrom
-  ring-run = run-append (inTable p) up (head p) (drop (placeOf p w s) w) (take (placeOf p w s) w) s 0
 
   -- every other probe goes out and back under all rules
   pub back-run : (m : ℕ) → (m ≡ liveLinks p → ⊥)
@@ -171,20 +163,6 @@ module _ (p : Plant) (ok : Valid p) (con : Connected p) (w : List ℕ) (tr : Tra
   ring-used : (a : ℕ) → In a (ringOf p w s) → T (used p a)
   ring-used a h = tr .in-use a (ring-labels p w s a .0 h)
 
-  -- a packet that is given the stretch of the trail from the place of s ends exactly if all links of the stretch are up
-  pub stretch-ended : (up : ℕ → Bool) (n : ℕ) → run (inTable p) up (head p) s n (drop (placeOf p w s) w) .ended ≡ clear up (drop (placeOf p w s) w)
-  stretch-ended up n = go empty?
-    where
-      go : (w ≡ []) ⊎ ((l : ℕ) × T (live p l)) → run (inTable p) up (head p) s n (drop (placeOf p w s) w) .ended ≡ clear up (drop (placeOf p w s) w)
-      go (inl e) = rw (e, drop-nil {A = ℕ})
-      go (inr r) =
-          table-ended p up (drop (placeOf p w s) w) s (p .start) n
-          (stretches (tail p) (head p) s (p .start) w (placeOf p w s) (tr .closed) (place-at (r .0) (r .1)) .0) (λ a h. tr .in-use a (in-drop a (placeOf p w s) w h))
-
-  -- so with the ring: it is that stretch, and then the front
-  pub ring-ended : (up : ℕ → Bool) (n : ℕ) → run (inTable p) up (head p) s n (ringOf p w s) .ended ≡ clear up (ringOf p w s)
-  ring-ended up n = table-ended p up (ringOf p w s) s s n ring-closed ring-used
-
   -- ---- the probes
 
   -- every probe is a closed walk from s, over arcs of the plant
@@ -230,17 +208,6 @@ module _ (p : Plant) (ok : Valid p) (con : Connected p) (w : List ℕ) (tr : Tra
     pub probe-ended : (m : ℕ) → 1 ≤ m → m ≤ liveLinks p → probeRun p w s up m .ended ≡ all up (take m (orderOf p w s))
     unfolding probeOf orderOf
     probe-ended m h i = along m .0 ∙ probe-clear up (ringOf p w s) (liveLinks p) m order-length h i
-
-    full-ended : probeRun p w s up (liveLinks p) .ended ≡ all up (orderOf p w s)
-    unfolding orderOf
-    full-ended = ap (λ (e : End). e .ended) (full-run p w s up) ∙ ring-ended up 0 ∙ ring-clear up (ringOf p w s)
-
-    -- the full check returns exactly if all links are up
-    pub full-check : (probeRun p w s up (liveLinks p) .ended ≡ true) ↔ ((l : ℕ) → T (live p l) → up l ≡ true)
-    full-check = (
-      λ e l t. all-at up (orderOf p w s) (sym full-ended ∙ e) l (order-links l .1 t),
-      λ f. full-ended ∙ at-all up (orderOf p w s) (λ l h. f l (order-links l .0 h)),
-    )
 
     -- a probe that returns is back at s, over all its labels
     pub probe-home : (m : ℕ) → probeRun p w s up m .ended ≡ true → probeRun p w s up m ≡ record { ended = true; hops = length (probeOf p w s m); last = s }

@@ -1,15 +1,13 @@
 -- The order has each link that is crossed and no other, each once, and grows at its end. Assumes nothing.
 use mathlib.Core.Path.{_≡_, refl, sym, ap, _∙_, subst}
-use mathlib.Core.Logic.{_⊎_, inl, inr, _↔_}
-use mathlib.Core.Bool.{Bool, true, false, _||_}
+use mathlib.Core.Logic.{_⊎_, inl, inr}
+use mathlib.Core.Bool.{Bool, true, false, _||_, or-comm, or-assoc}
 use mathlib.Core.List.{List, [], _∷_, _++_}
-use Prim.Native.Nat.{ℕ, _+_, _*_, _/_}
+use Prim.Native.Nat.{ℕ, _/_}
 use lib.Dec.{T, eqb}
 use Rattle.lists.specs.Tests.{choose}
 use Rattle.lists.specs.Members.{In, memb, Distinct}
 use Rattle.lists.proofs.Members.{memb→in, in→memb}
-use Rattle.walks.specs.Graph.{Crosses}
-use Rattle.walks.proofs.Labels.{even-half, odd-half, crosses}
 use Rattle.rings.specs.Order.{firsts, order}
 
 -- how the order comes about: at each label its link was seen before, or is new
@@ -79,21 +77,10 @@ module _ (r : List ℕ) where
   unfolding order
   order-label l h = crossed (orders [] r) l h
 
-  -- the links that are crossed and no other
-  pub order-crosses : (l : ℕ) → In l (order r) ↔ Crosses l r
-  order-crosses l = (λ h. let c = order-label l h in crosses (c .0) l r (c .1) (c .2), from)
-    where
-      from : Crosses l r → In l (order r)
-      from (inl h) = rw even-half at (label-order (2 * l) h)
-      from (inr h) = rw odd-half at (label-order (2 * l + 1) h)
-
 -- ---- one label more
 
 or-turn : (x y z : Bool) → (x || y) || z ≡ y || (x || z)
-or-turn true true z = refl
-or-turn true false z = refl
-or-turn false true z = refl
-or-turn false false z = refl
+or-turn x y z = ap (λ (b : Bool). b || z) (or-comm x y) ∙ or-assoc y x z
 
 firsts-snoc : (seen w : List ℕ) (a : ℕ)
     → firsts seen (w ++ (a ∷ [])) ≡ choose (memb (a / 2) seen || memb (a / 2) (firsts seen w)) (firsts seen w) (firsts seen w ++ ((a / 2) ∷ []))

@@ -1,4 +1,4 @@
--- Laws of runs: when a packet is lost, a run over two stretches, what a run does not look at, and runs along a walk. Assumes nothing.
+-- Laws of runs: a run over two stretches, what a run does not look at, and runs along a walk. Assumes nothing.
 use mathlib.Core.Path.{_≡_, refl, ap, _∙_}
 use mathlib.Core.Logic.{inl, inr}
 use mathlib.Core.Bool.{Bool, true, false, _&&_}
@@ -10,20 +10,16 @@ use lib.Dec.{T}
 use lib.ListN.{length}
 use borrow.Author.Tests.{eq-eqb}
 use Rattle.lists.specs.Tests.{choose}
-use Rattle.lists.proofs.Tests.{T-true, and-true, and-comm, and-when}
-use Rattle.lists.specs.Members.{In}
+use Rattle.lists.proofs.Tests.{T-true, and-true, and-when}
+use Rattle.lists.specs.Members.{In, all}
 use Rattle.walks.specs.Walk.{Walk}
-use Rattle.rings.specs.Packet.{End, run, runOn, rulesFor, clear}
+use Rattle.rings.specs.Packet.{End, run, runOn, rulesFor}
+
+-- the links of these labels are up
+abbrev pub clear : (ℕ → Bool) → List ℕ → Bool
+clear up w = all (λ a. up (a / 2)) w
 
 module _ (rule : ℕ → ℕ → Bool) (up : ℕ → Bool) (hd : ℕ → ℕ) where
-  -- ---- lost where it is
-
-  pub lost-no-rule : (at n a : ℕ) (w : List ℕ) → rule at a ≡ false → run rule up hd at n (a ∷ w) ≡ record { ended = false; hops = n; last = at }
-  lost-no-rule at n a w e = rw e
-
-  pub lost-link-down : (at n a : ℕ) (w : List ℕ) → up (a / 2) ≡ false → run rule up hd at n (a ∷ w) ≡ record { ended = false; hops = n; last = at }
-  lost-link-down at n a w e = rw (e, and-comm (rule at a) false)
-
   -- ---- two stretches, one after the other: the packet goes on from where it came to
 
   pub run-append : (x y : List ℕ) (at n : ℕ) → run rule up hd at n (x ++ y) ≡ runOn rule up hd (run rule up hd at n x) y

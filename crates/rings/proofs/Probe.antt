@@ -2,7 +2,7 @@
 -- Assumes nothing.
 use mathlib.Core.Path.{_≡_, refl, sym, ap, ap₂, _∙_, subst}
 use mathlib.Core.Logic.{_⊎_, inl, inr}
-use mathlib.Core.Bool.{Bool, true, false, _&&_}
+use mathlib.Core.Bool.{Bool, true, false, _&&_, and-self}
 use mathlib.Core.List.{List, [], _∷_, _++_}
 use Prim.Native.Nat.{ℕ, zero, suc, _-_, _/_, _≤_, _<_}
 use native.Mathlib.Omega.{arith}
@@ -11,14 +11,14 @@ use lib.ListN.{length, getD, take}
 use lib.Seq.{take-all}
 use borrow.Author.Tests.{eqb-true, eq-eqb, ne-eqb}
 use Rattle.lists.specs.Tests.{choose}
-use Rattle.lists.proofs.Tests.{bool?, same-test, and-comm, and-same, and-when}
+use Rattle.lists.proofs.Tests.{bool?, same-test, and-comm, and-when}
 use Rattle.lists.specs.Members.{In, all}
 use Rattle.lists.proofs.Members.{in-append, getD-in, all-at, at-all, all-append}
 use Rattle.walks.specs.Walk.{Walk}
 use Rattle.walks.proofs.Walk.{walk-append}
 use Rattle.walks.specs.Arcs.{opposite}
 use Rattle.walks.proofs.Labels.{opposite-half}
-use Rattle.rings.specs.Packet.{clear}
+use Rattle.rings.proofs.Packet.{clear}
 use Rattle.rings.specs.Order.{order, nth}
 use Rattle.rings.specs.Probe.{upTo, back, outward, probe}
 use Rattle.rings.proofs.Order.{Firsts, none, old, new, orders, unseen, label-order, order-label}
@@ -92,7 +92,7 @@ module _ (up : ℕ → Bool) where
       go (inr t) =
           rw t
           (all-append (λ a. up (a / 2)) (outward m r) (back (outward m r)) ∙ ap (λ (b : Bool). clear up (outward m r) && b) (back-clear (outward m r))
-          ∙ and-same (clear up (outward m r)) ∙ outward-clear r m h (omega arith))
+          ∙ and-self (clear up (outward m r)) ∙ outward-clear r m h (omega arith))
 
 -- ---- the arcs of a probe's labels: those of the ring, and opposite ones
 

@@ -15,7 +15,7 @@ use Rattle.lists.specs.Least.{leastFrom, least}
 use Rattle.lists.proofs.Least.{least-top, least-passes, least-first, least-le, least-is, least-none}
 use Rattle.walks.specs.Walk.{Walk}
 use Rattle.walks.proofs.Walk.{walk-append}
-use Rattle.rings.specs.Ring.{readFrom, place, FirstHop, ring}
+use Rattle.rings.specs.Ring.{FirstHop, readFrom, place, ring}
 use Rattle.lists.proofs.Parts.{in-swap}
 
 -- ---- the place

@@ -1,6 +1,6 @@
--- Which rules there are: each is for an arc of the plant, and in all there are two to each link; runs under the forwarding table; state bytes past the links are not looked
+-- Which rules there are: each is for an arc of the plant, and in all there are two to each link; state bytes past the links are not looked
 -- at. Assumes nothing, and a valid, connected plant where the rules in all are those of the table and of the opposite arcs.
-use mathlib.Core.Path.{_≡_, refl, sym, ap, _∙_, subst}
+use mathlib.Core.Path.{_≡_, refl, sym, ap, _∙_}
 use mathlib.Core.Logic.{_⊎_, inl, inr, _↔_}
 use mathlib.Core.Bool.{Bool, true, not}
 use mathlib.Core.List.{List}
@@ -10,20 +10,18 @@ use lib.Dec.{T, eqb}
 use lib.ListN.{take}
 use lib.Seq.{getD-take}
 use Rattle.lists.proofs.Tests.{true-T, and-true}
-use Rattle.lists.specs.Members.{In}
 use Rattle.lists.specs.Count.{count}
 use Rattle.lists.proofs.Count.{pairs}
 use Rattle.plant.specs.declared.Plant.{Plant}
 use Rattle.plant.specs.Links.{live}
-use Rattle.walks.specs.Walk.{Walk}
-use Rattle.walks.specs.Arcs.{opposite, tail, head, Arc, Valid}
+use Rattle.walks.specs.Arcs.{opposite, tail, Arc, Valid}
 use Rattle.walks.specs.Graph.{Connected, used, liveLinks}
 use Rattle.walks.proofs.Live.{live-below}
-use Rattle.walks.proofs.Labels.{even-half, odd-half, opposite-half, same-link}
+use Rattle.walks.proofs.Labels.{even-half, odd-half, opposite-half, of-link}
 use Rattle.walks.proofs.Orientation.{used-arc}
 use Rattle.walks.proofs.Counting.{one-used}
-use Rattle.rings.specs.Packet.{run, rulesFor, clear}
-use Rattle.rings.proofs.Packet.{run-same, run-ended}
+use Rattle.rings.specs.Packet.{run, rulesFor}
+use Rattle.rings.proofs.Packet.{run-same}
 use Rattle.rings.specs.Rules.{upBy, inTable, inAll, allRules}
 
 -- a rule is for an arc of its kind
@@ -44,13 +42,9 @@ module _ (p : Plant) where
   pub arc-used : Valid p → Connected p → (a : ℕ) → Arc p a ↔ (T (used p a) ⊎ T (used p (opposite a)))
   arc-used ok con a = (λ h. to (one-used p ok con (a / 2) h), from)
     where
-      pick : (b : ℕ) → T (used p b) → (b ≡ a) ⊎ (b ≡ opposite a) → T (used p a) ⊎ T (used p (opposite a))
-      pick b t (inl e) = inl (subst (λ (k : ℕ). T (used p k)) e t)
-      pick b t (inr e) = inr (subst (λ (k : ℕ). T (used p k)) e t)
-
       to : T (used p (2 * (a / 2))) ⊎ T (used p (2 * (a / 2) + 1)) → T (used p a) ⊎ T (used p (opposite a))
-      to (inl t) = pick (2 * (a / 2)) t (same-link (2 * (a / 2)) a (even-half (a / 2)))
-      to (inr t) = pick (2 * (a / 2) + 1) t (same-link (2 * (a / 2) + 1) a (odd-half (a / 2)))
+      to (inl t) = of-link (λ b. T (used p b)) (2 * (a / 2)) a (even-half (a / 2)) t
+      to (inr t) = of-link (λ b. T (used p b)) (2 * (a / 2) + 1) a (odd-half (a / 2)) t
 
       from : T (used p a) ⊎ T (used p (opposite a)) → Arc p a
       from (inl t) = used-arc p a t
@@ -60,12 +54,6 @@ module _ (p : Plant) where
   pub all-rules : allRules p ≡ 2 * liveLinks p
   unfolding allRules liveLinks
   all-rules = pairs (p .count) (λ a. live p (a / 2)) ∙ simp (even-half, odd-half) (omega arith)
-
-  -- along a walk over arcs in use a packet ends under the table exactly if all links of its labels are up
-  pub table-ended : (up : ℕ → Bool) (w : List ℕ) (x y n : ℕ) → Walk (tail p) (head p) w x y → ((a : ℕ) → In a w → T (used p a))
-      → run (inTable p) up (head p) x n w .ended ≡ clear up w
-  unfolding inTable
-  table-ended up w x y n q f = run-ended (tail p) (head p) (used p) up w x y n q f
 
   -- whatever rules a packet runs under, if they are for arcs of the plant: bytes past those of its links are not looked at
   pub bytes-past : (rule : ℕ → ℕ → Bool) → ((x a : ℕ) → rule x a ≡ true → Arc p a) → (states : List ℕ) (hd : ℕ → ℕ) (w : List ℕ) (at n : ℕ)

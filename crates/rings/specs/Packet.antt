@@ -4,7 +4,6 @@ use mathlib.Core.List.{List, [], _∷_}
 use Prim.Native.Nat.{ℕ, suc, _/_}
 use lib.Dec.{eqb}
 use Rattle.lists.specs.Tests.{choose}
-use Rattle.lists.specs.Members.{all}
 
 -- how a run comes out: has the packet ended (else it is lost), the hops that it made, and the switch that it came to last. A probe that has ended has returned
 pub record End : Type 0 where
@@ -27,7 +26,3 @@ module _ (rule : ℕ → ℕ → Bool) (up : ℕ → Bool) (hd : ℕ → ℕ) wh
 -- a rule for each arc of a kind, at the switch that the arc leaves
 unfoldable pub rulesFor : (ℕ → Bool) → (ℕ → ℕ) → ℕ → ℕ → Bool
 rulesFor kind tl at a = kind a && eqb (tl a) at
-
--- the links of these labels are up
-abbrev pub clear : (ℕ → Bool) → List ℕ → Bool
-clear up w = all (λ a. up (a / 2)) w

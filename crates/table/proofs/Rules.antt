@@ -1,13 +1,13 @@
 -- Laws of the forwarding table: one rule more, how many rules there are, and that there is a place for each. Assumes nothing.
 use mathlib.Core.Path.{_≡_, refl, sym, ap, ap₂, _∙_}
 use mathlib.Core.Bool.{true, false}
-use mathlib.Core.List.{List, [], _∷_, _++_, map, append-assoc}
-use Prim.Native.Nat.{ℕ, suc, _+_, _-_, _*_, _/_, _%_, _≤_, _<_}
+use mathlib.Core.List.{[], _∷_, _++_, map, map-append}
+use Prim.Native.Nat.{ℕ, _+_, _*_, _/_, _%_, _≤_, _<_}
 use native.Mathlib.Omega.{arith}
-use lib.ListN.{length, set, replicate, length-append, length-map}
-use lib.Seq.{set-at}
+use lib.ListN.{length, set, length-append, length-map}
 use Rattle.lists.proofs.Tests.{true-T, false-T}
 use Rattle.lists.specs.Numbers.{range, keep}
+use Rattle.lists.proofs.Padded.{padded-put}
 use Rattle.lists.proofs.Kept.{kept-yes, kept-no, kept-length, kept-room}
 use Rattle.plant.specs.declared.Plant.{Plant}
 use Rattle.limits.specs.Sound.{Sound}
@@ -19,20 +19,6 @@ use Rattle.walks.proofs.Valid.{sound-valid}
 use Rattle.table.specs.declared.Rule.{Rule}
 use Rattle.table.specs.declared.Table.{Table}
 use Rattle.table.specs.Rules.{maxRules, zeroRule, tableWith, ruleOf, rulesBelow, rulesOf, tableOf}
-
-map-append : {A B : Type 0} (f : A → B) (xs ys : List A) → map f (xs ++ ys) ≡ map f xs ++ map f ys
-map-append f [] ys = refl
-map-append f (x ∷ xs) ys = ap (λ (l : List _). f x ∷ l) (map-append f xs ys)
-
--- one rule more
-put : (rs : List Rule) (r : Rule) → length rs < maxRules → record { count = length rs + 1; rules = set (tableWith rs .rules) (length rs) r } ≡ tableWith (rs ++ (r ∷ []))
-unfolding tableWith
-put rs r h =
-    let k : maxRules - length rs ≡ suc (maxRules - (length rs + 1)) = omega arith in
-    let n : length (rs ++ (r ∷ [])) ≡ length rs + 1 = length-append rs (r ∷ []) in
-    let e : set (rs ++ replicate (maxRules - length rs) zeroRule) (length rs) r ≡ (rs ++ (r ∷ [])) ++ replicate (maxRules - length (rs ++ (r ∷ []))) zeroRule =
-    rw (k, set-at rs zeroRule (replicate (maxRules - (length rs + 1)) zeroRule) r (length rs) refl, n, append-assoc rs (r ∷ [])) refl in
-    ap₂ (λ (c : ℕ) (l : List Rule). record { count = c; rules = l }) (sym n) e
 
 module _ (p : Plant) where
   -- the rules are as many as the arcs in use
@@ -79,7 +65,8 @@ module _ (p : Plant) where
       pub table-rule : (t : Table) (r : Rule) → t ≡ tableWith (rulesBelow p a) → r ≡ ruleOf p a
           → record { count = t .count + 1; rules = set (t .rules) (t .count) r } ≡ tableWith (rulesBelow p (a + 1))
       unfolding tableWith
-      table-rule t r q s = rw (q, s, rules-yes a e) (put (rulesBelow p a) (ruleOf p a) room)
+      table-rule t r q s =
+          rw (q, s, rules-yes a e, padded-put maxRules zeroRule (rulesBelow p a) (ruleOf p a) room, length-append (rulesBelow p a) (ruleOf p a ∷ []))
 
     pub table-place : (a : ℕ) (t : Table) → a < 2 * p .count → used p a ≡ true → t ≡ tableWith (rulesBelow p a) → t .count < maxRules
     unfolding tableWith

@@ -1,8 +1,9 @@
 -- The forwarding table (document 01's rule page): one rule for each arc in use, by rising label, then unused places zero.
-use mathlib.Core.List.{List, _++_, map}
+use mathlib.Core.List.{List, map}
 use Prim.Native.Nat.{ℕ, _+_, _-_, _*_}
-use lib.ListN.{length, replicate}
+use lib.ListN.{length}
 use Rattle.lists.specs.Numbers.{range, keep}
+use Rattle.lists.specs.Padded.{padded}
 use Rattle.plant.specs.declared.Plant.{Plant}
 use Rattle.limits.specs.Limits.{maxSwitches, maxLinks}
 use Rattle.walks.specs.Arcs.{tail, head}
@@ -19,7 +20,7 @@ zeroRule = record { from = 0; label = 0; to = 0 }
 
 -- the table with these rules
 unfoldable pub tableWith : List Rule → Table
-tableWith rs = record { count = length rs; rules = rs ++ replicate (maxRules - length rs) zeroRule }
+tableWith rs = record { count = length rs; rules = padded maxRules zeroRule rs }
 
 module _ (p : Plant) where
   -- the rule for an arc: sending switch, label, receiving switch

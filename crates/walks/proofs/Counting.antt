@@ -1,6 +1,6 @@
 -- Theorem B: the arcs in use are as many as the links and the bridges, and the bridges are fewer than the switches. Assumes a valid plant.
 use mathlib.Core.Path.{_≡_, refl, subst}
-use mathlib.Core.Logic.{_⊎_, inl, inr, _↔_}
+use mathlib.Core.Logic.{_⊎_, inl, inr}
 use mathlib.Core.Bool.{Bool, true, false, _&&_, _||_}
 use mathlib.Core.List.{List, map}
 use Prim.Native.Nat.{ℕ, suc, _+_, _*_, _/_, _<_}
@@ -13,7 +13,7 @@ use Rattle.lists.proofs.Tests.{T-or}
 use Rattle.lists.specs.Members.{In, memb}
 use Rattle.lists.proofs.Members.{in→memb}
 use Rattle.lists.specs.Count.{bit, count}
-use Rattle.lists.proofs.Count.{bit-true, bit-false, bit-le-one, bit-ltb, count-le, count-memb, pairs, counts-le}
+use Rattle.lists.proofs.Count.{bit-true, bit-false, bit-ltb, count-le, count-memb, pairs, counts-le}
 use Rattle.plant.specs.declared.Plant.{Plant}
 use Rattle.plant.specs.Links.{first, second, live}
 use Rattle.walks.proofs.Walk.{trans, weaken}
@@ -74,19 +74,6 @@ module _ (p : Plant) (ok : Valid p) where
           go (inl t) k = inl t
           go (inr n) (inl t) = inr t
           go (inr n) (inr m) = absurd (omega (arith, used-pair, bit-false (used p (2 * l)) n, bit-false (used p (2 * l + 1)) m))
-
-      -- both are just where the link is a bridge
-      pub both-used : (T (used p (2 * l)) × T (used p (2 * l + 1))) ↔ T (bridge p l)
-      both-used = (λ h. from h (T-or (bridge p l)), λ t. to t (T-or (used p (2 * l))) (T-or (used p (2 * l + 1))))
-        where
-          from : T (used p (2 * l)) × T (used p (2 * l + 1)) → T (bridge p l) ⊎ (T (bridge p l) → ⊥) → T (bridge p l)
-          from h (inl t) = t
-          from h (inr n) = absurd (omega (arith, used-pair, bit-true (used p (2 * l)) (h .0), bit-true (used p (2 * l + 1)) (h .1), bit-false (bridge p l) n))
-
-          to : T (bridge p l) → T (used p (2 * l)) ⊎ (T (used p (2 * l)) → ⊥) → T (used p (2 * l + 1)) ⊎ (T (used p (2 * l + 1)) → ⊥) → T (used p (2 * l)) × T (used p (2 * l + 1))
-          to t (inl h) (inl i) = (h, i)
-          to t (inr n) k = absurd (omega (arith, used-pair, bit-true (bridge p l) t, bit-false (used p (2 * l)) n, bit-le-one (used p (2 * l + 1))))
-          to t (inl h) (inr n) = absurd (omega (arith, used-pair, bit-true (bridge p l) t, bit-false (used p (2 * l + 1)) n, bit-le-one (used p (2 * l))))
 
     -- ---- theorem B
 

@@ -19,7 +19,7 @@ use Rattle.walks.specs.Visit.{rank}
 use Rattle.walks.proofs.Visit.{rank-eq, ext, New, born, Good}
 use Rattle.walks.specs.Arcs.{opposite, tail, head, Avoid, Valid}
 use Rattle.walks.specs.Graph.{To, arcs, visited, bridge, entered}
-use Rattle.walks.specs.Cycles.{Below, Level}
+use Rattle.walks.specs.Inner.{Below, Level}
 use Rattle.walks.proofs.Labels.{even-half, same-link, opposite-half, crosses, crosses-arc, tail-even, head-even, tail-opposite, head-opposite, ends, even-arc, opposite-avoid}
 use Rattle.walks.proofs.Visited.{begin, visited-run, visited-good, visited-keeps, entered-arc}
 use Rattle.walks.proofs.Tests.{walk-back, bridge-arc, no-bridge-arc}

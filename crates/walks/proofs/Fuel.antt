@@ -13,7 +13,8 @@ use Rattle.lists.specs.Members.{In, memb, Distinct}
 use Rattle.lists.proofs.Members.{memb→in, in→memb}
 use Rattle.lists.specs.Count.{count}
 use Rattle.lists.proofs.Count.{count-le, count-lt, count-one, count-every}
-use Rattle.walks.specs.Visit.{St, push, fresh, scan, visit, Scan, done, skip, enter}
+use Rattle.walks.specs.Visit.{St, push, fresh, scan, visit}
+use Rattle.walks.specs.Inner.{Scan, done, skip, enter}
 use Rattle.walks.proofs.Visit.{Ext, ext}
 
 -- how many switches below n are not in the list

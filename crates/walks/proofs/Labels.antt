@@ -1,5 +1,5 @@
 -- Laws of labels: halves, the opposite arc, the lists of labels, links that a walk crosses, the ends of an arc. Assumes nothing, and a valid plant where the ends are switches.
-use mathlib.Core.Path.{_≡_, refl, sym, ap, _∙_, subst}
+use mathlib.Core.Path.{_≡_, sym, ap, _∙_, subst}
 use mathlib.Core.Logic.{_⊎_, inl, inr, _↔_}
 use mathlib.Core.Bool.{Bool, not, _&&_}
 use mathlib.Core.List.{List, [], _∷_}
@@ -13,6 +13,7 @@ use Rattle.lists.specs.Numbers.{range, keep}
 use Rattle.lists.proofs.Numbers.{in-range, keep-in, in-keep}
 use Rattle.plant.specs.declared.Plant.{Plant}
 use Rattle.plant.specs.Links.{side, first, second, live}
+use Rattle.plant.proofs.Sides.{side-even, side-odd}
 use Rattle.walks.specs.Arcs.{opposite, labels, tail, head, Arc, Avoid, Valid}
 use Rattle.walks.specs.Graph.{Crosses, arcs, others}
 use Rattle.walks.proofs.Live.{live-below}
@@ -63,6 +64,14 @@ same-link a b e = go (eq? a b)
     go (inl q) = inl q
     go (inr q) = inr (omega (arith, q))
 
+-- what holds of a label of the link of b holds of b, or of the opposite one
+pub of-link : (P : ℕ → Type 0) (a b : ℕ) → a / 2 ≡ b / 2 → P a → P b ⊎ P (opposite b)
+of-link P a b e h = go (same-link a b e)
+  where
+    go : (a ≡ b) ⊎ (a ≡ opposite b) → P b ⊎ P (opposite b)
+    go (inl q) = inl (subst P q h)
+    go (inr q) = inr (subst P q h)
+
 -- ---- the labels of a list of links
 
 pub labels-in : (a : ℕ) (ls : List ℕ) → In a (labels ls) → In (a / 2) ls
@@ -100,47 +109,31 @@ crosses? l w = go (in? (2 * l) w) (in? (2 * l + 1) w)
 
 -- it has the arc, or the opposite one
 pub crosses-arc : (a : ℕ) (w : List ℕ) → Crosses (a / 2) w → In a w ⊎ In (opposite a) w
-crosses-arc a w (inl h) = go (same-link (2 * (a / 2)) a (even-half (a / 2)))
-  where
-    go : (2 * (a / 2) ≡ a) ⊎ (2 * (a / 2) ≡ opposite a) → In a w ⊎ In (opposite a) w
-    go (inl e) = inl (subst (λ (k : ℕ). In k w) e h)
-    go (inr e) = inr (subst (λ (k : ℕ). In k w) e h)
-crosses-arc a w (inr h) = go (same-link (2 * (a / 2) + 1) a (odd-half (a / 2)))
-  where
-    go : (2 * (a / 2) + 1 ≡ a) ⊎ (2 * (a / 2) + 1 ≡ opposite a) → In a w ⊎ In (opposite a) w
-    go (inl e) = inl (subst (λ (k : ℕ). In k w) e h)
-    go (inr e) = inr (subst (λ (k : ℕ). In k w) e h)
+crosses-arc a w (inl h) = of-link (λ k. In k w) (2 * (a / 2)) a (even-half (a / 2)) h
+crosses-arc a w (inr h) = of-link (λ k. In k w) (2 * (a / 2) + 1) a (odd-half (a / 2)) h
 
 -- ---- the ends of an arc
 
-side-zero : (x y n : ℕ) → n ≡ 0 → side n x y ≡ x
-side-zero x y zero e = refl
-side-zero x y (suc n) e = absurd (omega arith)
-
-side-one : (x y n : ℕ) → n ≡ 1 → side n x y ≡ y
-side-one x y zero e = absurd (omega arith)
-side-one x y (suc n) e = refl
-
 side-swap : (x y n m : ℕ) → n < 2 → m ≡ 1 - n → side m x y ≡ side n y x
-side-swap x y zero m h e = side-one x y m (omega arith)
-side-swap x y (suc n) m h e = side-zero x y m (omega arith)
+side-swap x y zero m h e = sym (side-odd m x y (λ z. omega arith))
+side-swap x y (suc n) m h e = sym (side-even m x y (omega arith))
 
 module _ (p : Plant) where
   pub tail-even : (l : ℕ) → tail p (2 * l) ≡ first p l
   unfolding tail
-  tail-even l = side-zero _ _ (2 * l % 2) (omega arith) ∙ ap (first p) (even-half l)
+  tail-even l = sym (side-even (2 * l % 2) _ _ (omega arith)) ∙ ap (first p) (even-half l)
 
   pub head-even : (l : ℕ) → head p (2 * l) ≡ second p l
   unfolding head
-  head-even l = side-zero _ _ (2 * l % 2) (omega arith) ∙ ap (second p) (even-half l)
+  head-even l = sym (side-even (2 * l % 2) _ _ (omega arith)) ∙ ap (second p) (even-half l)
 
   pub tail-odd : (l : ℕ) → tail p (2 * l + 1) ≡ second p l
   unfolding tail
-  tail-odd l = side-one _ _ ((2 * l + 1) % 2) (omega arith) ∙ ap (second p) (odd-half l)
+  tail-odd l = sym (side-odd ((2 * l + 1) % 2) _ _ (λ z. omega arith)) ∙ ap (second p) (odd-half l)
 
   pub head-odd : (l : ℕ) → head p (2 * l + 1) ≡ first p l
   unfolding head
-  head-odd l = side-one _ _ ((2 * l + 1) % 2) (omega arith) ∙ ap (first p) (odd-half l)
+  head-odd l = sym (side-odd ((2 * l + 1) % 2) _ _ (λ z. omega arith)) ∙ ap (first p) (odd-half l)
 
   pub tail-opposite : (a : ℕ) → tail p (opposite a) ≡ head p a
   unfolding tail head

@@ -11,5 +11,4 @@ pub mod Cycles
 pub mod Fewest
 pub mod Attained
 pub mod ByLinks
-pub mod FirstMet
 pub mod Valid

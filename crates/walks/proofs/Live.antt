@@ -4,12 +4,9 @@ use mathlib.Core.Path.{_≡_}
 use mathlib.Core.Logic.{_↔_}
 use mathlib.Core.Bool.{true}
 use Prim.Native.Nat.{ℕ, _<_}
-use native.Mathlib.Omega.{arith}
 use lib.Dec.{T, ltb→lt, lt→ltb}
 use Rattle.lists.proofs.Tests.{T-true, true-T}
 use Rattle.lists.proofs.Count.{count-every}
-use Rattle.lists.specs.Numbers.{range, keep}
-use Rattle.lists.proofs.Numbers.{range-in, keep-all}
 use Rattle.plant.specs.declared.Plant.{Plant}
 use Rattle.plant.specs.Links.{live}
 use Rattle.walks.specs.Graph.{liveLinks}
@@ -31,6 +28,3 @@ module _ (p : Plant) where
   pub all-live : liveLinks p ≡ p .count
   unfolding liveLinks
   all-live = count-every (p .count) (live p) below-live
-
-  pub all-links : keep (live p) (range 0 (p .count)) ≡ range 0 (p .count)
-  all-links = keep-all (live p) (range 0 (p .count)) (λ l h. below-live l (omega (arith, range-in l 0 (p .count) h .1)))

@@ -4,7 +4,7 @@ use mathlib.Core.Path.{_≡_, sym, _∙_}
 use mathlib.Core.Logic.{_⊎_, inl, inr, _↔_}
 use mathlib.Core.Bool.{not}
 use mathlib.Core.List.{List}
-use Prim.Native.Nat.{ℕ, _+_, _*_, _/_, _<_}
+use Prim.Native.Nat.{ℕ, _+_, _*_, _/_}
 use lib.Dec.{T, T-not, not-T}
 use Rattle.lists.proofs.Tests.{T-or, and-left, and-right, and-both}
 use Rattle.lists.specs.Members.{In, memb}
@@ -35,14 +35,6 @@ module _ (p : Plant) where
   bridge-live l t = and-left (live p l) (not (memb (second p l) (visitFrom p (first p l) (others p l) .ord))) t
 
 module _ (p : Plant) (ok : Valid p) where
-  -- visited from v over the arcs of the list: a walk of them leads there from v
-  pub found-walk : (bs : List ℕ) → ((b : ℕ) → In b bs → Arc p b) → (v x : ℕ) → v < p .switches
-      → T (memb x (visitFrom p v bs .ord)) ↔ ((w : List ℕ) × Walk (tail p) (head p) w v x × ((a : ℕ) → In a w → In a bs))
-  found-walk bs real v x h = (λ t. to-walk p .0 (f .0 t), λ r. f .1 (to-walk p .1 r))
-    where
-      f : T (memb x (visitFrom p v bs .ord)) ↔ To p (λ b. In b bs) v x
-      f = finds p ok bs real v h x
-
   -- ---- connected
 
   pub connected-is : T (connected p) ↔ Connected p

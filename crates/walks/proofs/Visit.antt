@@ -12,7 +12,8 @@ use Rattle.lists.specs.Members.{In}
 use Rattle.lists.proofs.Members.{in?}
 use Rattle.walks.specs.Walk.{Reach, here, step}
 use Rattle.walks.proofs.Walk.{trans, weaken, one, exits}
-use Rattle.walks.specs.Visit.{St, push, Scan, done, skip, enter, rank}
+use Rattle.walks.specs.Visit.{St, push, rank}
+use Rattle.walks.specs.Inner.{Scan, done, skip, enter}
 
 pub rank-eq : (x y : ℕ) (l : List ℕ) → x ≡ y → rank x (y ∷ l) ≡ length l
 rank-eq x y l e = go (eqb x y) (eq→eqb e)

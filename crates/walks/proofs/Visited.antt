@@ -9,11 +9,12 @@ use lib.Dec.{T}
 use lib.ListN.{length}
 use Rattle.lists.specs.Members.{In, memb, Distinct}
 use Rattle.lists.proofs.Members.{memb→in, in→memb}
-use Rattle.lists.proofs.Count.{count-all, distinct-count, distinct-length}
+use Rattle.lists.proofs.Count.{count-all, distinct-count}
 use Rattle.plant.specs.declared.Plant.{Plant}
 use Rattle.walks.specs.Walk.{here}
 use Rattle.walks.proofs.Walk.{weaken, keeps}
-use Rattle.walks.specs.Visit.{St, visit, Scan}
+use Rattle.walks.specs.Visit.{St, visit}
+use Rattle.walks.specs.Inner.{Scan}
 use Rattle.walks.proofs.Visit.{ext, Closed, closed, New, born, Good, good}
 use Rattle.walks.specs.Arcs.{tail, head, Arc, Valid}
 use Rattle.walks.specs.Graph.{To, Connected, arcs, visitFrom, visited}
@@ -151,6 +152,3 @@ module _ (p : Plant) (ok : Valid p) where
 
   pub visited-all : Connected p → (x : ℕ) → x < p .switches → In x (visited p .ord)
   visited-all con x h = memb→in x (visited p .ord) (visited-finds x .1 (con x h))
-
-  pub visited-length : Connected p → length (visited p .ord) ≡ p .switches
-  visited-length con = distinct-length (p .switches) (visited p .ord) visited-distinct visited-inside (visited-all con)

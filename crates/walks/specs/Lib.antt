@@ -4,4 +4,4 @@ pub mod Arcs
 pub mod Graph
 pub mod ByLinks
 pub mod Cases
-pub mod Cycles
+pub mod Inner

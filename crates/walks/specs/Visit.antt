@@ -1,11 +1,10 @@
--- The depth-first visit over a list of arcs: as a function with fuel, and as a relation that proofs go by. The laws are in proofs/.
-use mathlib.Core.Path.{_≡_}
+-- The depth-first visit over a list of arcs, as a function with fuel. The laws are in proofs/.
 use mathlib.Core.Bool.{Bool, true, false, not, _&&_}
 use mathlib.Core.List.{List, [], _∷_}
 use Prim.Native.Nat.{ℕ, zero, suc}
 use lib.Dec.{eqb}
 use lib.ListN.{length}
-use Rattle.lists.specs.Members.{In, memb}
+use Rattle.lists.specs.Members.{memb}
 
 -- the switches visited so far, the last one first, and the arcs entered so far, the last one first
 pub record St : Type 0 where
@@ -30,12 +29,6 @@ module _ (tl hd : ℕ → ℕ) where
     unfoldable pub visit : ℕ → ℕ → St → St
     visit zero v s = s
     visit (suc f) v s = scan (λ w t. visit f w t) v arcs s
-
-    -- the same as a relation: from state s, trying the arcs `bs` at v leads to state t
-    pub data Scan : ℕ → List ℕ → St → St → Type 0 where
-      done : {v : ℕ} {s : St} → Scan v [] s s
-      skip : {v a : ℕ} {bs : List ℕ} {s t : St} → (tl a ≡ v → In (hd a) (s .ord)) → Scan v bs s t → Scan v (a ∷ bs) s t
-      enter : {v a : ℕ} {bs : List ℕ} {s m t : St} → tl a ≡ v → (In (hd a) (s .ord) → ⊥) → Scan (hd a) arcs (push a s) m → Scan v bs m t → Scan v (a ∷ bs) s t
 
 -- ---- rank: the number of a switch in the order of the visit, from 0 (the list has the last one first)
 

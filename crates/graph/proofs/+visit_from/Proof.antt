@@ -8,7 +8,7 @@ use borrow.Author.Needs.{needs}
 use borrow.Author.Tests.{not-true, not-false}
 use borrow.Fn.Kinds.{In}
 use borrow.Fn.PlainCycle.{Measures, is, falls, and}
-use Rattle.graph.specs.Shows.{unvisited}
+use Rattle.graph.specs.Inner.{unvisited}
 use Rattle.graph.proofs.Unvisited.{unvisited-kept}
 use Rattle.graph.proofs.Entering.{enter-numbers, enter-falls, enter-at}
 use Rattle.graph.proofs.Goes.{far-in, Goes, goes-none, goes-all, turn-not, turn-old, turn-new}
@@ -43,35 +43,14 @@ Inv skip at p v₀ e l₀ v l = (l ≤ e) × Goes p skip at l v₀ v
 abbrev μ : lts.MeasureT-loop
 μ skip at p v₀ e l₀ v l = e - l
 
-cast-e : (t : ℕ) → lts.Need-cast-e (calls t) (visit-from-at t) visit-from.Post Inv μ
-cast-e t c = search needs
-
 loop-holds : (t : ℕ) → lts.Need-loop-holds (calls t) (visit-from-at t) visit-from.Post Inv μ
 loop-holds t c = (omega arith, goes-none _ _ _ _ (c .pre .1 .1 .room))
-
-takes-part-requires : (t : ℕ) → lts.Need-takes-part-requires (calls t) (visit-from-at t) visit-from.Post Inv μ
-takes-part-requires t c κs = search needs
-
-mul-far : (t : ℕ) → lts.Need-mul-far (calls t) (visit-from-at t) visit-from.Post Inv μ
-mul-far t c = search needs
-
-element-copy-out-far : (t : ℕ) → lts.Need-element-copy-out-far (calls t) (visit-from-at t) visit-from.Post Inv μ
-element-copy-out-far t c = omega (arith, c .before .before .before .before .pre .1 .0 .few-links)
-
-far-requires : (t : ℕ) → lts.Need-far-requires (calls t) (visit-from-at t) visit-from.Post Inv μ
-far-requires t c κs = search needs
-
-cast-j : (t : ℕ) → lts.Need-cast-j (calls t) (visit-from-at t) visit-from.Post Inv μ
-cast-j t c = search needs
 
 -- the far end of the link is a switch
 near : (t : ℕ) (c : lts.After-far (calls t) (visit-from-at t) visit-from.Post Inv μ) → c .far .result < c .before .before .before .before .before .before .args .t1 .switches
 near t c =
     let s = c .before .before .before .before .before .before in
     far-in (s .args .t1) (s .args .at) _ _ (s .pre .1 .0) (s .pre .1 .1 .within) (c .far .ensures) (omega arith)
-
-element-copy-out-if2 : (t : ℕ) → lts.Need-element-copy-out-if2 (calls t) (visit-from-at t) visit-from.Post Inv μ
-element-copy-out-if2 t c = omega (arith, near t c, c .before .before .before .before .before .before .pre .1 .0 .few-switches)
 
 enter-requires : (t : ℕ) → lts.Need-enter-requires (calls t) (visit-from-at t) visit-from.Post Inv μ
 enter-requires t c κs =
@@ -95,12 +74,6 @@ visit-from-requires t c κs =
       omega (arith, unvisited-kept (s .args .t1 .switches) (s .args .v0 .seen) (k .v .seen) (k .inv .1 .kept), s .pre .0),
       (sound, enter-at (s .args .t1) (k .v) _ (k .inv .1 .room) (sound .few-switches) to-in new _),
     )
-
-add-l : (t : ℕ) → lts.Need-add-l (calls t) (visit-from-at t) visit-from.Post Inv μ
-add-l t c = search needs
-
-loop-less : (t : ℕ) → lts.Need-loop-less (calls t) (visit-from-at t) visit-from.Post Inv μ
-loop-less t c = search needs
 
 loop-again : (t : ℕ) → lts.Need-loop-again (calls t) (visit-from-at t) visit-from.Post Inv μ
 loop-again t c =
@@ -126,22 +99,8 @@ returns : (t : ℕ) → lts.Need-returns (calls t) (visit-from-at t) visit-from.
 returns t c = goes-all _ _ _ _ _ _ (omega arith) (c .before .loop .inv .1)
 
 pub +visit-from-spec : {M : Type 1} → statement M
-+visit-from-spec = close μ-visit-from λ t. lts.spec (calls t)
-    (visit-from-at t)
-    visit-from.Post
-    Inv
-    μ
-    (cast-e t)
-    (loop-holds t)
-    (takes-part-requires t)
-    (mul-far t)
-    (element-copy-out-far t)
-    (far-requires t)
-    (cast-j t)
-    (element-copy-out-if2 t)
-    (enter-requires t)
-    (visit-from-requires t)
-    (add-l t)
-    (loop-less t)
-    (loop-again t)
-    (returns t)
++visit-from-spec =
+    close μ-visit-from λ t. lts.spec (calls t) (visit-from-at t) visit-from.Post Inv μ (λ c. search needs) (loop-holds t) (λ c κs. search needs) (λ c. search needs)
+    (λ c. omega (arith, c .before .before .before .before .pre .1 .0 .few-links)) (λ c κs. search needs) (λ c. search needs)
+    (λ c. omega (arith, near t c, c .before .before .before .before .before .before .pre .1 .0 .few-switches)) (enter-requires t) (visit-from-requires t)
+    (λ c. search needs) (λ c. search needs) (loop-again t) (returns t)

@@ -3,7 +3,7 @@ use Prim.Native.Nat.{_-_, _≤_}
 use native.Mathlib.Omega.{arith}
 use Rattle.limits.specs.Limits.{maxLinks}
 use Rattle.walks.specs.Graph.{bridge}
-use Rattle.graph.proofs.Filled.{Filled, filled-none, filled-put, filled-all}
+use Rattle.lists.proofs.Filled.{Filled, filled-none, filled-put, filled-all}
 use Rattle.graph.proofs.Uses.{bridge-past}
 use Rattle.graph.proofs.bridges.Statement.{statement}
 use Rattle.graph.proofs.bridges.Tie as tie
@@ -14,18 +14,6 @@ Inv-loop p v c b₀ n l₀ b l = (l ≤ n) × Filled maxLinks (bridge p) l b
 abbrev μ-loop : tie.MeasureT-loop
 μ-loop p v c b₀ n l₀ b l = n - l
 
-visit-start-requires : tie.Need-visit-start-requires Inv-loop μ-loop
-visit-start-requires c κs = c .pre
-
-entry-links-requires : tie.Need-entry-links-requires Inv-loop μ-loop
-entry-links-requires c κs = (c .before .pre, c .visit-start .ensures)
-
-covered-links-requires : tie.Need-covered-links-requires Inv-loop μ-loop
-covered-links-requires c κs = (c .before .before .pre, (c .before .visit-start .ensures, c .entry-links .ensures))
-
-cast-n : tie.Need-cast-n Inv-loop μ-loop
-cast-n c = omega arith
-
 loop-holds : tie.Need-loop-holds Inv-loop μ-loop
 loop-holds c = (omega arith, filled-none maxLinks (bridge (c .before .before .before .before .args .p)))
 
@@ -33,15 +21,6 @@ is-bridge-by-requires : tie.Need-is-bridge-by-requires Inv-loop μ-loop
 is-bridge-by-requires c κs =
     let s = c .before .before .before .before .before in
     (s .before .pre, (s .visit-start .ensures, (c .before .before .before .covered-links .ensures, omega (arith, s .before .pre .few-links))))
-
-array-write-b : tie.Need-array-write-b Inv-loop μ-loop
-array-write-b c = omega (arith, c .before .before .before .before .before .before .before .pre .few-links)
-
-add-l : tie.Need-add-l Inv-loop μ-loop
-add-l c = omega arith
-
-loop-less : tie.Need-loop-less Inv-loop μ-loop
-loop-less c = omega arith
 
 loop-again : tie.Need-loop-again Inv-loop μ-loop
 loop-again c =
@@ -53,22 +32,14 @@ returns : tie.Need-returns Inv-loop μ-loop
 returns c =
     let k = c .before .loop in
     let s = c .before .before .before .before .before .before in
-    filled-all maxLinks (bridge (s .args .p)) (k .l) (k .b) (k .inv .1) (λ l h. bridge-past (s .args .p) l (omega arith))
+    record {
+      places = k .inv .1 .places;
+      tells = filled-all maxLinks (bridge (s .args .p)) (k .l) (k .b) (k .inv .1) (λ l h. bridge-past (s .args .p) l (omega arith));
+    }
 
 pub bridges-spec : {M : Type 1} → statement M
 bridges-spec =
-    tie.close
-    (tie.spec
-    Inv-loop
-    μ-loop
-    visit-start-requires
-    entry-links-requires
-    covered-links-requires
-    cast-n
-    loop-holds
-    is-bridge-by-requires
-    array-write-b
-    add-l
-    loop-less
-    loop-again
-    returns)
+    tie.close (tie.spec Inv-loop μ-loop (λ c κs. c .pre) (λ c κs. (c .before .pre, c .visit-start .ensures))
+    (λ c κs. (c .before .before .pre, (c .before .visit-start .ensures, c .entry-links .ensures))) (λ c. omega arith) loop-holds
+    is-bridge-by-requires (λ c. omega (arith, c .before .before .before .before .before .before .before .pre .few-links)) (λ c. omega arith)
+    (λ c. omega arith) loop-again returns)

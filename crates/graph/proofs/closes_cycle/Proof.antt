@@ -7,30 +7,15 @@ use Rattle.graph.proofs.Cycles.{closes-dead, closes-entered, closes-see
 use Rattle.graph.proofs.closes_cycle.Statement.{statement}
 use Rattle.graph.proofs.closes_cycle.Tie as tie
 
-is-live-requires : tie.Need-is-live-requires
-is-live-requires c κs = search needs
-
 returns : tie.Need-returns
 returns c =
     let s = c .before .before in
     sym (closes-dead _ (s .pre .0) _ (sym (c .before .is-live .ensures) ∙ not-true _ (c .if1 .taken)))
 
-element-copy-out-if2 : tie.Need-element-copy-out-if2
-element-copy-out-if2 c = search needs
-
 returns-2 : tie.Need-returns-2
 returns-2 c =
     let s = c .before .before .before .before in
     sym (closes-entered _ (s .pre .0) (s .args .l) (s .pre .1 .0) (sym (c .before .before .before .is-live .ensures) ∙ not-false _ (c .before .before .if1 .left)) (c .if2 .taken))
-
-mul-k : tie.Need-mul-k
-mul-k c = search needs
-
-element-copy-out-k : tie.Need-element-copy-out-k
-element-copy-out-k c = search needs
-
-cast-x : tie.Need-cast-x
-cast-x c = search needs
 
 element-copy-out-result : tie.Need-element-copy-out-result
 element-copy-out-result c = let s = c .before .before .before .before .before .before in first-place (s .args .t1) (s .args .l) (s .pre .0)
@@ -43,14 +28,5 @@ returns-3 c =
 
 pub closes-cycle-spec : {M : Type 1} → statement M
 closes-cycle-spec =
-    tie.close
-    (tie.spec
-    is-live-requires
-    returns
-    element-copy-out-if2
-    returns-2
-    mul-k
-    element-copy-out-k
-    cast-x
-    element-copy-out-result
-    returns-3)
+    tie.close (tie.spec (λ c κs. search needs) returns (λ c. search needs) returns-2 (λ c. search needs) (λ c. search needs) (λ c. search needs)
+    element-copy-out-result returns-3)

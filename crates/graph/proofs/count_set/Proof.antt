@@ -22,19 +22,10 @@ loop-holds : tie.Need-loop-holds Inv-loop μ-loop
 unfolding count
 loop-holds c = (omega arith, refl)
 
-shared-slice-read-if1 : tie.Need-shared-slice-read-if1 Inv-loop μ-loop
-shared-slice-read-if1 c = omega arith
-
 add-n : tie.Need-add-n Inv-loop μ-loop
 add-n c =
     let k = c .before .before .before .loop in
     omega (arith, k .inv .1, count-all (k .i) (λ j. getD (c .before .before .before .before .args .flags .now) j false))
-
-add-i : tie.Need-add-i Inv-loop μ-loop
-add-i c = omega arith
-
-loop-less : tie.Need-loop-less Inv-loop μ-loop
-loop-less c = omega arith
 
 loop-again : tie.Need-loop-again Inv-loop μ-loop
 loop-again c =
@@ -51,5 +42,4 @@ returns c =
     c .before .loop .inv .1 ∙ ap (λ (m : ℕ). count m (λ j. getD (c .before .before .args .flags .now) j false)) l
 
 pub count-set-spec : {M : Type 1} → statement M
-count-set-spec =
-    tie.close (tie.spec Inv-loop μ-loop loop-holds shared-slice-read-if1 add-n add-i loop-less loop-again returns)
+count-set-spec = tie.close (tie.spec Inv-loop μ-loop loop-holds (λ c. omega arith) add-n (λ c. omega arith) (λ c. omega arith) loop-again returns)

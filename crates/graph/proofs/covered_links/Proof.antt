@@ -3,7 +3,7 @@ use mathlib.Core.Path.{sym, _∙_}
 use mathlib.Core.Logic.{⊎-elim}
 use Prim.Native.Nat.{_-_, _≤_}
 use native.Mathlib.Omega.{arith}
-use Rattle.graph.specs.Cycles.{Covered}
+use Rattle.graph.specs.Inner.{Covered}
 use Rattle.graph.proofs.Cycles.{covered-none, covered-pass, covered-all}
 use Rattle.graph.proofs.covered_links.Statement.{statement}
 use Rattle.graph.proofs.covered_links.Tie as tie
@@ -14,26 +14,14 @@ Inv-loop p v up c₀ n k₀ c k = (k ≤ n) × Covered p k c
 abbrev μ-loop : tie.MeasureT-loop
 μ-loop p v up c₀ n k₀ c k = n - k
 
-cast-n : tie.Need-cast-n Inv-loop μ-loop
-cast-n c = omega arith
-
 loop-holds : tie.Need-loop-holds Inv-loop μ-loop
 loop-holds c = (omega arith, covered-none (c .before .args .p) (c .before .pre .0))
-
-closes-cycle-requires : tie.Need-closes-cycle-requires Inv-loop μ-loop
-closes-cycle-requires c κs = let h = c .before .before .before .pre in (h .0, (h .1 .0, omega (arith, h .0 .few-links)))
 
 climb-requires : tie.Need-climb-requires Inv-loop μ-loop
 climb-requires c κs =
     let s = c .before .before .before .before .before in
     let k = c .before .before .before .loop in
     (s .pre .0, (s .pre .1 .0, (s .pre .1 .1, (omega (arith, s .pre .0 .few-links), (k .inv .1, sym (c .before .closes-cycle .ensures) ∙ c .if1 .taken)))))
-
-add-k : tie.Need-add-k Inv-loop μ-loop
-add-k c = omega arith
-
-loop-less : tie.Need-loop-less Inv-loop μ-loop
-loop-less c = omega arith
 
 loop-again : tie.Need-loop-again Inv-loop μ-loop
 loop-again c =
@@ -49,15 +37,6 @@ returns c = covered-all _ (c .before .before .before .pre .0) (c .before .loop .
 
 pub covered-links-spec : {M : Type 1} → statement M
 covered-links-spec =
-    tie.close
-    (tie.spec
-    Inv-loop
-    μ-loop
-    cast-n
-    loop-holds
-    closes-cycle-requires
-    climb-requires
-    add-k
-    loop-less
-    loop-again
-    returns)
+    tie.close (tie.spec Inv-loop μ-loop (λ c. omega arith) loop-holds
+    (λ c κs. let h = c .before .before .before .pre in (h .0, (h .1 .0, omega (arith, h .0 .few-links)))) climb-requires (λ c. omega arith)
+    (λ c. omega arith) loop-again returns)

@@ -1,6 +1,6 @@
 -- `graph::far` meets its contract. Assumes nothing.
 use borrow.Author.Tests.{eq-eqb, ne-eqb}
-use Rattle.graph.specs.Steps.{farEnd}
+use Rattle.graph.specs.Inner.{farEnd}
 use Rattle.graph.proofs.far.Statement.{statement}
 use Rattle.graph.proofs.far.Tie as tie
 

@@ -1,5 +1,5 @@
 -- `graph::in_use` meets its contract. Assumes nothing.
-use Rattle.graph.specs.Steps.{inUse}
+use Rattle.graph.specs.Inner.{inUse}
 use Rattle.graph.proofs.in_use.Statement.{statement}
 use Rattle.graph.proofs.in_use.Tie as tie
 

@@ -7,25 +7,13 @@ use Rattle.graph.proofs.Uses.{ends-in, bridge-dead, bridge-seen}
 use Rattle.graph.proofs.is_bridge.Statement.{statement}
 use Rattle.graph.proofs.is_bridge.Tie as tie
 
-is-live-requires : tie.Need-is-live-requires
-is-live-requires c κs = search needs
-
 returns : tie.Need-returns
 returns c = sym (bridge-dead _ _ (sym (c .before .is-live .ensures) ∙ not-true _ (c .if1 .taken)))
-
-mul-k : tie.Need-mul-k
-mul-k c = search needs
-
-element-copy-out-k : tie.Need-element-copy-out-k
-element-copy-out-k c = search needs
 
 visit-requires : tie.Need-visit-requires
 visit-requires c κs =
     let s = c .before .before .before in
     (s .pre .0, ends-in _ _ (s .pre .0) (sym (c .before .before .is-live .ensures) ∙ not-false _ (c .before .if1 .left)) .0)
-
-cast-j : tie.Need-cast-j
-cast-j c = search needs
 
 element-copy-out-result : tie.Need-element-copy-out-result
 element-copy-out-result c =
@@ -39,13 +27,5 @@ returns-2 c =
 
 pub is-bridge-spec : {M : Type 1} → statement M
 is-bridge-spec =
-    tie.close
-    (tie.spec
-    is-live-requires
-    returns
-    mul-k
-    element-copy-out-k
-    visit-requires
-    cast-j
-    element-copy-out-result
-    returns-2)
+    tie.close (tie.spec (λ c κs. search needs) returns (λ c. search needs) (λ c. search needs) visit-requires (λ c. search needs)
+    element-copy-out-result returns-2)

@@ -18,26 +18,11 @@ Inv-loop v e i₀ i = (i ≤ e) × ((x : ℕ) → x < i → getD (v .seen) x fal
 abbrev μ-loop : tie.MeasureT-loop
 μ-loop v e i₀ i = e - i
 
-visit-start-requires : tie.Need-visit-start-requires Inv-loop μ-loop
-visit-start-requires c κs = search needs
-
-cast-e : tie.Need-cast-e Inv-loop μ-loop
-cast-e c = search needs
-
 loop-holds : tie.Need-loop-holds Inv-loop μ-loop
 loop-holds c = (omega arith, λ x h. absurd (omega arith))
 
-element-copy-out-if1 : tie.Need-element-copy-out-if1 Inv-loop μ-loop
-element-copy-out-if1 c = omega (arith, c .before .before .before .before .pre .few-switches)
-
 returns : tie.Need-returns Inv-loop μ-loop
 returns c = connected-not _ _ (c .before .before .before .before .before .visit-start .ensures) _ (c .before .before .loop-test .taken) (not-true _ (c .if1 .taken))
-
-add-i : tie.Need-add-i Inv-loop μ-loop
-add-i c = search needs
-
-loop-less : tie.Need-loop-less Inv-loop μ-loop
-loop-less c = search needs
 
 loop-again : tie.Need-loop-again Inv-loop μ-loop
 loop-again c = (omega arith, upto (c .before .before .before .loop .inv .1) (not-false _ (c .if1 .left)))
@@ -48,16 +33,5 @@ returns-2 c =
 
 pub is-connected-spec : {M : Type 1} → statement M
 is-connected-spec =
-    tie.close
-    (tie.spec
-    Inv-loop
-    μ-loop
-    visit-start-requires
-    cast-e
-    loop-holds
-    element-copy-out-if1
-    returns
-    add-i
-    loop-less
-    loop-again
-    returns-2)
+    tie.close (tie.spec Inv-loop μ-loop (λ c κs. search needs) (λ c. search needs) loop-holds
+    (λ c. omega (arith, c .before .before .before .before .pre .few-switches)) returns (λ c. search needs) (λ c. search needs) loop-again returns-2)

@@ -5,12 +5,9 @@ use Rattle.plant.specs.Links.{live}
 use Rattle.graph.proofs.is_live.Statement.{statement}
 use Rattle.graph.proofs.is_live.Tie as tie
 
-cast-e : tie.Need-cast-e
-cast-e c = search needs
-
 returns : tie.Need-returns
 unfolding live
 returns c = refl
 
 pub is-live-spec : {M : Type 1} → statement M
-is-live-spec = tie.close (tie.spec cast-e returns)
+is-live-spec = tie.close (tie.spec (λ c. search needs) returns)

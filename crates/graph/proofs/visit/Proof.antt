@@ -4,16 +4,12 @@ use Rattle.graph.proofs.Whole.{begin-at, end-shows}
 use Rattle.graph.proofs.visit.Statement.{statement}
 use Rattle.graph.proofs.visit.Tie as tie
 
-begin-requires : tie.Need-begin-requires
-begin-requires c κs = omega (arith, c .pre .0 .few-switches)
-
-visit-from-requires : tie.Need-visit-from-requires
-visit-from-requires c κs = (c .before .pre .0, rw (c .begin .ensures) (begin-at _ _ (c .before .pre .0) (c .before .pre .1)))
-
 returns : tie.Need-returns
 returns c =
     let s = c .before .before in
     end-shows (s .args .p) (s .args .skip) (s .args .from) (s .pre .0) (s .pre .1) _ (rw (c .before .begin .ensures) at (c .visit-from .ensures))
 
 pub visit-spec : {M : Type 1} → statement M
-visit-spec = tie.close (tie.spec begin-requires visit-from-requires returns)
+visit-spec =
+    tie.close (tie.spec (λ c κs. omega (arith, c .pre .0 .few-switches))
+    (λ c κs. (c .before .pre .0, rw (c .begin .ensures) (begin-at _ _ (c .before .pre .0) (c .before .pre .1)))) returns)

@@ -10,9 +10,6 @@ use Rattle.order.proofs.Rings.{links-in, place-in}
 use Rattle.order.proofs.order_of.Statement.{statement}
 use Rattle.order.proofs.order_of.Tie as tie
 
-place-of-requires : tie.Need-place-of-requires
-place-of-requires c κs = search needs
-
 order-from-requires : tie.Need-order-from-requires
 order-from-requires c κs =
     let s = c .before .before in (
@@ -27,4 +24,4 @@ returns c =
     c .order-from .ensures ∙ ap (λ k. listed (order (readFrom k (s .trail .now)))) (c .before .place-of .ensures)
 
 pub order-of-spec : {M : Type 1} → statement M
-order-of-spec = tie.close (tie.spec place-of-requires order-from-requires returns)
+order-of-spec = tie.close (tie.spec (λ c κs. search needs) order-from-requires returns)

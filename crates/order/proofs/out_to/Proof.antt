@@ -19,20 +19,11 @@ abbrev μ-loop : tie.MeasureT-loop
 loop-holds : tie.Need-loop-holds Inv-loop μ-loop
 loop-holds c = (omega arith, omega arith)
 
-ring-label-requires : tie.Need-ring-label-requires Inv-loop μ-loop
-ring-label-requires c κs = search needs
-
-add-i : tie.Need-add-i Inv-loop μ-loop
-add-i c = search needs
-
 returns : tie.Need-returns Inv-loop μ-loop
 returns c =
     let k = c .before .before .before in
     let s = k .before .before in
     crossed-here _ _ (s .pre) _ _ _ (c .before .before .loop-test .taken) (c .before .ring-label .ensures) (c .if1 .taken) ∙ k .loop .inv .1
-
-loop-less : tie.Need-loop-less Inv-loop μ-loop
-loop-less c = search needs
 
 loop-again : tie.Need-loop-again Inv-loop μ-loop
 loop-again c =
@@ -45,14 +36,4 @@ returns-2 c = crossed-nowhere _ _ (c .before .before .before .pre) _ _ (c .loop-
 
 pub out-to-spec : {M : Type 1} → statement M
 out-to-spec =
-    tie.close
-    (tie.spec
-    Inv-loop
-    μ-loop
-    loop-holds
-    ring-label-requires
-    add-i
-    returns
-    loop-less
-    loop-again
-    returns-2)
+    tie.close (tie.spec Inv-loop μ-loop loop-holds (λ c κs. search needs) (λ c. search needs) returns (λ c. search needs) loop-again returns-2)

@@ -21,18 +21,6 @@ abbrev μ-loop : tie.MeasureT-loop
 loop-holds : tie.Need-loop-holds Inv-loop μ-loop
 loop-holds c = (omega arith, λ j h e. omega arith)
 
-mul-a : tie.Need-mul-a Inv-loop μ-loop
-mul-a c = search needs
-
-shared-slice-read-a : tie.Need-shared-slice-read-a Inv-loop μ-loop
-shared-slice-read-a c = search needs
-
-cast-a : tie.Need-cast-a Inv-loop μ-loop
-cast-a c = omega (arith, c .shared-slice-known2 .given (c .before .before .loop .i))
-
-mul-l : tie.Need-mul-l Inv-loop μ-loop
-mul-l c = omega (arith, c .shared-slice-known2 .given (c .before .before .loop .i))
-
 element-copy-out-l : tie.Need-element-copy-out-l Inv-loop μ-loop
 element-copy-out-l c =
     let k = c .before .before in
@@ -42,9 +30,6 @@ element-copy-out-l c =
       s .pre .0 .few-links,
       live-below (s .args .t1) _ (s .pre .1 _ (getD-in (s .args .trail .now) (k .loop .i) (c .before .loop-test .taken))),
     )
-
-tail-of-requires : tie.Need-tail-of-requires Inv-loop μ-loop
-tail-of-requires c κs = search needs
 
 returns : tie.Need-returns Inv-loop μ-loop
 unfolding tail
@@ -58,12 +43,6 @@ returns c =
       before = k .loop .inv .1;
     }))
 
-add-i : tie.Need-add-i Inv-loop μ-loop
-add-i c = search needs
-
-loop-less : tie.Need-loop-less Inv-loop μ-loop
-loop-less c = search needs
-
 loop-again : tie.Need-loop-again Inv-loop μ-loop
 unfolding tail
 loop-again c = (search needs, below-more _ _ (c .before .before .before .before .before .loop .inv .1) (λ e. c .if1 .left (c .before .tail-of .ensures ∙ e)))
@@ -76,19 +55,7 @@ returns-2 c =
 
 pub place-of-spec : {M : Type 1} → statement M
 place-of-spec =
-    tie.close
-    (tie.spec
-    Inv-loop
-    μ-loop
-    loop-holds
-    mul-a
-    shared-slice-read-a
-    cast-a
-    mul-l
-    element-copy-out-l
-    tail-of-requires
-    returns
-    add-i
-    loop-less
-    loop-again
-    returns-2)
+    tie.close (tie.spec Inv-loop μ-loop loop-holds (λ c. search needs) (λ c. search needs)
+    (λ c. omega (arith, c .shared-slice-known2 .given (c .before .before .loop .i)))
+    (λ c. omega (arith, c .shared-slice-known2 .given (c .before .before .loop .i))) element-copy-out-l (λ c κs. search needs) returns
+    (λ c. search needs) (λ c. search needs) loop-again returns-2)

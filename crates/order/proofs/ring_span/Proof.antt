@@ -5,16 +5,9 @@ use Rattle.order.proofs.Rings.{place-in}
 use Rattle.order.proofs.ring_span.Statement.{statement}
 use Rattle.order.proofs.ring_span.Tie as tie
 
-place-of-requires : tie.Need-place-of-requires
-place-of-requires c κs = search needs
-
-sub-rest : tie.Need-sub-rest
-sub-rest c =
-    place-in _ _ _ _ (c .place-of .ensures)
-
 returns : tie.Need-returns
 unfolding ringSpan
 returns c = rw (c .place-of .ensures)
 
 pub ring-span-spec : {M : Type 1} → statement M
-ring-span-spec = tie.close (tie.spec place-of-requires sub-rest returns)
+ring-span-spec = tie.close (tie.spec (λ c κs. search needs) (λ c. place-in _ _ _ _ (c .place-of .ensures)) returns)

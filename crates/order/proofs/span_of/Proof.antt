@@ -5,9 +5,6 @@ use Rattle.order.proofs.Spans.{span-short, span-long}
 use Rattle.order.proofs.span_of.Statement.{statement}
 use Rattle.order.proofs.span_of.Tie as tie
 
-place-of-requires : tie.Need-place-of-requires
-place-of-requires c κs = search needs
-
 order-from-requires : tie.Need-order-from-requires
 order-from-requires c κs =
     let s = c .before .before in (
@@ -15,35 +12,12 @@ order-from-requires c κs =
       links-in (s .args .p) (s .args .trail .now) (s .pre .0) (s .pre .1 .0),
     )
 
-sub-j : tie.Need-sub-j
-sub-j c = search needs
-
-cast-j : tie.Need-cast-j
-cast-j c = search needs
-
-mul-l : tie.Need-mul-l
-mul-l c = search needs
-
-element-copy-out-l : tie.Need-element-copy-out-l
-element-copy-out-l c = search needs
-
-out-to-requires : tie.Need-out-to-requires
-out-to-requires c κs =
-    place-in _ _ _ _ (c .before .before .place-of .ensures)
-
-sub-rest : tie.Need-sub-rest
-sub-rest c =
-    place-in _ _ _ _ (c .before .before .before .place-of .ensures)
-
 returns : tie.Need-returns
 returns c =
     let o = c .before .before .before in
     let at = o .before in
     let s = at .before .before .args in
     span-short (s .p) (s .trail .now) (s .s) (s .m) (at .place-of .result) _ _ (at .place-of .ensures) (o .order-from .ensures) (c .before .out-to .ensures) (c .if1 .taken)
-
-sub-t13 : tie.Need-sub-t13
-sub-t13 c = search needs
 
 returns-2 : tie.Need-returns-2
 returns-2 c =
@@ -54,16 +28,6 @@ returns-2 c =
 
 pub span-of-spec : {M : Type 1} → statement M
 span-of-spec =
-    tie.close
-    (tie.spec
-    place-of-requires
-    order-from-requires
-    sub-j
-    cast-j
-    mul-l
-    element-copy-out-l
-    out-to-requires
-    sub-rest
-    returns
-    sub-t13
-    returns-2)
+    tie.close (tie.spec (λ c κs. search needs) order-from-requires (λ c. search needs) (λ c. search needs) (λ c. search needs) (λ c. search needs)
+    (λ c κs. place-in _ _ _ _ (c .before .before .place-of .ensures)) (λ c. place-in _ _ _ _ (c .before .before .before .place-of .ensures)) returns
+    (λ c. search needs) returns-2)

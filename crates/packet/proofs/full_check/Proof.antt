@@ -10,24 +10,6 @@ use Rattle.packet.proofs.Probes.{rest-length, injected-hops, after-hops
 use Rattle.packet.proofs.full_check.Statement.{statement}
 use Rattle.packet.proofs.full_check.Tie as tie
 
-place-of-requires : tie.Need-place-of-requires
-place-of-requires c κs = search needs
-
-injected-requires : tie.Need-injected-requires
-injected-requires c κs = search needs
-
-mul-run-on : tie.Need-mul-run-on
-mul-run-on c = omega (arith, place-in _ _ _ _ (c .before .place-of .ensures))
-
-sub-run-on : tie.Need-sub-run-on
-sub-run-on c = place-in _ _ _ _ (c .before .place-of .ensures)
-
-part-run-on-start : tie.Need-part-run-on-start
-part-run-on-start c = place-in _ _ _ _ (c .before .place-of .ensures)
-
-part-run-on-end : tie.Need-part-run-on-end
-part-run-on-end c = search needs
-
 run-on-requires : tie.Need-run-on-requires
 run-on-requires c κs =
     let at = c .before .before in
@@ -66,15 +48,6 @@ returns c =
 
 pub full-check-spec : {M : Type 1} → statement M
 full-check-spec =
-    tie.close
-    (tie.spec
-    place-of-requires
-    injected-requires
-    mul-run-on
-    sub-run-on
-    part-run-on-start
-    part-run-on-end
-    run-on-requires
-    slice-aggregate-run-on
-    run-on-requires-2
-    returns)
+    tie.close (tie.spec (λ c κs. search needs) (λ c κs. search needs) (λ c. omega (arith, place-in _ _ _ _ (c .before .place-of .ensures)))
+    (λ c. place-in _ _ _ _ (c .before .place-of .ensures)) (λ c. place-in _ _ _ _ (c .before .place-of .ensures)) (λ c. search needs)
+    run-on-requires slice-aggregate-run-on run-on-requires-2 returns)

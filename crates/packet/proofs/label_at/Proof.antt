@@ -9,32 +9,11 @@ use Rattle.packet.proofs.Ways.{label-out, label-even, label-odd}
 use Rattle.packet.proofs.label_at.Statement.{statement}
 use Rattle.packet.proofs.label_at.Tie as tie
 
-mul-result : tie.Need-mul-result
-mul-result c = search needs
-
-shared-slice-read-result : tie.Need-shared-slice-read-result
-shared-slice-read-result c = search needs
-
 returns : tie.Need-returns
 returns c = let s = c .before .before .args in label-out (s .backward) (s .labels .now) (s .i) (not-true (s .backward) (c .before .if1 .taken))
 
-sub-a : tie.Need-sub-a
-sub-a c = search needs
-
-sub-a-2 : tie.Need-sub-a-2
-sub-a-2 c = search needs
-
-mul-a : tie.Need-mul-a
-mul-a c = search needs
-
-shared-slice-read-a : tie.Need-shared-slice-read-a
-shared-slice-read-a c = search needs
-
 add-result : tie.Need-add-result
 add-result c = let s = c .before .before .before .args in omega (arith, c .before .shared-slice-known2 .given (length (s .labels .now) - 1 - s .i))
-
-sub-result : tie.Need-sub-result
-sub-result c = search needs
 
 returns-2 : tie.Need-returns-2
 returns-2 c =
@@ -48,16 +27,5 @@ returns-3 c =
 
 pub label-at-spec : {M : Type 1} → statement M
 label-at-spec =
-    tie.close
-    (tie.spec
-    mul-result
-    shared-slice-read-result
-    returns
-    sub-a
-    sub-a-2
-    mul-a
-    shared-slice-read-a
-    add-result
-    sub-result
-    returns-2
-    returns-3)
+    tie.close (tie.spec (λ c. search needs) (λ c. search needs) returns (λ c. search needs) (λ c. search needs) (λ c. search needs)
+    (λ c. search needs) add-result (λ c. search needs) returns-2 returns-3)

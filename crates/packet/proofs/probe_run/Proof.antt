@@ -10,9 +10,6 @@ use Rattle.packet.proofs.Probes.{full-is, back-is}
 use Rattle.packet.proofs.probe_run.Statement.{statement}
 use Rattle.packet.proofs.probe_run.Tie as tie
 
-full-check-requires : tie.Need-full-check-requires
-full-check-requires c κs = search needs
-
 returns : tie.Need-returns
 returns c =
     let s = c .before .before .before .before .before .args in
@@ -22,15 +19,6 @@ span-of-requires : tie.Need-span-of-requires
 span-of-requires c κs =
     let s = c .before .before .before .before in
     (s .pre .0 .sound, (s .pre .0 .trail, (s .pre .1 .0, omega (arith, c .if1 .left))))
-
-all-rules-requires : tie.Need-all-rules-requires
-all-rules-requires c κs = search needs
-
-stretch-requires : tie.Need-stretch-requires
-stretch-requires c κs = search needs
-
-front-requires : tie.Need-front-requires
-front-requires c κs = search needs
 
 there-and-back-requires : tie.Need-there-and-back-requires
 there-and-back-requires c κs =
@@ -56,13 +44,5 @@ returns-2 c =
 
 pub probe-run-spec : {M : Type 1} → statement M
 probe-run-spec =
-    tie.close
-    (tie.spec
-    full-check-requires
-    returns
-    span-of-requires
-    all-rules-requires
-    stretch-requires
-    front-requires
-    there-and-back-requires
-    returns-2)
+    tie.close (tie.spec (λ c κs. search needs) returns span-of-requires (λ c κs. search needs) (λ c κs. search needs) (λ c κs. search needs)
+    there-and-back-requires returns-2)

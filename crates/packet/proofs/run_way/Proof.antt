@@ -6,7 +6,8 @@ use borrow.Author.Needs.{needs}
 use borrow.Author.Tests.{not-true, not-false}
 use lib.ListN.{length, drop}
 use Rattle.walks.specs.Arcs.{head}
-use Rattle.packet.specs.Runs.{endOf, way}
+use Rattle.packet.specs.Runs.{endOf, goesOn}
+use Rattle.packet.specs.Asked.{way}
 use Rattle.packet.proofs.Hops.{runs, passes-past, passes-is, runs-lost, runs-hop, runs-all, on-lost, on-ended}
 use Rattle.packet.proofs.run_way.Statement.{statement}
 use Rattle.packet.proofs.run_way.Tie as tie
@@ -21,20 +22,15 @@ abbrev μ-loop : tie.MeasureT-loop
 returns : tie.Need-returns Inv-loop μ-loop
 returns c = on-lost _ _ _ (endOf (c .before .before .before .before .args .e)) _ (not-true _ (c .if1 .taken))
 
-cast-n : tie.Need-cast-n Inv-loop μ-loop
-cast-n c = search needs
-
-mul-n : tie.Need-mul-n Inv-loop μ-loop
-mul-n c = search needs
-
 loop-holds : tie.Need-loop-holds Inv-loop μ-loop
 loop-holds c = (omega arith, (omega arith, refl))
 
-label-at-requires : tie.Need-label-at-requires Inv-loop μ-loop
-label-at-requires c κs = search needs
-
-cast-a : tie.Need-cast-a Inv-loop μ-loop
-cast-a c = search needs
+-- what is left of the run comes out as the run over all labels
+rest : (c : tie.At-loop Inv-loop μ-loop)
+    → let s = c .before .before .before .before .before .args in
+    runs (s .t1) (s .t2) (s .states .now) (c .loop .at) (c .loop .hops) (drop (c .loop .i) (way (s .backward) (s .labels .now)))
+    ≡ goesOn (s .t1) (s .t2) (s .states .now) (endOf (s .e)) (way (s .backward) (s .labels .now))
+rest c = c .loop .inv .1 .1 ∙ on-ended _ _ _ (endOf (c .before .before .before .before .before .args .e)) _ (not-false _ (c .before .if1 .left))
 
 returns-2 : tie.Need-returns-2 Inv-loop μ-loop
 returns-2 c =
@@ -42,22 +38,7 @@ returns-2 c =
     let s = k .before .before .before .before .before in
     runs-lost _ _ _ (s .args .backward) (s .args .labels .now) _ _ (k .loop .i) _ (c .before .before .loop-test .taken) (c .before .label-at .ensures)
     (passes-past _ _ _ (s .pre .0 .arcs) _ _ (c .if2 .taken))
-    ∙ k .loop .inv .1 .1 ∙ on-ended _ _ _ (endOf (s .args .e)) _ (not-false _ (k .before .if1 .left))
-
-mul-l : tie.Need-mul-l Inv-loop μ-loop
-mul-l c = search needs
-
-element-copy-out-l : tie.Need-element-copy-out-l Inv-loop μ-loop
-element-copy-out-l c = search needs
-
-array-read-crosses : tie.Need-array-read-crosses Inv-loop μ-loop
-array-read-crosses c = search needs
-
-shared-slice-read-crosses : tie.Need-shared-slice-read-crosses Inv-loop μ-loop
-shared-slice-read-crosses c = search needs
-
-crosses-requires : tie.Need-crosses-requires Inv-loop μ-loop
-crosses-requires c κs = search needs
+    ∙ rest k
 
 returns-3 : tie.Need-returns-3 Inv-loop μ-loop
 returns-3 c =
@@ -66,19 +47,7 @@ returns-3 c =
     let s = k .before .before .before .before .before in
     runs-lost _ _ _ (s .args .backward) (s .args .labels .now) _ _ (k .loop .i) _ (a .before .loop-test .taken) (a .label-at .ensures)
     (sym (passes-is _ _ _ _ _ _ (c .before .crosses .ensures)) ∙ not-true _ (c .if3 .taken))
-    ∙ k .loop .inv .1 .1 ∙ on-ended _ _ _ (endOf (s .args .e)) _ (not-false _ (k .before .if1 .left))
-
-head-of-requires : tie.Need-head-of-requires Inv-loop μ-loop
-head-of-requires c κs = search needs
-
-add-hops : tie.Need-add-hops Inv-loop μ-loop
-add-hops c = search needs
-
-add-i : tie.Need-add-i Inv-loop μ-loop
-add-i c = search needs
-
-loop-less : tie.Need-loop-less Inv-loop μ-loop
-loop-less c = search needs
+    ∙ rest k
 
 loop-again : tie.Need-loop-again Inv-loop μ-loop
 unfolding head
@@ -97,33 +66,11 @@ loop-again c =
 
 returns-4 : tie.Need-returns-4 Inv-loop μ-loop
 returns-4 c =
-    let k = c .before in
-    let s = k .before .before .before .before .before in
-    runs-all _ _ _ (s .args .backward) (s .args .labels .now) _ _ (k .loop .i) (c .loop-test .left) ∙ k .loop .inv .1 .1
-    ∙ on-ended _ _ _ (endOf (s .args .e)) _ (not-false _ (k .before .if1 .left))
+    let s = c .before .before .before .before .before .before .args in
+    runs-all _ _ _ (s .backward) (s .labels .now) _ _ (c .before .loop .i) (c .loop-test .left) ∙ rest (c .before)
 
 pub run-way-spec : {M : Type 1} → statement M
 run-way-spec =
-    tie.close
-    (tie.spec
-    Inv-loop
-    μ-loop
-    returns
-    cast-n
-    mul-n
-    loop-holds
-    label-at-requires
-    cast-a
-    returns-2
-    mul-l
-    element-copy-out-l
-    array-read-crosses
-    shared-slice-read-crosses
-    crosses-requires
-    returns-3
-    head-of-requires
-    add-hops
-    add-i
-    loop-less
-    loop-again
-    returns-4)
+    tie.close (tie.spec Inv-loop μ-loop returns (λ c. search needs) (λ c. search needs) loop-holds (λ c κs. search needs) (λ c. search needs)
+    returns-2 (λ c. search needs) (λ c. search needs) (λ c. search needs) (λ c. search needs) (λ c κs. search needs) returns-3
+    (λ c κs. search needs) (λ c. search needs) (λ c. search needs) (λ c. search needs) loop-again returns-4)

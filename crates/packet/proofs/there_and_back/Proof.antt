@@ -7,12 +7,6 @@ use Rattle.packet.proofs.Probes.{injected-hops, after-hops, on-four}
 use Rattle.packet.proofs.there_and_back.Statement.{statement}
 use Rattle.packet.proofs.there_and_back.Tie as tie
 
-injected-requires : tie.Need-injected-requires
-injected-requires c κs = search needs
-
-run-on-requires : tie.Need-run-on-requires
-run-on-requires c κs = (c .before .before .before .before .pre .0, omega (arith, injected-hops _ _ (c .injected .ensures)))
-
 run-on-requires-2 : tie.Need-run-on-requires-2
 run-on-requires-2 c κs = (
   c .before .before .before .before .before .pre .0,
@@ -54,11 +48,6 @@ returns c =
 
 pub there-and-back-spec : {M : Type 1} → statement M
 there-and-back-spec =
-    tie.close
-    (tie.spec
-    injected-requires
-    run-on-requires
-    run-on-requires-2
-    run-back-requires
-    run-back-requires-2
-    returns)
+    tie.close (tie.spec (λ c κs. search needs)
+    (λ c κs. (c .before .before .before .before .pre .0, omega (arith, injected-hops _ _ (c .injected .ensures)))) run-on-requires-2
+    run-back-requires run-back-requires-2 returns)

@@ -4,12 +4,9 @@ use Rattle.plant.specs.Links.{plantWith}
 use Rattle.plant.proofs.Plant.with.Statement.{statement}
 use Rattle.plant.proofs.Plant.with.Tie as tie
 
-zero-requires : tie.Need-zero-requires
-zero-requires c κs = search needs
-
 returns : tie.Need-returns
 unfolding plantWith
 returns c = simp (c .zero .ensures)
 
 pub with-spec : {M : Type 1} → statement M
-with-spec = tie.close (tie.spec zero-requires returns)
+with-spec = tie.close (tie.spec (λ c κs. search needs) returns)

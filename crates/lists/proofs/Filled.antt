@@ -1,19 +1,15 @@
--- An array of flags that is filled place by place, and how many of its flags are set. Assumes nothing.
-use mathlib.Core.Path.{_≡_, refl, sym, ap, _∙_, subst}
+-- An array of flags that is filled place by place by a test. Assumes nothing.
+use mathlib.Core.Path.{_≡_, refl, sym, _∙_, subst}
 use mathlib.Core.Logic.{_⊎_, inl, inr}
 use mathlib.Core.Bool.{Bool, false}
 use mathlib.Core.List.{List}
-use Prim.Native.Nat.{ℕ, _+_, _-_, _*_, _≤_, _<_}
+use Prim.Native.Nat.{ℕ, _+_, _*_, _≤_, _<_}
 use native.Mathlib.Omega.{arith}
-use lib.Dec.{T, ltb, ltb→lt, nltb→le, not-T}
 use lib.ListN.{length, getD, set, replicate, length-set, length-replicate}
 use lib.Seq.{getD-set-same, getD-set-other}
-use Rattle.lists.proofs.Tests.{T-or}
-use Rattle.lists.specs.Count.{count}
-use Rattle.graph.specs.Flags.{Flags, countSet}
-use Rattle.lists.proofs.Stepwise.{upto, count-past}
+use Rattle.lists.proofs.Tests.{below?}
+use Rattle.lists.proofs.Stepwise.{upto}
 use Rattle.lists.proofs.Members.{getD-same}
-use Rattle.lists.proofs.Agree.{count-same}
 
 -- the flags below i tell where the test passes, and those from i on are not set
 pub record Filled (n : ℕ) (test : ℕ → Bool) (i : ℕ) (flags : List Bool) : Type 0 where
@@ -44,12 +40,12 @@ module _ (n : ℕ) (test : ℕ → Bool) where
     filled-pass e = filled-next flags (f .places) (λ j q. refl) (f .clear i (omega arith) ∙ sym e)
 
     -- the test fails from i on
-    pub filled-all : ((j : ℕ) → i ≤ j → test j ≡ false) → Flags n test flags
-    filled-all g = record { places = f .places; tells = λ j. at j (T-or (ltb j i)) }
+    pub filled-all : ((j : ℕ) → i ≤ j → test j ≡ false) → (j : ℕ) → getD flags j false ≡ test j
+    filled-all g j = go (below? j i)
       where
-        at : (j : ℕ) → T (ltb j i) ⊎ (T (ltb j i) → ⊥) → getD flags j false ≡ test j
-        at j (inl t) = f .tells j (ltb→lt j i t)
-        at j (inr t) = let h : i ≤ j = nltb→le j i (not-T (ltb j i) t) in f .clear j h ∙ sym (g j h)
+        go : (j < i) ⊎ (i ≤ j) → getD flags j false ≡ test j
+        go (inl h) = f .tells j h
+        go (inr h) = f .clear j h ∙ sym (g j h)
 
   -- ---- two places a turn
   module _ (l : ℕ) (flags : List Bool) (f : Filled n test (2 * l) flags) where
@@ -63,10 +59,3 @@ module _ (n : ℕ) (test : ℕ → Bool) where
 
     pub filled-pass-two : test (2 * l) ≡ false → test (2 * l + 1) ≡ false → Filled n test (2 * (l + 1)) flags
     filled-pass-two d e = subst (λ (i : ℕ). Filled n test i flags) next (filled-pass (2 * l + 1) flags (filled-pass (2 * l) flags f d) e)
-
-  -- where the test fails from k on, as many flags are set as numbers below k pass
-  pub flags-count : (k : ℕ) (flags : List Bool) → Flags n test flags → k ≤ n → ((j : ℕ) → k ≤ j → test j ≡ false) → countSet flags ≡ count k test
-  unfolding countSet
-  flags-count k flags f h g =
-      let e : n ≡ k + (n - k) = omega arith in
-      ap (λ (m : ℕ). count m (λ i. getD flags i false)) (f .places ∙ e) ∙ count-same (k + (n - k)) (λ i. getD flags i false) test (f .tells) ∙ count-past test k (n - k) g
