@@ -1,13 +1,12 @@
 -- Demand 1 holds: it follows for every call from one law on conditions and a result; and what a call leaves in a lent buffer goes by its answer. Assumes nothing.
-use mathlib.Core.Path.{_≡_, _∙_}
+use mathlib.Core.Path.{_≡_}
 use mathlib.Core.List.{List}
 use Prim.Native.Nat.{ℕ}
 use Rattle.plant.specs.declared.Plant.{Plant}
-use Rattle.answers.specs.Answers.{Answer, given, refused}
+use Rattle.answers.specs.Answers.{refused}
 use Rattle.answers.specs.Checks.{Checked, answer, leaves, AnswersInto}
-use Rattle.answers.proofs.Checks.{given-refused, refused-exactly, answers, left-kept}
+use Rattle.answers.proofs.Checks.{answers, left-kept}
 use Rattle.listing.specs.Conditions.{writing}
-use Rattle.listing.specs.Writing.{bufferAfter}
 use Rattle.listing.proofs.Shim.{buffer-refused}
 use Rattle.planner.specs.Calls.{rewriting, rewritten, rereading, trailing, laidOut}
 use Rattle.demands.specs.Demands.{Demand1}

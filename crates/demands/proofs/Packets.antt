@@ -1,13 +1,12 @@
 -- What demand 2 says of packets, rules and injection. Assumes a sound connected plant where it speaks of its trail.
-use mathlib.Core.Path.{_≡_, refl, sym, ap, _∙_, subst}
+use mathlib.Core.Path.{_≡_, refl}
 use mathlib.Core.Logic.{_↔_}
-use mathlib.Core.Bool.{Bool, true, false, _&&_}
-use mathlib.Core.List.{List, [], _∷_, _++_}
-use Prim.Native.Nat.{ℕ, suc, _+_, _*_, _/_, _≤_, _<_}
+use mathlib.Core.Bool.{Bool, true, false}
+use mathlib.Core.List.{List, [], _++_}
+use Prim.Native.Nat.{ℕ, _<_}
 use native.Mathlib.Omega.{arith}
 use borrow.Author.Tests.{eqb-true, eq-eqb, ne-eqb}
 use lib.Dec.{T, eqb}
-use lib.ListN.{length}
 use Rattle.lists.proofs.Tests.{and-comm, and-true, true-T, T-true}
 use Rattle.plant.specs.declared.Plant.{Plant}
 use Rattle.limits.specs.Sound.{Sound}
@@ -20,7 +19,7 @@ use Rattle.rings.specs.Rules.{inTable, inAll}
 use Rattle.rings.specs.Ring.{readFrom, ring}
 use Rattle.rings.specs.Order.{nth, order}
 use Rattle.rings.specs.Probe.{upTo, back, outward, probe}
-use Rattle.rings.specs.Injection.{placeOf, ringOf, orderOf, probeRules, probeOf, probeRun}
+use Rattle.rings.specs.Injection.{ringOf, orderOf, probeRules, probeOf, probeRun}
 use Rattle.rings.proofs.Ring as rings
 use Rattle.rings.proofs.Probe as probes
 use Rattle.rings.proofs.Rules.{all-rules}

@@ -1,12 +1,12 @@
 -- Read and written again, written and read again: what the two calls answer together. Assumes nothing.
-use mathlib.Core.Path.{_≡_, refl, sym, ap, _∙_}
+use mathlib.Core.Path.{_≡_, sym, ap, _∙_}
 use mathlib.Core.List.{List, [], _∷_, _++_}
 use Prim.Native.Nat.{ℕ, _≤_}
 use native.Mathlib.Omega.{arith}
 use lib.Dec.{ltb}
 use lib.ListN.{length, take, drop}
 use Rattle.plant.specs.declared.Plant.{Plant}
-use Rattle.answers.specs.Answers.{Answer, given, refused}
+use Rattle.answers.specs.Answers.{given, refused}
 use Rattle.answers.specs.Checks.{check, answer, leaves}
 use Rattle.answers.proofs.Checks.{goes-on, stops, gives-so, refuses-so}
 use Rattle.answers.proofs.Beside.{beside-as}

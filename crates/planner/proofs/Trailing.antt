@@ -1,6 +1,6 @@
 -- The trail of a listing in a lent buffer, and the flags of its bridges. Assumes nothing.
-use mathlib.Core.Path.{_≡_, refl, sym, ap, ap₂, _∙_}
-use mathlib.Core.Bool.{Bool, true, false}
+use mathlib.Core.Path.{_≡_, refl, sym, ap, ap₂}
+use mathlib.Core.Bool.{Bool, false}
 use mathlib.Core.List.{List}
 use Prim.Native.Nat.{ℕ, _≤_, _<_}
 use borrow.Author.Tests.{lt-ltb, le-ltb}
@@ -14,7 +14,6 @@ use Rattle.limits.specs.Limits.{maxLinks}
 use Rattle.walks.specs.Graph.{bridge}
 use Rattle.graph.specs.Flags.{Flags}
 use Rattle.routes.specs.Plants.{trailOf}
-use Rattle.trail.specs.Filled.{filledWith}
 use Rattle.planning.specs.Planning.{planning}
 use Rattle.planner.specs.Calls.{bridgeFlags, placesShort, laying, trailing, trailLeft, laidOut}
 

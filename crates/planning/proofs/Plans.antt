@@ -10,7 +10,7 @@ use Rattle.lists.proofs.Tests.{true-T}
 use Rattle.plant.specs.declared.Plant.{Plant}
 use Rattle.answers.specs.declared.Refusal.{Refusal}
 use Rattle.answers.specs.declared.Verdict.the-variants as verdict
-use Rattle.answers.specs.Answers.{Answer, given, refused, numberOf}
+use Rattle.answers.specs.Answers.{given, refused, numberOf}
 use Rattle.answers.specs.Checks.{check, answer}
 use Rattle.answers.proofs.Checks.{given-refused, given-given, refuse-given, goes-on, stops, came-from}
 use Rattle.answers.proofs.Beside.{accepted, was-refused, beside-as}

@@ -17,7 +17,7 @@ use Rattle.search.specs.declared.Asked.{Asked}
 use Rattle.search.specs.declared.Asked.the-variants as asked
 use Rattle.search.specs.declared.Progress.{Progress}
 use Rattle.search.specs.Calls.{Call, perform, begun}
-use Rattle.search.specs.Search.{sound, soundFor, ended, wanted, ask, askedOf}
+use Rattle.search.specs.Search.{sound, soundFor, wanted, ask, askedOf}
 use Rattle.search.specs.Sound.{Good}
 use Rattle.search.proofs.Sound.{sound-good, wanted-in}
 use Rattle.probing.specs.Calls.{performedIn}

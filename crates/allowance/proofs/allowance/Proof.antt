@@ -13,9 +13,6 @@ use Rattle.allowance.proofs.Entries.{entry}
 use Rattle.allowance.proofs.allowance.Statement.{statement}
 use Rattle.allowance.proofs.allowance.Tie as tie
 
-clip-requires : tie.Need-clip-requires
-clip-requires c κs = search needs
-
 array-read-result : tie.Need-array-read-result
 array-read-result c = omega (arith, c .clip .ensures, clipped-most (c .before .args .links))
 
@@ -26,4 +23,4 @@ returns c =
     ∙ ap allowance (zero-add (c .clip .result) ∙ c .clip .ensures)
 
 pub allowance-spec : {M : Type 1} → statement M
-allowance-spec = tie.close (tie.spec clip-requires array-read-result returns)
+allowance-spec = tie.close (tie.spec (λ c κs. search needs) array-read-result returns)

@@ -15,26 +15,8 @@ Inv-loop s t₀ i₀ t i = (i ≤ maxSwitches) × Holds (diagonal s i) t
 abbrev μ-loop : tie.MeasureT-loop
 μ-loop s t₀ i₀ t i = maxSwitches - i
 
-flat-requires : tie.Need-flat-requires Inv-loop μ-loop
-flat-requires c κs = search needs
-
 loop-holds : tie.Need-loop-holds Inv-loop μ-loop
 loop-holds c = (omega arith, subst (Holds (diagonal (c .before .args .s) 0)) (sym (c .flat .ensures)) (diagonal-none (c .before .args .s)))
-
-mul-t : tie.Need-mul-t Inv-loop μ-loop
-mul-t c = search needs
-
-index-1-t : tie.Need-index-1-t Inv-loop μ-loop
-index-1-t c = search needs
-
-index-2-t : tie.Need-index-2-t Inv-loop μ-loop
-index-2-t c = search needs
-
-add-i : tie.Need-add-i Inv-loop μ-loop
-add-i c = search needs
-
-loop-less : tie.Need-loop-less Inv-loop μ-loop
-loop-less c = search needs
 
 loop-again : tie.Need-loop-again Inv-loop μ-loop
 loop-again c = let k = c .before .loop in (omega arith, diagonal-put _ (k .i) (k .t) (c .loop-test .taken) (k .inv .1))
@@ -44,16 +26,5 @@ returns c = let k = c .before .loop in diagonal-all _ (k .i) (k .t) (omega arith
 
 pub apart-spec : {M : Type 1} → statement M
 apart-spec =
-    tie.close
-    (tie.spec
-    Inv-loop
-    μ-loop
-    flat-requires
-    loop-holds
-    mul-t
-    index-1-t
-    index-2-t
-    add-i
-    loop-less
-    loop-again
-    returns)
+    tie.close (tie.spec Inv-loop μ-loop (λ c κs. search needs) loop-holds (λ c. search needs) (λ c. search needs) (λ c. search needs)
+    (λ c. search needs) (λ c. search needs) loop-again returns)

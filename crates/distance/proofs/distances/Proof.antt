@@ -14,9 +14,6 @@ Inv-loop p used s t₀ k₀ t k = (k + 1 ≤ p .switches) × (t ≡ knownOf p us
 abbrev μ-loop : tie.MeasureT-loop
 μ-loop p used s t₀ k₀ t k = p .switches - k
 
-apart-requires : tie.Need-apart-requires Inv-loop μ-loop
-apart-requires c κs = search needs
-
 loop-holds : tie.Need-loop-holds Inv-loop μ-loop
 loop-holds c = let s = c .before in (omega (arith, s .pre .some-switch), c .apart .ensures ∙ known-none _ _ _ _ _ (s .pre .some-switch))
 
@@ -29,9 +26,6 @@ level-requires c κs = let s = c .before .before .before in (s .pre, (omega arit
 add-k : tie.Need-add-k Inv-loop μ-loop
 add-k c = omega (arith, c .before .before .before .before .pre .few-switches, c .before .before .loop .inv .0)
 
-loop-less : tie.Need-loop-less Inv-loop μ-loop
-loop-less c = search needs
-
 loop-again : tie.Need-loop-again Inv-loop μ-loop
 loop-again c = (omega arith, c .level .ensures)
 
@@ -40,15 +34,4 @@ returns c = let k = c .before .loop in k .inv .1 ∙ known-all _ _ _ _ _ (k .k) 
 
 pub distances-spec : {M : Type 1} → statement M
 distances-spec =
-    tie.close
-    (tie.spec
-    Inv-loop
-    μ-loop
-    apart-requires
-    loop-holds
-    sub-loop
-    level-requires
-    add-k
-    loop-less
-    loop-again
-    returns)
+    tie.close (tie.spec Inv-loop μ-loop (λ c κs. search needs) loop-holds sub-loop level-requires add-k (λ c. search needs) loop-again returns)

@@ -26,35 +26,8 @@ Inv-loop k p used s n u₀ a₀ u a = (a ≤ 2 * p .count) × Level (p .switches
 abbrev μ-loop : tie.MeasureT-loop
 μ-loop k p used s n u₀ a₀ u a = 2 * p .count - a
 
-cast-n : tie.Need-cast-n Inv-loop2 μ-loop2 Inv-loop μ-loop
-cast-n c = search needs
-
-mul-n : tie.Need-mul-n Inv-loop2 μ-loop2 Inv-loop μ-loop
-mul-n c = search needs
-
 loop-holds : tie.Need-loop-holds Inv-loop2 μ-loop2 Inv-loop μ-loop
 loop-holds c = (omega arith, level-begin _ _ _ _ _ _ _ (c .pre .1 .1))
-
-array-read-if1 : tie.Need-array-read-if1 Inv-loop2 μ-loop2 Inv-loop μ-loop
-array-read-if1 c = search needs
-
-mul-l : tie.Need-mul-l Inv-loop2 μ-loop2 Inv-loop μ-loop
-mul-l c = search needs
-
-element-copy-out-l : tie.Need-element-copy-out-l Inv-loop2 μ-loop2 Inv-loop μ-loop
-element-copy-out-l c = search needs
-
-tail-of-requires : tie.Need-tail-of-requires Inv-loop2 μ-loop2 Inv-loop μ-loop
-tail-of-requires c κs = search needs
-
-cast-x : tie.Need-cast-x Inv-loop2 μ-loop2 Inv-loop μ-loop
-cast-x c = search needs
-
-head-of-requires : tie.Need-head-of-requires Inv-loop2 μ-loop2 Inv-loop μ-loop
-head-of-requires c κs = search needs
-
-cast-y : tie.Need-cast-y Inv-loop2 μ-loop2 Inv-loop μ-loop
-cast-y c = search needs
 
 loop2-holds : tie.Need-loop2-holds Inv-loop2 μ-loop2 Inv-loop μ-loop
 unfolding tail head
@@ -73,42 +46,6 @@ loop2-holds c =
       level = in-loop .before .loop .inv .1;
     }
 
-mul-if2 : tie.Need-mul-if2 Inv-loop2 μ-loop2 Inv-loop μ-loop
-mul-if2 c = search needs
-
-index-1-if2 : tie.Need-index-1-if2 Inv-loop2 μ-loop2 Inv-loop μ-loop
-index-1-if2 c = search needs
-
-index-2-if2 : tie.Need-index-2-if2 Inv-loop2 μ-loop2 Inv-loop μ-loop
-index-2-if2 c = search needs
-
-mul-if3 : tie.Need-mul-if3 Inv-loop2 μ-loop2 Inv-loop μ-loop
-mul-if3 c = search needs
-
-index-1-if3 : tie.Need-index-1-if3 Inv-loop2 μ-loop2 Inv-loop μ-loop
-index-1-if3 c = search needs
-
-index-2-if3 : tie.Need-index-2-if3 Inv-loop2 μ-loop2 Inv-loop μ-loop
-index-2-if3 c = search needs
-
-add-u : tie.Need-add-u Inv-loop2 μ-loop2 Inv-loop μ-loop
-add-u c = search needs
-
-mul-u : tie.Need-mul-u Inv-loop2 μ-loop2 Inv-loop μ-loop
-mul-u c = search needs
-
-index-1-u : tie.Need-index-1-u Inv-loop2 μ-loop2 Inv-loop μ-loop
-index-1-u c = search needs
-
-index-2-u : tie.Need-index-2-u Inv-loop2 μ-loop2 Inv-loop μ-loop
-index-2-u c = search needs
-
-add-j : tie.Need-add-j Inv-loop2 μ-loop2 Inv-loop μ-loop
-add-j c = search needs
-
-loop2-less : tie.Need-loop2-less Inv-loop2 μ-loop2 Inv-loop μ-loop
-loop2-less c = search needs
-
 loop2-again : tie.Need-loop2-again Inv-loop2 μ-loop2 Inv-loop μ-loop
 loop2-again c =
     let k = c .before .before .before .loop2 in
@@ -124,12 +61,6 @@ loop2-again c =
     (λ w. subst (Trying _ _ _ _ _ _ a _ _ _) (sym (w .3)) (try-far _ _ _ _ _ _ a _ _ _ (k .u) k-in a-in j-in (k .inv) (w .2 .left)))
     (λ w. subst (Trying _ _ _ _ _ _ a _ _ _) (sym (w .1)) (try-set _ _ _ _ _ _ a _ _ _ (k .u) k-in a-in j-in (k .inv) (w .0 .left))))
     (c .if2 .came)
-
-add-a : tie.Need-add-a Inv-loop2 μ-loop2 Inv-loop μ-loop
-add-a c = search needs
-
-loop-less : tie.Need-loop-less Inv-loop2 μ-loop2 Inv-loop μ-loop
-loop-less c = search needs
 
 loop-again : tie.Need-loop-again Inv-loop2 μ-loop2 Inv-loop μ-loop
 loop-again c =
@@ -152,37 +83,8 @@ returns c =
 
 pub level-spec : {M : Type 1} → statement M
 level-spec =
-    tie.close
-    (tie.spec
-    Inv-loop2
-    μ-loop2
-    Inv-loop
-    μ-loop
-    cast-n
-    mul-n
-    loop-holds
-    array-read-if1
-    mul-l
-    element-copy-out-l
-    tail-of-requires
-    cast-x
-    head-of-requires
-    cast-y
-    loop2-holds
-    mul-if2
-    index-1-if2
-    index-2-if2
-    mul-if3
-    index-1-if3
-    index-2-if3
-    add-u
-    mul-u
-    index-1-u
-    index-2-u
-    add-j
-    loop2-less
-    loop2-again
-    add-a
-    loop-less
-    loop-again
+    tie.close (tie.spec Inv-loop2 μ-loop2 Inv-loop μ-loop (λ c. search needs) (λ c. search needs) loop-holds (λ c. search needs) (λ c. search needs)
+    (λ c. search needs) (λ c κs. search needs) (λ c. search needs) (λ c κs. search needs) (λ c. search needs) loop2-holds (λ c. search needs)
+    (λ c. search needs) (λ c. search needs) (λ c. search needs) (λ c. search needs) (λ c. search needs) (λ c. search needs) (λ c. search needs)
+    (λ c. search needs) (λ c. search needs) (λ c. search needs) (λ c. search needs) loop2-again (λ c. search needs) (λ c. search needs) loop-again
     returns)

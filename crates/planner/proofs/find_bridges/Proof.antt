@@ -8,17 +8,8 @@ use borrow.Author.Needs.{needs}
 use Rattle.planner.proofs.find_bridges.Statement.{statement}
 use Rattle.planner.proofs.find_bridges.Tie as tie
 
-plan-requires : tie.Need-plan-requires
-plan-requires c κs = search needs
-
-enum-told : tie.Need-enum-told
-enum-told c = search needs
-
 bridges-requires : tie.Need-bridges-requires
 bridges-requires c κs = c .before .before .plan .ensures .1 (c .enum-told .given .1) .0
-
-enum-known-v : tie.Need-enum-known-v
-enum-known-v c = search needs
 
 returns : tie.Need-returns
 unfolding bridging
@@ -33,5 +24,4 @@ returns-2 c =
     beside-refused _ _ _ _ _ refl refl (sym (off-giving _ (planning _) _ _ (m .before .before .plan .ensures .0) bridgeFlags _ (m .v .given .1)))
 
 pub find-bridges-spec : {M : Type 1} → statement M
-find-bridges-spec =
-    tie.close (tie.spec plan-requires enum-told bridges-requires enum-known-v returns returns-2)
+find-bridges-spec = tie.close (tie.spec (λ c κs. search needs) (λ c. search needs) bridges-requires (λ c. search needs) returns returns-2)

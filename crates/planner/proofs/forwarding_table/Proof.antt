@@ -8,12 +8,6 @@ use borrow.Author.Needs.{needs}
 use Rattle.planner.proofs.forwarding_table.Statement.{statement}
 use Rattle.planner.proofs.forwarding_table.Tie as tie
 
-plan-requires : tie.Need-plan-requires
-plan-requires c κs = search needs
-
-enum-told : tie.Need-enum-told
-enum-told c = search needs
-
 arcs-in-use-requires : tie.Need-arcs-in-use-requires
 arcs-in-use-requires c κs = c .before .before .before .plan .ensures .1 (c .before .enum-told .given .1) .0
 
@@ -21,12 +15,6 @@ table-of-requires : tie.Need-table-of-requires
 table-of-requires c κs =
     let r = c .before .before .before .before .plan .ensures .1 (c .before .before .enum-told .given .1) in
     (r .0, r .1, c .arcs-in-use .ensures)
-
-enum-known-v : tie.Need-enum-known-v
-enum-known-v c = search needs
-
-empty-requires : tie.Need-empty-requires
-empty-requires c κs = search needs
 
 returns : tie.Need-returns
 unfolding tabling
@@ -42,13 +30,5 @@ returns-2 c =
 
 pub forwarding-table-spec : {M : Type 1} → statement M
 forwarding-table-spec =
-    tie.close
-    (tie.spec
-    plan-requires
-    enum-told
-    arcs-in-use-requires
-    table-of-requires
-    enum-known-v
-    empty-requires
-    returns
-    returns-2)
+    tie.close (tie.spec (λ c κs. search needs) (λ c. search needs) arcs-in-use-requires table-of-requires (λ c. search needs) (λ c κs. search needs)
+    returns returns-2)

@@ -6,20 +6,8 @@ use borrow.Author.Needs.{needs}
 use Rattle.planner.proofs.lay_trail.Statement.{statement}
 use Rattle.planner.proofs.lay_trail.Tie as tie
 
-plan-requires : tie.Need-plan-requires
-plan-requires c κs = search needs
-
-enum-told : tie.Need-enum-told
-enum-told c = search needs
-
 put-trail-requires : tie.Need-put-trail-requires
 put-trail-requires c κs = c .before .before .before .before .plan .ensures .1 (c .before .before .enum-told .given .1)
-
-enum-known-v : tie.Need-enum-known-v
-enum-known-v c = search needs
-
-same-length : tie.Need-same-length
-same-length c = search needs
 
 returns : tie.Need-returns
 returns c =
@@ -36,12 +24,4 @@ returns-2 c =
 
 pub lay-trail-spec : {M : Type 1} → statement M
 lay-trail-spec =
-    tie.close
-    (tie.spec
-    plan-requires
-    enum-told
-    put-trail-requires
-    enum-known-v
-    same-length
-    returns
-    returns-2)
+    tie.close (tie.spec (λ c κs. search needs) (λ c. search needs) put-trail-requires (λ c. search needs) (λ c. search needs) returns returns-2)

@@ -11,22 +11,10 @@ use borrow.Author.Needs.{needs}
 use Rattle.planner.proofs.put_trail.Statement.{statement}
 use Rattle.planner.proofs.put_trail.Tie as tie
 
-arcs-in-use-requires : tie.Need-arcs-in-use-requires
-arcs-in-use-requires c κs = search needs
-
-distances-requires : tie.Need-distances-requires
-distances-requires c κs = search needs
-
-first-hops-requires : tie.Need-first-hops-requires
-first-hops-requires c κs = search needs
-
 hops-requires : tie.Need-hops-requires
 hops-requires c κs =
     let k = c .before .before .before .before .before in
     (planned (k .args .p) (k .pre .0) _ (k .pre .1) (c .before .before .before .arcs-in-use .ensures), (c .before .before .distances .ensures, c .before .first-hops .ensures))
-
-cast-n : tie.Need-cast-n
-cast-n c = search needs
 
 returns : tie.Need-returns
 returns c =
@@ -44,9 +32,6 @@ fill-requires c κs =
       (v .before .before .distances .ensures, (v .before .first-hops .ensures, omega (arith, i .if1 .left, i .before .hops .ensures))),
     )
 
-same-length : tie.Need-same-length
-same-length c = search needs
-
 returns-2 : tie.Need-returns-2
 returns-2 c =
     let f = c .before .before in
@@ -58,14 +43,5 @@ returns-2 c =
 
 pub put-trail-spec : {M : Type 1} → statement M
 put-trail-spec =
-    tie.close
-    (tie.spec
-    arcs-in-use-requires
-    distances-requires
-    first-hops-requires
-    hops-requires
-    cast-n
-    returns
-    fill-requires
-    same-length
-    returns-2)
+    tie.close (tie.spec (λ c κs. search needs) (λ c κs. search needs) (λ c κs. search needs) hops-requires (λ c. search needs) returns fill-requires
+    (λ c. search needs) returns-2)

@@ -9,12 +9,9 @@ use Rattle.planner.proofs.read.Lts as lts
 use Rattle.reading.proofs.read.Reads as read-reads
 
 -- src/lib.rt:50:5
-read-requires : tie.Need-read-requires
-read-requires c κs = search needs
-
 -- src/lib.rt:47:1
 returns : tie.Need-returns
 returns c = beside-as _ _ _ _ _ (sym (reading-is _)) (c .read .ensures)
 
 pub read-spec : {M : Type 1} → statement M
-read-spec = tie.close (tie.spec read-requires returns)
+read-spec = tie.close (tie.spec (λ c κs. search needs) returns)

@@ -11,12 +11,6 @@ use borrow.Author.Needs.{needs}
 use Rattle.planner.proofs.reread.Statement.{statement}
 use Rattle.planner.proofs.reread.Tie as tie
 
-write-requires : tie.Need-write-requires
-write-requires c κs = search needs
-
-enum-known-n : tie.Need-enum-known-n
-enum-known-n c = search needs
-
 slice-reshare-prefix-read : tie.Need-slice-reshare-prefix-read
 slice-reshare-prefix-read c =
     let w = c .before .before .before .before .before in
@@ -32,18 +26,6 @@ slice-aggregate-read c =
     let r = back-room (k .args .p) (k .args .buffer .now) _ e in
     simp (length-take) (omega (arith, r, ap length (w .write .ensures .1)))
 
-read-requires : tie.Need-read-requires
-read-requires c κs = search needs
-
-enum-known-k : tie.Need-enum-known-k
-enum-known-k c = search needs
-
-refused-reading-requires : tie.Need-refused-reading-requires
-refused-reading-requires c κs = search needs
-
-same-length : tie.Need-same-length
-same-length c = search needs
-
 returns : tie.Need-returns
 returns c =
     let w = c .before .before .before .before .before .before .before in
@@ -53,9 +35,6 @@ returns c =
       back-given (k .args .p) (k .args .buffer .now) _ e t _ (beside-as _ _ _ _ _ (sym (reading-is _)) (rw (w .write .ensures .1) at (c .read .ensures))),
       w .write .ensures .1,
     )
-
-same-length-2 : tie.Need-same-length-2
-same-length-2 c = search needs
 
 returns-2 : tie.Need-returns-2
 returns-2 c =
@@ -67,16 +46,5 @@ returns-2 c =
 
 pub reread-spec : {M : Type 1} → statement M
 reread-spec =
-    tie.close
-    (tie.spec
-    write-requires
-    enum-known-n
-    slice-reshare-prefix-read
-    slice-aggregate-read
-    read-requires
-    enum-known-k
-    refused-reading-requires
-    same-length
-    returns
-    same-length-2
-    returns-2)
+    tie.close (tie.spec (λ c κs. search needs) (λ c. search needs) slice-reshare-prefix-read slice-aggregate-read (λ c κs. search needs)
+    (λ c. search needs) (λ c κs. search needs) (λ c. search needs) returns (λ c. search needs) returns-2)

@@ -8,21 +8,6 @@ use borrow.Author.Needs.{needs}
 use Rattle.planner.proofs.rewrite.Statement.{statement}
 use Rattle.planner.proofs.rewrite.Tie as tie
 
-read-requires : tie.Need-read-requires
-read-requires c κs = search needs
-
-enum-told : tie.Need-enum-told
-enum-told c = search needs
-
-write-requires : tie.Need-write-requires
-write-requires c κs = search needs
-
-enum-known-v : tie.Need-enum-known-v
-enum-known-v c = search needs
-
-same-length : tie.Need-same-length
-same-length c = search needs
-
 returns : tie.Need-returns
 returns c =
     let w = c .before .before in
@@ -43,5 +28,4 @@ returns-2 c =
 
 pub rewrite-spec : {M : Type 1} → statement M
 rewrite-spec =
-    tie.close
-    (tie.spec read-requires enum-told write-requires enum-known-v same-length returns returns-2)
+    tie.close (tie.spec (λ c κs. search needs) (λ c. search needs) (λ c κs. search needs) (λ c. search needs) (λ c. search needs) returns returns-2)

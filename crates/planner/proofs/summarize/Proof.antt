@@ -7,17 +7,8 @@ use borrow.Author.Needs.{needs}
 use Rattle.planner.proofs.summarize.Statement.{statement}
 use Rattle.planner.proofs.summarize.Tie as tie
 
-plan-requires : tie.Need-plan-requires
-plan-requires c κs = search needs
-
-enum-told : tie.Need-enum-told
-enum-told c = search needs
-
 numbers-of-requires : tie.Need-numbers-of-requires
 numbers-of-requires c κs = c .before .before .before .plan .ensures .1 (c .before .enum-told .given .1)
-
-enum-known-v : tie.Need-enum-known-v
-enum-known-v c = search needs
 
 returns : tie.Need-returns
 unfolding summing
@@ -32,5 +23,4 @@ returns-2 c =
     off-giving _ (planning _) _ _ (m .before .before .plan .ensures .0) numbersOf _ (m .v .given .1)
 
 pub summarize-spec : {M : Type 1} → statement M
-summarize-spec =
-    tie.close (tie.spec plan-requires enum-told numbers-of-requires enum-known-v returns returns-2)
+summarize-spec = tie.close (tie.spec (λ c κs. search needs) (λ c. search needs) numbers-of-requires (λ c. search needs) returns returns-2)

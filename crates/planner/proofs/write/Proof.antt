@@ -8,16 +8,10 @@ use Rattle.planner.proofs.write.Lts as lts
 use Rattle.listing.proofs.write.Reads as write-reads
 
 -- src/lib.rt:58:5
-write-requires : tie.Need-write-requires
-write-requires c κs = search needs
-
 -- src/lib.rt:54:1
-same-length : tie.Need-same-length
-same-length c = search needs
-
 -- src/lib.rt:54:1
 returns : tie.Need-returns
 returns c = (c .before .before .write .ensures .0 ∙ sym (writing-is _ _), c .before .before .write .ensures .1)
 
 pub write-spec : {M : Type 1} → statement M
-write-spec = tie.close (tie.spec write-requires same-length returns)
+write-spec = tie.close (tie.spec (λ c κs. search needs) (λ c. search needs) returns)

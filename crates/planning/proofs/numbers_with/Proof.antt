@@ -5,18 +5,6 @@ use borrow.Author.Needs.{needs}
 use Rattle.planning.proofs.numbers_with.Statement.{statement}
 use Rattle.planning.proofs.numbers_with.Tie as tie
 
-slice-aggregate-count-set : tie.Need-slice-aggregate-count-set
-slice-aggregate-count-set c = search needs
-
-count-set-requires : tie.Need-count-set-requires
-count-set-requires c κs = search needs
-
-slice-aggregate-count-set-2 : tie.Need-slice-aggregate-count-set-2
-slice-aggregate-count-set-2 c = search needs
-
-count-set-requires-2 : tie.Need-count-set-requires-2
-count-set-requires-2 c κs = search needs
-
 cast-t13 : tie.Need-cast-t13
 cast-t13 c =
     let k = c .before .before .before .before in
@@ -34,12 +22,4 @@ returns c =
 
 pub numbers-with-spec : {M : Type 1} → statement M
 numbers-with-spec =
-    tie.close
-    (tie.spec
-    slice-aggregate-count-set
-    count-set-requires
-    slice-aggregate-count-set-2
-    count-set-requires-2
-    cast-t13
-    cast-t14
-    returns)
+    tie.close (tie.spec (λ c. search needs) (λ c κs. search needs) (λ c. search needs) (λ c κs. search needs) cast-t13 cast-t14 returns)

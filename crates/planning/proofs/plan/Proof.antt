@@ -7,12 +7,6 @@ use borrow.Author.Needs.{needs}
 use Rattle.planning.proofs.plan.Statement.{statement}
 use Rattle.planning.proofs.plan.Tie as tie
 
-read-requires : tie.Need-read-requires
-read-requires c κs = search needs
-
-enum-told : tie.Need-enum-told
-enum-told c = search needs
-
 is-connected-requires : tie.Need-is-connected-requires
 is-connected-requires c κs =
     decode-sound _ _ (bytes-known (c .before .before .before .before .args .listing .now) (λ i. c .before .before .before .shared-slice-known .given i .fits)) (accepted _ _ _ _ (beside-as _ _ _ _ _ (sym (reading-is _)) (c .before .before .read .ensures)) (c .enum-told .given .1))
@@ -21,12 +15,6 @@ returns : tie.Need-returns
 returns c =
     let r = c .before .before .before .before in
     plan-answer _ _ (bytes-known (r .before .before .args .listing .now) (λ i. r .before .shared-slice-known .given i .fits)) (stays-joined _ _ (beside-as _ _ _ _ _ (sym (reading-is _)) (r .read .ensures)) (c .before .before .enum-told .given .1) (sym (c .before .is-connected .ensures) ∙ c .if1 .taken))
-
-refused-reading-requires : tie.Need-refused-reading-requires
-refused-reading-requires c κs = search needs
-
-enum-told-2 : tie.Need-enum-told-2
-enum-told-2 c = search needs
 
 returns-2 : tie.Need-returns-2
 returns-2 c =
@@ -41,13 +29,5 @@ returns-3 c =
 
 pub plan-spec : {M : Type 1} → statement M
 plan-spec =
-    tie.close
-    (tie.spec
-    read-requires
-    enum-told
-    is-connected-requires
-    returns
-    refused-reading-requires
-    enum-told-2
-    returns-2
-    returns-3)
+    tie.close (tie.spec (λ c κs. search needs) (λ c. search needs) is-connected-requires returns (λ c κs. search needs) (λ c. search needs)
+    returns-2 returns-3)

@@ -4,22 +4,10 @@ use borrow.Author.Needs.{needs}
 use Rattle.planning.proofs.plan_at.Statement.{statement}
 use Rattle.planning.proofs.plan_at.Tie as tie
 
-plan-requires : tie.Need-plan-requires
-plan-requires c κs = search needs
-
-enum-told : tie.Need-enum-told
-enum-told c = search needs
-
 returns : tie.Need-returns
 returns c =
     let r = c .before .before .before .before in
     (at-inside _ _ _ (r .plan .ensures .0) (c .before .before .enum-told .given .1) (c .if1 .taken), r .plan .ensures .1)
-
-refused-reading-requires : tie.Need-refused-reading-requires
-refused-reading-requires c κs = search needs
-
-enum-told-2 : tie.Need-enum-told-2
-enum-told-2 c = search needs
 
 returns-2 : tie.Need-returns-2
 returns-2 c =
@@ -32,13 +20,4 @@ returns-3 c =
     (at-refused _ _ _ (r .plan .ensures .0) _ (c .enum-told2 .given .1), r .plan .ensures .1)
 
 pub plan-at-spec : {M : Type 1} → statement M
-plan-at-spec =
-    tie.close
-    (tie.spec
-    plan-requires
-    enum-told
-    returns
-    refused-reading-requires
-    enum-told-2
-    returns-2
-    returns-3)
+plan-at-spec = tie.close (tie.spec (λ c κs. search needs) (λ c. search needs) returns (λ c κs. search needs) (λ c. search needs) returns-2 returns-3)

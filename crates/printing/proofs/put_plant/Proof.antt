@@ -11,25 +11,10 @@ use Rattle.printing.proofs.PageLaws.{table-few, trail-room, plant-laid}
 use Rattle.printing.proofs.put_plant.Statement.{statement}
 use Rattle.printing.proofs.put_plant.Tie as tie
 
-bridges-requires : tie.Need-bridges-requires
-bridges-requires c κs = search needs
-
-arcs-with-requires : tie.Need-arcs-with-requires
-arcs-with-requires c κs = search needs
-
-distances-requires : tie.Need-distances-requires
-distances-requires c κs = search needs
-
-first-hops-requires : tie.Need-first-hops-requires
-first-hops-requires c κs = search needs
-
 hops-requires : tie.Need-hops-requires
 hops-requires c κs =
     let k = c .before .before .before .before .before .before in
     (planned (k .args .p) (k .pre .0 .0) _ (k .pre .0 .1) (c .before .before .before .arcs-with .ensures), (c .before .before .distances .ensures, c .before .first-hops .ensures))
-
-slice-aggregate-fill : tie.Need-slice-aggregate-fill
-slice-aggregate-fill c = search needs
 
 fill-requires : tie.Need-fill-requires
 fill-requires c κs =
@@ -39,15 +24,6 @@ fill-requires c κs =
       (v .before .before .distances .ensures, (v .before .first-hops .ensures, simp length-replicate (hops-limit (k .args .p) (k .pre .0 .0) (k .pre .0 .1)))),
     )
 
-numbers-with-requires : tie.Need-numbers-with-requires
-numbers-with-requires c κs = search needs
-
-put-numbers-requires : tie.Need-put-numbers-requires
-put-numbers-requires c κs = search needs
-
-table-of-requires : tie.Need-table-of-requires
-table-of-requires c κs = search needs
-
 put-table-requires : tie.Need-put-table-requires
 put-table-requires c κs =
     let t = c .before in
@@ -55,12 +31,6 @@ put-table-requires c κs =
     let k = n .before .before .before .before .before .before .before .before .before .before .before .before .before .before in
     let few = table-few (k .args .p) _ (t .table-of .ensures) (k .pre .0 .0) (k .pre .0 .1) in
     (few, omega (arith, n .put-numbers .ensures .1, laid-same (n .put-numbers .ensures .0), k .pre .1))
-
-slice-aggregate-put-trail : tie.Need-slice-aggregate-put-trail
-slice-aggregate-put-trail c = search needs
-
-cast-put-trail : tie.Need-cast-put-trail
-cast-put-trail c = search needs
 
 put-trail-requires : tie.Need-put-trail-requires
 put-trail-requires c κs =
@@ -76,9 +46,6 @@ put-trail-requires c κs =
       omega (arith, h .hops .ensures, n .put-numbers .ensures .1, r .put-table .ensures .1, laid-same (n .put-numbers .ensures .0), laid-same (r .put-table .ensures .0), k .pre .1),
     )
 
-same-length : tie.Need-same-length
-same-length c = search needs
-
 returns : tie.Need-returns
 returns c =
     let l = c .before .before in
@@ -93,21 +60,6 @@ returns c =
 
 pub put-plant-spec : {M : Type 1} → statement M
 put-plant-spec =
-    tie.close
-    (tie.spec
-    bridges-requires
-    arcs-with-requires
-    distances-requires
-    first-hops-requires
-    hops-requires
-    slice-aggregate-fill
-    fill-requires
-    numbers-with-requires
-    put-numbers-requires
-    table-of-requires
-    put-table-requires
-    slice-aggregate-put-trail
-    cast-put-trail
-    put-trail-requires
-    same-length
-    returns)
+    tie.close (tie.spec (λ c κs. search needs) (λ c κs. search needs) (λ c κs. search needs) (λ c κs. search needs) hops-requires
+    (λ c. search needs) fill-requires (λ c κs. search needs) (λ c κs. search needs) (λ c κs. search needs) put-table-requires (λ c. search needs)
+    (λ c. search needs) put-trail-requires (λ c. search needs) returns)

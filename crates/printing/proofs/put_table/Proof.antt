@@ -17,28 +17,13 @@ Inv-loop buf₀ at t n next₀ i₀ buf next i = Turns ruleBytes buf₀ at (t .r
 abbrev μ-loop : tie.MeasureT-loop
 μ-loop buf₀ at t n next₀ i₀ buf next i = n - i
 
-cast-n : tie.Need-cast-n Inv-loop μ-loop
-cast-n c = search needs
-
 loop-holds : tie.Need-loop-holds Inv-loop μ-loop
 loop-holds c = turns-none (c .before .pre .1)
-
-mul-put-rule : tie.Need-mul-put-rule Inv-loop μ-loop
-mul-put-rule c = search needs
-
-element-copy-out-put-rule : tie.Need-element-copy-out-put-rule Inv-loop μ-loop
-element-copy-out-put-rule c = search needs
 
 put-rule-requires : tie.Need-put-rule-requires Inv-loop μ-loop
 put-rule-requires c κs =
     let l = c .before .before in
     turns-room (l .before .loop .inv) (l .before .before .before .pre .1) (l .loop-test .taken)
-
-add-i : tie.Need-add-i Inv-loop μ-loop
-add-i c = search needs
-
-loop-less : tie.Need-loop-less Inv-loop μ-loop
-loop-less c = search needs
 
 loop-again : tie.Need-loop-again Inv-loop μ-loop
 loop-again c =
@@ -57,17 +42,5 @@ returns c =
 
 pub put-table-spec : {M : Type 1} → statement M
 put-table-spec =
-    tie.close
-    (tie.spec
-    Inv-loop
-    μ-loop
-    cast-n
-    loop-holds
-    mul-put-rule
-    element-copy-out-put-rule
-    put-rule-requires
-    add-i
-    loop-less
-    loop-again
-    same-length
-    returns)
+    tie.close (tie.spec Inv-loop μ-loop (λ c. search needs) loop-holds (λ c. search needs) (λ c. search needs) put-rule-requires (λ c. search needs)
+    (λ c. search needs) loop-again same-length returns)

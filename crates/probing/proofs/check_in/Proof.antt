@@ -11,14 +11,8 @@ use borrow.Author.Needs.{needs}
 use Rattle.probing.proofs.check_in.Statement.{statement}
 use Rattle.probing.proofs.check_in.Tie as tie
 
-arcs-in-use-requires : tie.Need-arcs-in-use-requires
-arcs-in-use-requires c κs = search needs
-
 judge-lent-requires : tie.Need-judge-lent-requires
 judge-lent-requires c κs = let s = c .before .before .before in planned (s .args .p) (s .pre .0) _ (s .pre .1) (c .arcs-in-use .ensures)
-
-enum-told : tie.Need-enum-told
-enum-told c = search needs
 
 full-check-requires : tie.Need-full-check-requires
 full-check-requires c κs =
@@ -26,12 +20,6 @@ full-check-requires c κs =
     let u = j .before in
     let s = u .before .before .before in
     lent-can _ _ _ _ (j .judge-lent .ensures) (c .enum-told .given .1) (s .pre .0) (s .pre .1) _ (u .arcs-in-use .ensures)
-
-outcome-of-requires : tie.Need-outcome-of-requires
-outcome-of-requires c κs = search needs
-
-enum-known-k : tie.Need-enum-known-k
-enum-known-k c = search needs
 
 returns : tie.Need-returns
 unfolding checkIn
@@ -49,13 +37,5 @@ returns-2 c = sym (turned-down _ _ (c .before .before .before .judge-lent .ensur
 
 pub check-in-spec : {M : Type 1} → statement M
 check-in-spec =
-    tie.close
-    (tie.spec
-    arcs-in-use-requires
-    judge-lent-requires
-    enum-told
-    full-check-requires
-    outcome-of-requires
-    enum-known-k
-    returns
-    returns-2)
+    tie.close (tie.spec (λ c κs. search needs) judge-lent-requires (λ c. search needs) full-check-requires (λ c κs. search needs)
+    (λ c. search needs) returns returns-2)

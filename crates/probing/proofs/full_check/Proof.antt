@@ -6,17 +6,8 @@ use borrow.Author.Needs.{needs}
 use Rattle.probing.proofs.full_check.Statement.{statement}
 use Rattle.probing.proofs.full_check.Tie as tie
 
-plan-at-requires : tie.Need-plan-at-requires
-plan-at-requires c κs = search needs
-
-enum-told : tie.Need-enum-told
-enum-told c = search needs
-
 check-in-requires : tie.Need-check-in-requires
 check-in-requires c κs = c .before .before .before .plan-at .ensures .1 (c .before .enum-told .given .1)
-
-enum-known-v : tie.Need-enum-known-v
-enum-known-v c = search needs
 
 returns : tie.Need-returns
 unfolding checking
@@ -31,6 +22,4 @@ returns-2 c =
     off-then _ (planningAt _ _) _ _ (m .before .before .plan-at .ensures .0) (checkIn _ _ _) _ (m .v .given .1)
 
 pub full-check-spec : {M : Type 1} → statement M
-full-check-spec =
-    tie.close
-    (tie.spec plan-at-requires enum-told check-in-requires enum-known-v returns returns-2)
+full-check-spec = tie.close (tie.spec (λ c κs. search needs) (λ c. search needs) check-in-requires (λ c. search needs) returns returns-2)

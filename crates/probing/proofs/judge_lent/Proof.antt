@@ -4,12 +4,6 @@ use borrow.Author.Needs.{needs}
 use Rattle.probing.proofs.judge_lent.Statement.{statement}
 use Rattle.probing.proofs.judge_lent.Tie as tie
 
-differs-requires : tie.Need-differs-requires
-differs-requires c κs = search needs
-
-too-few-requires : tie.Need-too-few-requires
-too-few-requires c κs = search needs
-
 returns : tie.Need-returns
 returns c = record { first = simp (sym (c .before .before .differs .ensures) ∙ c .if1 .taken) }
 
@@ -24,5 +18,4 @@ returns-3 c =
     record { first = simp (sym (k .before .before .differs .ensures) ∙ k .if1 .left, sym (k .before .too-few .ensures) ∙ c .if2 .left) }
 
 pub judge-lent-spec : {M : Type 1} → statement M
-judge-lent-spec =
-    tie.close (tie.spec differs-requires too-few-requires returns returns-2 returns-3)
+judge-lent-spec = tie.close (tie.spec (λ c κs. search needs) (λ c κs. search needs) returns returns-2 returns-3)

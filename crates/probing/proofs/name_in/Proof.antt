@@ -9,18 +9,12 @@ use borrow.Author.Needs.{needs}
 use Rattle.probing.proofs.name_in.Statement.{statement}
 use Rattle.probing.proofs.name_in.Tie as tie
 
-arcs-in-use-requires : tie.Need-arcs-in-use-requires
-arcs-in-use-requires c κs = search needs
-
 differs-requires : tie.Need-differs-requires
 differs-requires c κs = let s = c .before .before in planned (s .args .p) (s .pre .0) _ (s .pre .1) (c .arcs-in-use .ensures)
 
 returns : tie.Need-returns
 unfolding nameIn
 returns c = holds 12 _ _ (sym (c .before .differs .ensures) ∙ c .if1 .taken)
-
-unsound-requires : tie.Need-unsound-requires
-unsound-requires c κs = search needs
 
 returns-2 : tie.Need-returns-2
 unfolding nameIn
@@ -42,13 +36,4 @@ returns-3 c =
     fails 12 _ _ _ (sym (d .before .differs .ensures) ∙ d .if1 .left) (fails 14 _ _ _ (unsound-live _ _ _ (sym (b .before .unsound .ensures) ∙ b .if2 .left)) (c .name-of .ensures))
 
 pub name-in-spec : {M : Type 1} → statement M
-name-in-spec =
-    tie.close
-    (tie.spec
-    arcs-in-use-requires
-    differs-requires
-    returns
-    unsound-requires
-    returns-2
-    name-of-requires
-    returns-3)
+name-in-spec = tie.close (tie.spec (λ c κs. search needs) differs-requires returns (λ c κs. search needs) returns-2 name-of-requires returns-3)

@@ -8,18 +8,6 @@ use borrow.Author.Needs.{needs}
 use Rattle.probing.proofs.name_of.Statement.{statement}
 use Rattle.probing.proofs.name_of.Tie as tie
 
-enum-told : tie.Need-enum-told
-enum-told c = search needs
-
-enum-told-2 : tie.Need-enum-told-2
-enum-told-2 c = search needs
-
-enum-told-3 : tie.Need-enum-told-3
-enum-told-3 c = search needs
-
-enum-known-search : tie.Need-enum-known-search
-enum-known-search c = search needs
-
 order-of-requires : tie.Need-order-of-requires
 order-of-requires c κs =
     let s = c .before .before .before .before in
@@ -30,12 +18,6 @@ sub-j c =
     let n = c .before .before in
     let s = n .before .before .before in
     omega (arith, subst (Good (s .args .p .count)) (n .search .given .1) (s .pre .1 .1))
-
-cast-j : tie.Need-cast-j
-cast-j c = search needs
-
-mul-t11 : tie.Need-mul-t11
-mul-t11 c = search needs
 
 element-copy-out-t10 : tie.Need-element-copy-out-t10
 element-copy-out-t10 c =
@@ -60,18 +42,5 @@ returns-4 c =
 
 pub name-of-spec : {M : Type 1} → statement M
 name-of-spec =
-    tie.close
-    (tie.spec
-    enum-told
-    enum-told-2
-    enum-told-3
-    enum-known-search
-    order-of-requires
-    sub-j
-    cast-j
-    mul-t11
-    element-copy-out-t10
-    returns
-    returns-2
-    returns-3
-    returns-4)
+    tie.close (tie.spec (λ c. search needs) (λ c. search needs) (λ c. search needs) (λ c. search needs) order-of-requires sub-j (λ c. search needs)
+    (λ c. search needs) element-copy-out-t10 returns returns-2 returns-3 returns-4)

@@ -10,18 +10,6 @@ use borrow.Author.Needs.{needs}
 use Rattle.probing.proofs.new_search.Statement.{statement}
 use Rattle.probing.proofs.new_search.Tie as tie
 
-plan-at-requires : tie.Need-plan-at-requires
-plan-at-requires c κs = search needs
-
-enum-told : tie.Need-enum-told
-enum-told c = search needs
-
-new-requires : tie.Need-new-requires
-new-requires c κs = search needs
-
-enum-known-v : tie.Need-enum-known-v
-enum-known-v c = search needs
-
 returns : tie.Need-returns
 unfolding beginning
 returns c =
@@ -35,5 +23,4 @@ returns-2 c =
     off-giving _ (planningAt _ _) _ _ (m .before .before .plan-at .ensures .0) (λ p. newSearch (liveLinks p)) _ (m .v .given .1)
 
 pub new-search-spec : {M : Type 1} → statement M
-new-search-spec =
-    tie.close (tie.spec plan-at-requires enum-told new-requires enum-known-v returns returns-2)
+new-search-spec = tie.close (tie.spec (λ c κs. search needs) (λ c. search needs) (λ c κs. search needs) (λ c. search needs) returns returns-2)

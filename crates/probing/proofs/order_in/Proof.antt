@@ -10,14 +10,8 @@ use borrow.Author.Needs.{needs}
 use Rattle.probing.proofs.order_in.Statement.{statement}
 use Rattle.probing.proofs.order_in.Tie as tie
 
-arcs-in-use-requires : tie.Need-arcs-in-use-requires
-arcs-in-use-requires c κs = search needs
-
 differs-requires : tie.Need-differs-requires
 differs-requires c κs = let s = c .before .before in planned (s .args .p) (s .pre .0) _ (s .pre .1) (c .arcs-in-use .ensures)
-
-refused-order-requires : tie.Need-refused-order-requires
-refused-order-requires c κs = search needs
 
 returns : tie.Need-returns
 unfolding orderIn
@@ -32,12 +26,4 @@ returns-2 : tie.Need-returns-2
 returns-2 c = let d = c .before in ordered _ _ _ _ (sym (d .before .differs .ensures) ∙ d .if1 .left) (c .order-of .ensures)
 
 pub order-in-spec : {M : Type 1} → statement M
-order-in-spec =
-    tie.close
-    (tie.spec
-    arcs-in-use-requires
-    differs-requires
-    refused-order-requires
-    returns
-    order-of-requires
-    returns-2)
+order-in-spec = tie.close (tie.spec (λ c κs. search needs) differs-requires (λ c κs. search needs) returns order-of-requires returns-2)

@@ -7,20 +7,8 @@ use borrow.Author.Needs.{needs}
 use Rattle.probing.proofs.order_of_links.Statement.{statement}
 use Rattle.probing.proofs.order_of_links.Tie as tie
 
-plan-at-requires : tie.Need-plan-at-requires
-plan-at-requires c κs = search needs
-
-enum-told : tie.Need-enum-told
-enum-told c = search needs
-
 order-in-requires : tie.Need-order-in-requires
 order-in-requires c κs = c .before .before .before .plan-at .ensures .1 (c .before .enum-told .given .1)
-
-enum-known-v : tie.Need-enum-known-v
-enum-known-v c = search needs
-
-refused-order-requires : tie.Need-refused-order-requires
-refused-order-requires c κs = search needs
 
 returns : tie.Need-returns
 unfolding ordering
@@ -36,12 +24,4 @@ returns-2 c =
 
 pub order-of-links-spec : {M : Type 1} → statement M
 order-of-links-spec =
-    tie.close
-    (tie.spec
-    plan-at-requires
-    enum-told
-    order-in-requires
-    enum-known-v
-    refused-order-requires
-    returns
-    returns-2)
+    tie.close (tie.spec (λ c κs. search needs) (λ c. search needs) order-in-requires (λ c. search needs) (λ c κs. search needs) returns returns-2)

@@ -9,9 +9,6 @@ use borrow.Author.Needs.{needs}
 use Rattle.probing.proofs.outward_in.Statement.{statement}
 use Rattle.probing.proofs.outward_in.Tie as tie
 
-arcs-in-use-requires : tie.Need-arcs-in-use-requires
-arcs-in-use-requires c κs = search needs
-
 differs-requires : tie.Need-differs-requires
 differs-requires c κs = let s = c .before .before in planned (s .args .p) (s .pre .0) _ (s .pre .1) (c .arcs-in-use .ensures)
 
@@ -19,21 +16,12 @@ returns : tie.Need-returns
 unfolding outwardIn
 returns c = holds 12 _ _ (sym (c .before .differs .ensures) ∙ c .if1 .taken)
 
-probe-wanted-requires : tie.Need-probe-wanted-requires
-probe-wanted-requires c κs = search needs
-
-enum-known-m : tie.Need-enum-known-m
-enum-known-m c = search needs
-
 span-in-requires : tie.Need-span-in-requires
 span-in-requires c κs =
     let a = c .before .before .before in
     let d = a .before in
     let s = d .before .before .before .before in
     (s .pre, (trail-same _ _ (sym (d .before .differs .ensures) ∙ d .if1 .left), probe-among (s .args .p) _ _ (a .probe-wanted .ensures) _ (c .before .m .given .1)))
-
-enum-known-k : tie.Need-enum-known-k
-enum-known-k c = search needs
 
 returns-2 : tie.Need-returns-2
 unfolding outwardIn
@@ -57,14 +45,5 @@ returns-3 c =
 
 pub outward-in-spec : {M : Type 1} → statement M
 outward-in-spec =
-    tie.close
-    (tie.spec
-    arcs-in-use-requires
-    differs-requires
-    returns
-    probe-wanted-requires
-    enum-known-m
-    span-in-requires
-    enum-known-k
-    returns-2
-    returns-3)
+    tie.close (tie.spec (λ c κs. search needs) differs-requires returns (λ c κs. search needs) (λ c. search needs) span-in-requires
+    (λ c. search needs) returns-2 returns-3)

@@ -7,17 +7,8 @@ use borrow.Author.Needs.{needs}
 use Rattle.probing.proofs.outward_labels.Statement.{statement}
 use Rattle.probing.proofs.outward_labels.Tie as tie
 
-plan-at-requires : tie.Need-plan-at-requires
-plan-at-requires c κs = search needs
-
-enum-told : tie.Need-enum-told
-enum-told c = search needs
-
 outward-in-requires : tie.Need-outward-in-requires
 outward-in-requires c κs = c .before .before .before .plan-at .ensures .1 (c .before .enum-told .given .1)
-
-enum-known-v : tie.Need-enum-known-v
-enum-known-v c = search needs
 
 returns : tie.Need-returns
 unfolding outgoing
@@ -34,6 +25,4 @@ returns-2 c =
     (r, outward-parts _ _ _ _ _ r)
 
 pub outward-labels-spec : {M : Type 1} → statement M
-outward-labels-spec =
-    tie.close
-    (tie.spec plan-at-requires enum-told outward-in-requires enum-known-v returns returns-2)
+outward-labels-spec = tie.close (tie.spec (λ c κs. search needs) (λ c. search needs) outward-in-requires (λ c. search needs) returns returns-2)

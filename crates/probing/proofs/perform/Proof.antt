@@ -7,18 +7,6 @@ use borrow.Author.Needs.{needs}
 use Rattle.probing.proofs.perform.Statement.{statement}
 use Rattle.probing.proofs.perform.Tie as tie
 
-plan-at-requires : tie.Need-plan-at-requires
-plan-at-requires c κs = search needs
-
-enum-told : tie.Need-enum-told
-enum-told c = search needs
-
-perform-requires : tie.Need-perform-requires
-perform-requires c κs = search needs
-
-enum-known-v : tie.Need-enum-known-v
-enum-known-v c = search needs
-
 returns : tie.Need-returns
 unfolding performing
 returns c =
@@ -32,5 +20,4 @@ returns-2 c =
     off-giving _ (planningAt _ _) _ _ (m .before .before .plan-at .ensures .0) (performedIn _) _ (m .v .given .1)
 
 pub perform-spec : {M : Type 1} → statement M
-perform-spec =
-    tie.close (tie.spec plan-at-requires enum-told perform-requires enum-known-v returns returns-2)
+perform-spec = tie.close (tie.spec (λ c κs. search needs) (λ c. search needs) (λ c κs. search needs) (λ c. search needs) returns returns-2)

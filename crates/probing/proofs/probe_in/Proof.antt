@@ -8,14 +8,8 @@ use borrow.Author.Needs.{needs}
 use Rattle.probing.proofs.probe_in.Statement.{statement}
 use Rattle.probing.proofs.probe_in.Tie as tie
 
-arcs-in-use-requires : tie.Need-arcs-in-use-requires
-arcs-in-use-requires c κs = search needs
-
 judge-lent-requires : tie.Need-judge-lent-requires
 judge-lent-requires c κs = let s = c .before .before .before in planned (s .args .p) (s .pre .0) _ (s .pre .1) (c .arcs-in-use .ensures)
-
-enum-told : tie.Need-enum-told
-enum-told c = search needs
 
 probe-over-requires : tie.Need-probe-over-requires
 probe-over-requires c κs =
@@ -24,9 +18,6 @@ probe-over-requires c κs =
     let s = u .before .before .before in
     let e = c .enum-told .given .1 in
     (lent-can _ _ _ _ (j .judge-lent .ensures) e (s .pre .0) (s .pre .1) _ (u .arcs-in-use .ensures), lent-same _ _ _ _ (j .judge-lent .ensures) e)
-
-enum-known-k : tie.Need-enum-known-k
-enum-known-k c = search needs
 
 returns : tie.Need-returns
 unfolding probeIn
@@ -38,12 +29,4 @@ returns-2 c = sym (turned-down _ _ (c .before .before .before .judge-lent .ensur
 
 pub probe-in-spec : {M : Type 1} → statement M
 probe-in-spec =
-    tie.close
-    (tie.spec
-    arcs-in-use-requires
-    judge-lent-requires
-    enum-told
-    probe-over-requires
-    enum-known-k
-    returns
-    returns-2)
+    tie.close (tie.spec (λ c κs. search needs) judge-lent-requires (λ c. search needs) probe-over-requires (λ c. search needs) returns returns-2)

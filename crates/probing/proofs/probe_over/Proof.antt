@@ -10,23 +10,11 @@ use borrow.Author.Needs.{needs}
 use Rattle.probing.proofs.probe_over.Statement.{statement}
 use Rattle.probing.proofs.probe_over.Tie as tie
 
-probe-wanted-requires : tie.Need-probe-wanted-requires
-probe-wanted-requires c κs = search needs
-
-enum-known-m : tie.Need-enum-known-m
-enum-known-m c = search needs
-
 probe-run-requires : tie.Need-probe-run-requires
 probe-run-requires c κs =
     let a = c .before .before .before in
     let s = a .before .before .before in
     (s .pre .0, probe-among (s .args .p) _ _ (a .probe-wanted .ensures) _ (c .before .m .given .1))
-
-outcome-of-requires : tie.Need-outcome-of-requires
-outcome-of-requires c κs = search needs
-
-enum-known-k : tie.Need-enum-known-k
-enum-known-k c = search needs
 
 returns : tie.Need-returns
 returns c =
@@ -44,12 +32,4 @@ returns-2 c =
 
 pub probe-over-spec : {M : Type 1} → statement M
 probe-over-spec =
-    tie.close
-    (tie.spec
-    probe-wanted-requires
-    enum-known-m
-    probe-run-requires
-    outcome-of-requires
-    enum-known-k
-    returns
-    returns-2)
+    tie.close (tie.spec (λ c κs. search needs) (λ c. search needs) probe-run-requires (λ c κs. search needs) (λ c. search needs) returns returns-2)

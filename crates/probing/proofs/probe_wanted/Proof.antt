@@ -5,17 +5,11 @@ use borrow.Author.Needs.{needs}
 use Rattle.probing.proofs.probe_wanted.Statement.{statement}
 use Rattle.probing.proofs.probe_wanted.Tie as tie
 
-unsound-requires : tie.Need-unsound-requires
-unsound-requires c κs = search needs
-
 returns : tie.Need-returns
 returns c = wanted-unsound _ _ (sym (c .before .unsound .ensures) ∙ c .if1 .taken)
-
-ask-requires : tie.Need-ask-requires
-ask-requires c κs = search needs
 
 returns-2 : tie.Need-returns-2
 returns-2 c = c .ask .ensures ∙ wanted-sound _ _ (sym (c .before .before .unsound .ensures) ∙ c .before .if1 .left)
 
 pub probe-wanted-spec : {M : Type 1} → statement M
-probe-wanted-spec = tie.close (tie.spec unsound-requires returns ask-requires returns-2)
+probe-wanted-spec = tie.close (tie.spec (λ c κs. search needs) returns (λ c κs. search needs) returns-2)

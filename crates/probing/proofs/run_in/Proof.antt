@@ -10,18 +10,9 @@ use borrow.Author.Needs.{needs}
 use Rattle.probing.proofs.run_in.Statement.{statement}
 use Rattle.probing.proofs.run_in.Tie as tie
 
-too-few-requires : tie.Need-too-few-requires
-too-few-requires c κs = search needs
-
 returns : tie.Need-returns
 unfolding runIn
 returns c = holds 13 _ _ (sym (c .before .too-few .ensures) ∙ c .if1 .taken)
-
-arcs-in-use-requires : tie.Need-arcs-in-use-requires
-arcs-in-use-requires c κs = search needs
-
-injected-requires : tie.Need-injected-requires
-injected-requires c κs = search needs
 
 run-on-requires : tie.Need-run-on-requires
 run-on-requires c κs =
@@ -46,13 +37,4 @@ returns-3 c =
     (ran-as _ _ _ _ _ (i .before .arcs-in-use .ensures) (i .injected .result) (c .before .run-on .result) _ (i .injected .ensures) (c .before .run-on .ensures) (c .if2 .left))
 
 pub run-in-spec : {M : Type 1} → statement M
-run-in-spec =
-    tie.close
-    (tie.spec
-    too-few-requires
-    returns
-    arcs-in-use-requires
-    injected-requires
-    run-on-requires
-    returns-2
-    returns-3)
+run-in-spec = tie.close (tie.spec (λ c κs. search needs) returns (λ c κs. search needs) (λ c κs. search needs) run-on-requires returns-2 returns-3)

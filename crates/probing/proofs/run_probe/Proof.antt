@@ -6,17 +6,8 @@ use borrow.Author.Needs.{needs}
 use Rattle.probing.proofs.run_probe.Statement.{statement}
 use Rattle.probing.proofs.run_probe.Tie as tie
 
-plan-at-requires : tie.Need-plan-at-requires
-plan-at-requires c κs = search needs
-
-enum-told : tie.Need-enum-told
-enum-told c = search needs
-
 probe-in-requires : tie.Need-probe-in-requires
 probe-in-requires c κs = c .before .before .before .plan-at .ensures .1 (c .before .enum-told .given .1)
-
-enum-known-v : tie.Need-enum-known-v
-enum-known-v c = search needs
 
 returns : tie.Need-returns
 unfolding probing
@@ -31,6 +22,4 @@ returns-2 c =
     off-then _ (planningAt _ _) _ _ (m .before .before .plan-at .ensures .0) (probeIn _ _ _ _) _ (m .v .given .1)
 
 pub run-probe-spec : {M : Type 1} → statement M
-run-probe-spec =
-    tie.close
-    (tie.spec plan-at-requires enum-told probe-in-requires enum-known-v returns returns-2)
+run-probe-spec = tie.close (tie.spec (λ c κs. search needs) (λ c. search needs) probe-in-requires (λ c. search needs) returns returns-2)

@@ -7,17 +7,11 @@ use borrow.Author.Needs.{needs}
 use Rattle.probing.proofs.unsound.Statement.{statement}
 use Rattle.probing.proofs.unsound.Tie as tie
 
-sound-requires : tie.Need-sound-requires
-sound-requires c κs = search needs
-
 returns : tie.Need-returns
 returns c = unsound-itself _ _ (sym (c .before .sound .ensures) ∙ not-true _ (c .if1 .taken))
-
-sound-for-requires : tie.Need-sound-for-requires
-sound-for-requires c κs = search needs
 
 returns-2 : tie.Need-returns-2
 returns-2 c = ap not (c .sound-for .ensures) ∙ unsound-here _ _ (sym (c .before .before .sound .ensures) ∙ not-false _ (c .before .if1 .left))
 
 pub unsound-spec : {M : Type 1} → statement M
-unsound-spec = tie.close (tie.spec sound-requires returns sound-for-requires returns-2)
+unsound-spec = tie.close (tie.spec (λ c κs. search needs) returns (λ c κs. search needs) returns-2)

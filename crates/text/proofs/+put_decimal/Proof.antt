@@ -89,18 +89,6 @@ put-decimal-returns-2 t c =
 
 pub +put-decimal-spec : {M : Type 1} → statement M
 +put-decimal-spec = close μ-put-decimal λ t. lts.spec (calls t)
-    (put-decimal-at t)
-    put-decimal.Post
-    (put-decimal-cast-buf t)
-    (put-decimal-add-buf t)
-    (put-decimal-slice-write-buf t)
-    (put-decimal-add-result t)
-    (put-decimal-same-length t)
-    (put-decimal-returns t)
-    (put-decimal-put-decimal-requires t)
-    (put-decimal-cast-buf-2 t)
-    (put-decimal-add-buf-2 t)
-    (put-decimal-slice-write-buf-2 t)
-    (put-decimal-add-result-2 t)
-    (put-decimal-same-length-2 t)
-    (put-decimal-returns-2 t)
+    (put-decimal-at t) put-decimal.Post (put-decimal-cast-buf t) (put-decimal-add-buf t) (put-decimal-slice-write-buf t) (put-decimal-add-result t)
+    (put-decimal-same-length t) (put-decimal-returns t) (put-decimal-put-decimal-requires t) (put-decimal-cast-buf-2 t) (put-decimal-add-buf-2 t)
+    (put-decimal-slice-write-buf-2 t) (put-decimal-add-result-2 t) (put-decimal-same-length-2 t) (put-decimal-returns-2 t)

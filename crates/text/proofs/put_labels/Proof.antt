@@ -18,12 +18,6 @@ abbrev μ-loop : tie.MeasureT-loop
 loop-holds : tie.Need-loop-holds Inv-loop μ-loop
 loop-holds c = turns-none (c .before .before .pre .1)
 
-mul-put-number : tie.Need-mul-put-number Inv-loop μ-loop
-mul-put-number c = search needs
-
-shared-slice-read-put-number : tie.Need-shared-slice-read-put-number Inv-loop μ-loop
-shared-slice-read-put-number c = search needs
-
 cast-put-number : tie.Need-cast-put-number Inv-loop μ-loop
 cast-put-number c = omega (arith, c .shared-slice-known2 .given (c .before .before .before .loop .i))
 
@@ -32,12 +26,6 @@ put-number-requires c κs =
     let l = c .before .before .before in
     let s = l .before .before .before in
     number-room digits16 (l .loop .inv) (s .pre .0) (s .pre .1) (omega arith) (c .before .before .loop-test .taken) (omega (arith, c .shared-slice-known2 .given (l .loop .i)))
-
-add-i : tie.Need-add-i Inv-loop μ-loop
-add-i c = search needs
-
-loop-less : tie.Need-loop-less Inv-loop μ-loop
-loop-less c = search needs
 
 loop-again : tie.Need-loop-again Inv-loop μ-loop
 loop-again c =
@@ -54,17 +42,5 @@ returns c = turns-all (c .before .loop .inv) (c .loop-test .left)
 
 pub put-labels-spec : {M : Type 1} → statement M
 put-labels-spec =
-    tie.close
-    (tie.spec
-    Inv-loop
-    μ-loop
-    loop-holds
-    mul-put-number
-    shared-slice-read-put-number
-    cast-put-number
-    put-number-requires
-    add-i
-    loop-less
-    loop-again
-    same-length
-    returns)
+    tie.close (tie.spec Inv-loop μ-loop loop-holds (λ c. search needs) (λ c. search needs) cast-put-number put-number-requires (λ c. search needs)
+    (λ c. search needs) loop-again same-length returns)

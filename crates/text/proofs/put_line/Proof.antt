@@ -5,18 +5,6 @@ use borrow.Author.Needs.{needs}
 use Rattle.text.proofs.put_line.Statement.{statement}
 use Rattle.text.proofs.put_line.Tie as tie
 
-put-word-requires : tie.Need-put-word-requires
-put-word-requires c κs = search needs
-
-put-numbers-requires : tie.Need-put-numbers-requires
-put-numbers-requires c κs = search needs
-
-end-line-requires : tie.Need-end-line-requires
-end-line-requires c κs = search needs
-
-same-length : tie.Need-same-length
-same-length c = search needs
-
 returns : tie.Need-returns
 returns c =
     let s = c .before .before .before .before .before .before .before .before .before .before .before .before .before .before .before in
@@ -26,6 +14,4 @@ returns c =
     (line-laid (s .args .word .now) (s .args .ns .now) (w .ensures) (n .ensures .0) (e .ensures), omega (arith, w .ensures .place, n .ensures .1, e .ensures .place))
 
 pub put-line-spec : {M : Type 1} → statement M
-put-line-spec =
-    tie.close
-    (tie.spec put-word-requires put-numbers-requires end-line-requires same-length returns)
+put-line-spec = tie.close (tie.spec (λ c κs. search needs) (λ c κs. search needs) (λ c κs. search needs) (λ c. search needs) returns)

@@ -7,12 +7,6 @@ use borrow.Author.Needs.{needs}
 use Rattle.text.proofs.put_number.Statement.{statement}
 use Rattle.text.proofs.put_number.Tie as tie
 
-slice-write-buf : tie.Need-slice-write-buf
-slice-write-buf c = search needs
-
-add-put-decimal : tie.Need-add-put-decimal
-add-put-decimal c = search needs
-
 put-decimal-requires : tie.Need-put-decimal-requires
 put-decimal-requires c κs = rw length-set (omega (arith, c .before .before .pre))
 
@@ -27,5 +21,4 @@ returns c =
     spaced-laid (s .args .buf .now) (s .args .at) (s .args .n) (s .pre) (c .before .before .put-decimal .ensures)
 
 pub put-number-spec : {M : Type 1} → statement M
-put-number-spec =
-    tie.close (tie.spec slice-write-buf add-put-decimal put-decimal-requires same-length returns)
+put-number-spec = tie.close (tie.spec (λ c. search needs) (λ c. search needs) put-decimal-requires same-length returns)

@@ -17,9 +17,6 @@ abbrev μ-loop : tie.MeasureT-loop
 loop-holds : tie.Need-loop-holds Inv-loop μ-loop
 loop-holds c = (omega arith, laid-none _ (c .args .at) (omega arith))
 
-shared-slice-read-buf : tie.Need-shared-slice-read-buf Inv-loop μ-loop
-shared-slice-read-buf c = omega arith
-
 slice-write-buf : tie.Need-slice-write-buf Inv-loop μ-loop
 slice-write-buf c =
     let k = c .before .before in
@@ -29,12 +26,6 @@ add-next : tie.Need-add-next Inv-loop μ-loop
 add-next c =
     let k = c .before .before in
     omega (arith, word-room (k .before .args .word .now) (k .loop .i) (c .before .loop-test .taken) (k .loop .inv .1) (k .before .pre), laid-same (k .loop .inv .1))
-
-add-i : tie.Need-add-i Inv-loop μ-loop
-add-i c = omega arith
-
-loop-less : tie.Need-loop-less Inv-loop μ-loop
-loop-less c = omega arith
 
 loop-again : tie.Need-loop-again Inv-loop μ-loop
 loop-again c =
@@ -49,16 +40,5 @@ returns c = word-all (c .before .before .args .word .now) (c .before .loop .i) (
 
 pub put-word-spec : {M : Type 1} → statement M
 put-word-spec =
-    tie.close
-    (tie.spec
-    Inv-loop
-    μ-loop
-    loop-holds
-    shared-slice-read-buf
-    slice-write-buf
-    add-next
-    add-i
-    loop-less
-    loop-again
-    same-length
-    returns)
+    tie.close (tie.spec Inv-loop μ-loop loop-holds (λ c. omega arith) slice-write-buf add-next (λ c. omega arith) (λ c. omega arith) loop-again
+    same-length returns)

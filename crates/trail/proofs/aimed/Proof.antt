@@ -8,23 +8,8 @@ use Rattle.trail.proofs.Walkers.{goal-arc, goal-start, goal-lt, walker-
 use Rattle.trail.proofs.aimed.Statement.{statement}
 use Rattle.trail.proofs.aimed.Tie as tie
 
-nearest-requires : tie.Need-nearest-requires
-nearest-requires c κs = search needs
-
-mul-if1 : tie.Need-mul-if1
-mul-if1 c = search needs
-
-cast-i : tie.Need-cast-i
-cast-i c = search needs
-
-mul-tail-of : tie.Need-mul-tail-of
-mul-tail-of c = search needs
-
 element-copy-out-tail-of : tie.Need-element-copy-out-tail-of
 element-copy-out-tail-of c = omega (arith, c .before .before .pre .0 .few-links)
-
-tail-of-requires : tie.Need-tail-of-requires
-tail-of-requires c κs = search needs
 
 next-requires : tie.Need-next-requires
 unfolding tail
@@ -52,13 +37,5 @@ returns c =
 
 pub aimed-spec : {M : Type 1} → statement M
 aimed-spec =
-    tie.close
-    (tie.spec
-    nearest-requires
-    mul-if1
-    cast-i
-    mul-tail-of
-    element-copy-out-tail-of
-    tail-of-requires
-    next-requires
-    returns)
+    tie.close (tie.spec (λ c κs. search needs) (λ c. search needs) (λ c. search needs) (λ c. search needs) element-copy-out-tail-of
+    (λ c κs. search needs) next-requires returns)

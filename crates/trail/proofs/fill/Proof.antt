@@ -33,9 +33,6 @@ loop-holds c =
     let b = begins (s .pre .0) (c .begin .ensures) in
     (b .stands, omega (arith, ap length (b .rest)), refl, ap (sets (s .args .buf .now) 0) (b .rest))
 
-mul-buf : tie.Need-mul-buf Inv-loop μ-loop
-mul-buf c = search needs
-
 slice-write-buf : tie.Need-slice-write-buf Inv-loop μ-loop
 slice-write-buf c =
     let k = c .before .before .loop in
@@ -47,9 +44,6 @@ step-requires : tie.Need-step-requires Inv-loop μ-loop
 step-requires c κs =
     let s = c .before .before .before .before .before .before in
     (s .pre .0, (s .pre .1 .0, (s .pre .1 .1 .0, (c .before .before .loop .inv .0, omega (arith, c .if1 .taken)))))
-
-add-i : tie.Need-add-i Inv-loop μ-loop
-add-i c = search needs
 
 loop-less : tie.Need-loop-less Inv-loop μ-loop
 loop-less c =
@@ -79,18 +73,5 @@ returns c =
 
 pub fill-spec : {M : Type 1} → statement M
 fill-spec =
-    tie.close
-    (tie.spec
-    Inv-loop
-    μ-loop
-    mul-end
-    begin-requires
-    loop-holds
-    mul-buf
-    slice-write-buf
-    step-requires
-    add-i
-    loop-less
-    loop-again
-    same-length
-    returns)
+    tie.close (tie.spec Inv-loop μ-loop mul-end begin-requires loop-holds (λ c. search needs) slice-write-buf step-requires (λ c. search needs)
+    loop-less loop-again same-length returns)

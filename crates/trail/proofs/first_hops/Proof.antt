@@ -20,38 +20,14 @@ abbrev μ-loop : tie.MeasureT-loop
 mul-n : tie.Need-mul-n Inv-loop μ-loop
 mul-n c = omega (arith, c .pre .0 .few-links)
 
-cast-a : tie.Need-cast-a Inv-loop μ-loop
-cast-a c = search needs
-
 loop-holds : tie.Need-loop-holds Inv-loop μ-loop
 loop-holds c = (omega arith, hops-none (c .args .t1) (c .args .t2))
-
-sub-a : tie.Need-sub-a Inv-loop μ-loop
-sub-a c = search needs
 
 array-read-if1 : tie.Need-array-read-if1 Inv-loop μ-loop
 array-read-if1 c = omega (arith, c .before .before .pre .0 .few-links)
 
-mul-l : tie.Need-mul-l Inv-loop μ-loop
-mul-l c = search needs
-
 element-copy-out-l : tie.Need-element-copy-out-l Inv-loop μ-loop
 element-copy-out-l c = omega (arith, c .before .before .before .pre .0 .few-links)
-
-tail-of-requires : tie.Need-tail-of-requires Inv-loop μ-loop
-tail-of-requires c κs = search needs
-
-cast-x : tie.Need-cast-x Inv-loop μ-loop
-cast-x c = search needs
-
-head-of-requires : tie.Need-head-of-requires Inv-loop μ-loop
-head-of-requires c κs = search needs
-
-cast-y : tie.Need-cast-y Inv-loop μ-loop
-cast-y c = search needs
-
-mul-lower : tie.Need-mul-lower Inv-loop μ-loop
-mul-lower c = search needs
 
 array-copy-out-lower : tie.Need-array-copy-out-lower Inv-loop μ-loop
 unfolding head
@@ -60,18 +36,12 @@ array-copy-out-lower c =
     let s = in-loop .before .before in
     omega (arith, s .pre .0 .few-switches, c .head-of .ensures, head-lt (s .args .t1) (s .pre .0) (in-loop .before .loop .a - 1) (omega (arith, in-loop .before .loop .inv .0)))
 
-mul-lower-2 : tie.Need-mul-lower-2 Inv-loop μ-loop
-mul-lower-2 c = search needs
-
 array-copy-out-lower-2 : tie.Need-array-copy-out-lower-2 Inv-loop μ-loop
 unfolding tail
 array-copy-out-lower-2 c =
     let in-loop = c .before .before .before .before .before in
     let s = in-loop .before .before in
     omega (arith, s .pre .0 .few-switches, c .before .before .tail-of .ensures, tail-lt (s .args .t1) (s .pre .0) (in-loop .before .loop .a - 1) (omega (arith, in-loop .before .loop .inv .0)))
-
-mul-lower-3 : tie.Need-mul-lower-3 Inv-loop μ-loop
-mul-lower-3 c = search needs
 
 array-copy-out-lower-3 : tie.Need-array-copy-out-lower-3 Inv-loop μ-loop
 unfolding tail
@@ -80,24 +50,12 @@ array-copy-out-lower-3 c =
     let s = in-loop .before .before in
     omega (arith, s .pre .0 .few-switches, c .before .before .before .tail-of .ensures, tail-lt (s .args .t1) (s .pre .0) (in-loop .before .loop .a - 1) (omega (arith, in-loop .before .loop .inv .0)))
 
-cast-lower : tie.Need-cast-lower Inv-loop μ-loop
-cast-lower c = search needs
-
-lower-requires : tie.Need-lower-requires Inv-loop μ-loop
-lower-requires c κs = search needs
-
-mul-h : tie.Need-mul-h Inv-loop μ-loop
-mul-h c = search needs
-
 array-set-from-h : tie.Need-array-set-from-h Inv-loop μ-loop
 unfolding tail
 array-set-from-h c =
     let in-loop = c .before .before .before .before .before .before .before .before in
     let s = in-loop .before .before in
     omega (arith, s .pre .0 .few-switches, c .before .before .before .before .before .tail-of .ensures, tail-lt (s .args .t1) (s .pre .0) (in-loop .before .loop .a - 1) (omega (arith, in-loop .before .loop .inv .0)))
-
-loop-less : tie.Need-loop-less Inv-loop μ-loop
-loop-less c = search needs
 
 loop-again : tie.Need-loop-again Inv-loop μ-loop
 unfolding tail head
@@ -111,9 +69,6 @@ loop-again c =
           (of-head .before .tail-of .result) (of-head .head-of .result) (of-head .before .tail-of .ensures) (of-head .head-of .ensures) (c .lower .result) (c .lower .ensures)
           (true-T _ (then1 .if1 .taken)),
     )
-
-loop-less-2 : tie.Need-loop-less-2 Inv-loop μ-loop
-loop-less-2 c = search needs
 
 loop-again-2 : tie.Need-loop-again-2 Inv-loop μ-loop
 loop-again-2 c =
@@ -130,33 +85,7 @@ returns c =
 
 pub first-hops-spec : {M : Type 1} → statement M
 first-hops-spec =
-    tie.close
-    (tie.spec
-    Inv-loop
-    μ-loop
-    mul-n
-    cast-a
-    loop-holds
-    sub-a
-    array-read-if1
-    mul-l
-    element-copy-out-l
-    tail-of-requires
-    cast-x
-    head-of-requires
-    cast-y
-    mul-lower
-    array-copy-out-lower
-    mul-lower-2
-    array-copy-out-lower-2
-    mul-lower-3
-    array-copy-out-lower-3
-    cast-lower
-    lower-requires
-    mul-h
-    array-set-from-h
-    loop-less
-    loop-again
-    loop-less-2
-    loop-again-2
-    returns)
+    tie.close (tie.spec Inv-loop μ-loop mul-n (λ c. search needs) loop-holds (λ c. search needs) array-read-if1 (λ c. search needs)
+    element-copy-out-l (λ c κs. search needs) (λ c. search needs) (λ c κs. search needs) (λ c. search needs) (λ c. search needs)
+    array-copy-out-lower (λ c. search needs) array-copy-out-lower-2 (λ c. search needs) array-copy-out-lower-3 (λ c. search needs)
+    (λ c κs. search needs) (λ c. search needs) array-set-from-h (λ c. search needs) loop-again (λ c. search needs) loop-again-2 returns)

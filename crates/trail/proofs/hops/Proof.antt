@@ -59,16 +59,4 @@ returns c =
     omega (arith, k .inv .1, ap length (ends (c .before .before .before .before .before .pre .0) (k .inv .0) (c .if1 .left)))
 
 pub hops-spec : {M : Type 1} → statement M
-hops-spec =
-    tie.close
-    (tie.spec
-    Inv-loop
-    μ-loop
-    mul-n
-    begin-requires
-    loop-holds
-    step-requires
-    add-count
-    loop-less
-    loop-again
-    returns)
+hops-spec = tie.close (tie.spec Inv-loop μ-loop mul-n begin-requires loop-holds step-requires add-count loop-less loop-again returns)

@@ -20,12 +20,6 @@ Inv-loop u p used t crossed n x best₀ least₀ a₀ best least a = (a ≤ 2 * 
 abbrev μ-loop : tie.MeasureT-loop
 μ-loop u p used t crossed n x best₀ least₀ a₀ best least a = 2 * p .count - a
 
-cast-n : tie.Need-cast-n Inv-loop μ-loop
-cast-n c = search needs
-
-mul-n : tie.Need-mul-n Inv-loop μ-loop
-mul-n c = search needs
-
 add-least : tie.Need-add-least Inv-loop μ-loop
 add-least c = omega (arith, c .pre .0 .few-switches)
 
@@ -38,17 +32,8 @@ array-read-if1 c = omega (arith, c .before .before .pre .0 .few-links)
 array-read-if2 : tie.Need-array-read-if2 Inv-loop μ-loop
 array-read-if2 c = omega (arith, c .before .before .before .pre .0 .few-links)
 
-mul-l : tie.Need-mul-l Inv-loop μ-loop
-mul-l c = search needs
-
 element-copy-out-l : tie.Need-element-copy-out-l Inv-loop μ-loop
 element-copy-out-l c = omega (arith, c .before .before .before .before .pre .0 .few-links)
-
-tail-of-requires : tie.Need-tail-of-requires Inv-loop μ-loop
-tail-of-requires c κs = search needs
-
-cast-y : tie.Need-cast-y Inv-loop μ-loop
-cast-y c = search needs
 
 mul-d : tie.Need-mul-d Inv-loop μ-loop
 mul-d c = let s = c .before .before .before .before .before .before in omega (arith, s .pre .0 .few-switches)
@@ -59,12 +44,6 @@ index-1-d c = let s = c .before .before .before .before .before .before in omega
 index-2-d : tie.Need-index-2-d Inv-loop μ-loop
 unfolding tail
 index-2-d c = let in-loop = c .before .before .before .before in let s = in-loop .before .before in omega (arith, s .pre .0 .few-switches, c .tail-of .ensures, tail-lt (s .args .t1) (s .pre .0) _ (in-loop .loop-test .taken))
-
-add-a : tie.Need-add-a Inv-loop μ-loop
-add-a c = search needs
-
-loop-less : tie.Need-loop-less Inv-loop μ-loop
-loop-less c = search needs
 
 loop-again : tie.Need-loop-again Inv-loop μ-loop
 unfolding tail
@@ -97,25 +76,6 @@ returns c = let k = c .before .loop in best-all _ _ _ _ _ _ _ (k .a) (k .best) (
 
 pub nearest-spec : {M : Type 1} → statement M
 nearest-spec =
-    tie.close
-    (tie.spec
-    Inv-loop
-    μ-loop
-    cast-n
-    mul-n
-    add-least
-    loop-holds
-    array-read-if1
-    array-read-if2
-    mul-l
-    element-copy-out-l
-    tail-of-requires
-    cast-y
-    mul-d
-    index-1-d
-    index-2-d
-    add-a
-    loop-less
-    loop-again
-    cast-result
-    returns)
+    tie.close (tie.spec Inv-loop μ-loop (λ c. search needs) (λ c. search needs) add-least loop-holds array-read-if1 array-read-if2
+    (λ c. search needs) element-copy-out-l (λ c κs. search needs) (λ c. search needs) mul-d index-1-d index-2-d (λ c. search needs)
+    (λ c. search needs) loop-again cast-result returns)

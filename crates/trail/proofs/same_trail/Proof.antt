@@ -37,12 +37,6 @@ returns c =
     let go = steps (s .pre .0) (k .inv .0) (c .before .if1 .taken) refl in
     same-short (s .args .lent .now) _ _ (k .k) _ (go .rest) (c .if2 .taken) ∙ k .inv .2
 
-mul-if3 : tie.Need-mul-if3 Inv-loop μ-loop
-mul-if3 c = search needs
-
-shared-slice-read-if3 : tie.Need-shared-slice-read-if3 Inv-loop μ-loop
-shared-slice-read-if3 c = search needs
-
 returns-2 : tie.Need-returns-2 Inv-loop μ-loop
 returns-2 c =
     let else2 = c .before .before .before in
@@ -87,19 +81,5 @@ returns-3 c =
 
 pub same-trail-spec : {M : Type 1} → statement M
 same-trail-spec =
-    tie.close
-    (tie.spec
-    Inv-loop
-    μ-loop
-    mul-n
-    begin-requires
-    loop-holds
-    returns
-    mul-if3
-    shared-slice-read-if3
-    returns-2
-    step-requires
-    add-k
-    loop-less
-    loop-again
-    returns-3)
+    tie.close (tie.spec Inv-loop μ-loop mul-n begin-requires loop-holds returns (λ c. search needs) (λ c. search needs) returns-2 step-requires
+    add-k loop-less loop-again returns-3)

@@ -10,21 +10,6 @@ use Rattle.trail.proofs.OnTheWay.{to-is, on-the-way}
 use Rattle.trail.proofs.step.Statement.{statement}
 use Rattle.trail.proofs.step.Tie as tie
 
-cast-a : tie.Need-cast-a
-cast-a c = search needs
-
-mul-head-of : tie.Need-mul-head-of
-mul-head-of c = search needs
-
-element-copy-out-head-of : tie.Need-element-copy-out-head-of
-element-copy-out-head-of c = search needs
-
-head-of-requires : tie.Need-head-of-requires
-head-of-requires c κs = search needs
-
-element-write-v : tie.Need-element-write-v
-element-write-v c = search needs
-
 aimed-requires : tie.Need-aimed-requires
 unfolding head
 aimed-requires c κs =
@@ -59,14 +44,5 @@ returns-2 c =
 
 pub step-spec : {M : Type 1} → statement M
 step-spec =
-    tie.close
-    (tie.spec
-    cast-a
-    mul-head-of
-    element-copy-out-head-of
-    head-of-requires
-    element-write-v
-    aimed-requires
-    returns
-    next-requires
-    returns-2)
+    tie.close (tie.spec (λ c. search needs) (λ c. search needs) (λ c. search needs) (λ c κs. search needs) (λ c. search needs) aimed-requires
+    returns next-requires returns-2)

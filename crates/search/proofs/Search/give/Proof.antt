@@ -8,17 +8,8 @@ use Rattle.search.specs.Search.{give}
 use Rattle.search.proofs.Search.give.Statement.{statement}
 use Rattle.search.proofs.Search.give.Tie as tie
 
-judge-requires : tie.Need-judge-requires
-judge-requires c κs = search needs
-
-enum-told : tie.Need-enum-told
-enum-told c = search needs
-
 next-requires : tie.Need-next-requires
 next-requires c κs = judged-sound (c .before .before .before .args .self) _ (c .before .before .judge .ensures) (c .enum-told .given .1)
-
-enum-known-k : tie.Need-enum-known-k
-enum-known-k c = search needs
 
 returns : tie.Need-returns
 unfolding give
@@ -29,5 +20,4 @@ unfolding give
 returns-2 c = sym (turned-down _ _ (c .before .before .before .judge .ensures) _ _ (c .before .k .given .1))
 
 pub give-spec : {M : Type 1} → statement M
-give-spec =
-    tie.close (tie.spec judge-requires enum-told next-requires enum-known-k returns returns-2)
+give-spec = tie.close (tie.spec (λ c κs. search needs) (λ c. search needs) next-requires (λ c. search needs) returns returns-2)

@@ -5,12 +5,6 @@ use borrow.Author.Needs.{needs}
 use Rattle.search.proofs.Search.judge.Statement.{statement}
 use Rattle.search.proofs.Search.judge.Tie as tie
 
-sound-requires : tie.Need-sound-requires
-sound-requires c κs = search needs
-
-ended-requires : tie.Need-ended-requires
-ended-requires c κs = search needs
-
 returns : tie.Need-returns
 returns c = record { first = simp (sym (c .before .before .sound .ensures) ∙ not-true _ (c .if1 .taken)) }
 
@@ -25,4 +19,4 @@ returns-3 c =
     record { first = simp (sym (k .before .before .sound .ensures) ∙ not-false _ (k .if1 .left), sym (k .before .ended .ensures) ∙ c .if2 .left) }
 
 pub judge-spec : {M : Type 1} → statement M
-judge-spec = tie.close (tie.spec sound-requires ended-requires returns returns-2 returns-3)
+judge-spec = tie.close (tie.spec (λ c κs. search needs) (λ c κs. search needs) returns returns-2 returns-3)
