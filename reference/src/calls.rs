@@ -30,7 +30,7 @@ fn named(net: &Net, switch: u8) -> Answer<usize> {
     if switch < net.plant.switches {
         Ok(usize::from(switch))
     } else {
-        Err(Refusal::SwitchOutside)
+        Err(Refusal::SwitchOutOfRange)
     }
 }
 
@@ -39,14 +39,14 @@ fn same_trail(net: &Net, trail: &[u16]) -> Answer<()> {
     if Trail::new(net).is(trail) {
         Ok(())
     } else {
-        Err(Refusal::OtherTrail)
+        Err(Refusal::TrailDiffers)
     }
 }
 
 /// Refusal 13.
 fn enough(net: &Net, states: &[u8]) -> Answer<()> {
     if states.len() < net.links() {
-        Err(Refusal::FewStates)
+        Err(Refusal::StatesShort)
     } else {
         Ok(())
     }

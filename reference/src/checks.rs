@@ -107,7 +107,7 @@ fn marked_probes() {
 fn marked_quantities() {
     assert_eq!(quantity(5, 10), Ok(6));
     assert_eq!(quantity(5, 0), Ok(5));
-    assert_eq!(quantity(5, 101), Err(Refusal::SpareAbove));
+    assert_eq!(quantity(5, 101), Err(Refusal::SpareTooLarge));
 }
 
 #[test]
@@ -169,7 +169,7 @@ fn quantity_rule() {
         }
     }
     for percent in 101..=255 {
-        assert_eq!(quantity(0, percent), Err(Refusal::SpareAbove));
+        assert_eq!(quantity(0, percent), Err(Refusal::SpareTooLarge));
     }
 }
 
@@ -660,9 +660,9 @@ fn search_states() {
         Search::Halving(65535, 65535),
     ];
     for state in bad {
-        assert_eq!(state.ask(), Err(Refusal::BadSearch));
-        assert_eq!(state.give(true), Err(Refusal::BadSearch));
-        assert_eq!(state.check_for(256), Err(Refusal::BadSearch));
+        assert_eq!(state.ask(), Err(Refusal::SearchUnsound));
+        assert_eq!(state.give(true), Err(Refusal::SearchUnsound));
+        assert_eq!(state.check_for(256), Err(Refusal::SearchUnsound));
     }
     for state in [Search::AllUp, Search::Down(1), Search::Down(256)] {
         assert_eq!(state.ask(), Err(Refusal::SearchEnded));
@@ -674,7 +674,7 @@ fn search_states() {
         Search::Halving(1, 5),
         Search::Down(5),
     ] {
-        assert_eq!(state.check_for(4), Err(Refusal::BadSearch));
+        assert_eq!(state.check_for(4), Err(Refusal::SearchUnsound));
     }
     assert_eq!(Search::Checking(1).give(false), Ok(Search::Down(1)));
     assert_eq!(Search::Checking(3).give(false), Ok(Search::Halving(1, 3)));

@@ -22,7 +22,7 @@ impl Reading<'_> {
     fn part(&mut self, widths: Widths, absent: [u16; 3]) -> Answer<[u16; 3]> {
         let map = *self.bytes.get(self.at).ok_or(Refusal::MapMissing)?;
         if map & !DEFINED != 0 {
-            return Err(Refusal::UndefinedBit);
+            return Err(Refusal::MapUndefined);
         }
         let mut at = self.at + 1;
         let mut values = absent;
@@ -42,7 +42,7 @@ impl Reading<'_> {
             }
         }
         if needless {
-            return Err(Refusal::FieldNeedless);
+            return Err(Refusal::FieldRedundant);
         }
         self.at = at;
         Ok(values)
@@ -61,7 +61,7 @@ pub fn read(listing: &[u8]) -> Answer<Plant> {
     plant.links = links;
     plant.start = start as u8;
     if !plant.header_in_range() {
-        return Err(Refusal::OutsideRange);
+        return Err(Refusal::ValueOutOfRange);
     }
     let mut before = Link::default();
     for place in 0..usize::from(links) {
@@ -134,7 +134,7 @@ pub fn write(plant: &Plant, buffer: &mut [u8]) -> Answer<usize> {
             .iter()
             .any(|place| *place != Link::default())
     {
-        return Err(Refusal::OutsideRange);
+        return Err(Refusal::ValueOutOfRange);
     }
     for link in plant.records() {
         plant.try_link(*link)?;

@@ -123,7 +123,7 @@ impl Net {
         };
         visit.enter(usize::from(plant.start), None);
         if visit.visited != plant.switches {
-            return Err(Refusal::NotReached);
+            return Err(Refusal::NotConnected);
         }
         let mut used = [false; Plant::MAX_ARCS];
         let mut bridges = 0;

@@ -7,38 +7,38 @@ pub enum Refusal {
     /// A part's map byte is missing.
     MapMissing = 1,
     /// A map has an undefined bit.
-    UndefinedBit = 2,
+    MapUndefined = 2,
     /// The bytes end before a field whose bit is set.
     FieldMissing = 3,
     /// A field is given with the value that its absence means.
-    FieldNeedless = 4,
+    FieldRedundant = 4,
     /// A header value is outside its range, the start is not below S, or a
     /// plant place past E is not zero.
-    OutsideRange = 5,
+    ValueOutOfRange = 5,
     /// A link's end is not below S.
-    EndOutside = 6,
+    EndOutOfRange = 6,
     /// A link joins a switch to itself.
     SelfLink = 7,
     /// Bytes remain after the last record.
     BytesRemain = 8,
     /// Some switch can't be reached from the start.
-    NotReached = 9,
+    NotConnected = 9,
     /// The lent buffer has fewer places than the trail has hops.
     TrailBufferShort = 10,
     /// A named switch is not below S.
-    SwitchOutside = 11,
+    SwitchOutOfRange = 11,
     /// The lent trail differs from the listing's trail.
-    OtherTrail = 12,
+    TrailDiffers = 12,
     /// There are fewer link-state bytes than E.
-    FewStates = 13,
+    StatesShort = 13,
     /// A search state that cannot be, or cannot be of this plant.
-    BadSearch = 14,
+    SearchUnsound = 14,
     /// A fate is given to, or a probe is wanted of, All up or Down.
     SearchEnded = 15,
     /// The buffer lent to the writer is shorter than the listing.
     ListingBufferShort = 16,
     /// The spare is above 100.
-    SpareAbove = 17,
+    SpareTooLarge = 17,
 }
 
 impl Refusal {
@@ -105,7 +105,7 @@ impl Plant {
     /// Refusals 6 and 7 for one link.
     pub(crate) fn try_link(&self, link: Link) -> Answer<()> {
         if link.first >= self.switches || link.second >= self.switches {
-            return Err(Refusal::EndOutside);
+            return Err(Refusal::EndOutOfRange);
         }
         if link.first == link.second {
             return Err(Refusal::SelfLink);

@@ -30,7 +30,7 @@ impl Search {
             Search::Halving(low, high) => 1 <= low && low < high && high <= MAX,
             Search::AllUp => true,
         };
-        sound.then_some(()).ok_or(Refusal::BadSearch)
+        sound.then_some(()).ok_or(Refusal::SearchUnsound)
     }
 
     /// Refusal 14 in a call with a listing of so many links.
@@ -42,7 +42,7 @@ impl Search {
             Search::AllUp => true,
             Search::Down(place) => place <= links,
         };
-        fits.then_some(()).ok_or(Refusal::BadSearch)
+        fits.then_some(()).ok_or(Refusal::SearchUnsound)
     }
 
     /// The probe wanted; refusals 14 and 15.
@@ -92,7 +92,7 @@ pub fn allowance(links: u16) -> u8 {
 /// A rules and a spare of p percent, rounded up; refusal 17.
 pub fn quantity(rules: u16, percent: u8) -> Answer<u32> {
     if percent > 100 {
-        return Err(Refusal::SpareAbove);
+        return Err(Refusal::SpareTooLarge);
     }
     let rules = u32::from(rules);
     Ok(rules + (rules * u32::from(percent)).div_ceil(100))
