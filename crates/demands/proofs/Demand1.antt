@@ -6,8 +6,8 @@ use Rattle.plant.specs.declared.Plant.{Plant}
 use Rattle.answers.specs.Answers.{refused}
 use Rattle.answers.specs.Checks.{Checked, answer, leaves, AnswersInto}
 use Rattle.answers.proofs.Checks.{answers, left-kept}
-use Rattle.listing.specs.Conditions.{writing}
-use Rattle.listing.proofs.Shim.{buffer-refused}
+use Rattle.listing.specs.Writing.{writing}
+use Rattle.listing.proofs.WriteRoundTrip.{buffer-refused}
 use Rattle.planner.specs.Calls.{rewriting, rewritten, rereading, trailing, laidOut}
 use Rattle.demands.specs.Demands.{Demand1}
 

@@ -14,10 +14,13 @@ use Rattle.answers.specs.Answers.{Answer, given, refused}
 use Rattle.answers.specs.Checks.{check, answer, leaves}
 use Rattle.answers.proofs.Checks.{given-refused, refused-refused, goes-on, gives-so}
 use Rattle.limits.specs.Sound.{Sound}
-use Rattle.listing.specs.Field.{Bytes}
+use Rattle.codec.specs.Field.{Bytes}
 use Rattle.listing.specs.Listing.{encode}
-use Rattle.listing.specs.Conditions.{reading, writing}
-use Rattle.listing.proofs.Shim.{read-write, write-read, decode-sound, sound-written, buffer-written, refusal-numbers}
+use Rattle.listing.specs.Listing.{reading}
+use Rattle.listing.specs.Writing.{writing}
+use Rattle.listing.proofs.RoundTrip.{read-write, write-read, decode-sound}
+use Rattle.listing.proofs.WriteRoundTrip.{sound-written, buffer-written}
+use Rattle.listing.proofs.Refusing.{refusal-numbers}
 use Rattle.walks.specs.Graph.{Connected, connected}
 use Rattle.walks.proofs.Valid.{sound-valid}
 use Rattle.walks.proofs.Tests.{bridge-is, connected-is}

@@ -6,7 +6,7 @@ use Rattle.plant.specs.declared.Plant.{Plant}
 use Rattle.answers.specs.Answers.{given}
 use Rattle.answers.specs.Checks.{answer}
 use Rattle.answers.proofs.Checks.{gives-so}
-use Rattle.listing.specs.Field.{Bytes}
+use Rattle.codec.specs.Field.{Bytes}
 use Rattle.walks.specs.Graph.{liveLinks}
 use Rattle.search.specs.Search.{newSearch}
 use Rattle.table.specs.Rules.{tableOf}

@@ -15,9 +15,10 @@ use Rattle.answers.specs.Checks.{check, answer, Answers, AnswersInto}
 use Rattle.plant.specs.declared.Plant.{Plant}
 use Rattle.plant.specs.Links.{live}
 use Rattle.limits.specs.Sound.{Sound}
-use Rattle.listing.specs.Field.{Bytes}
+use Rattle.codec.specs.Field.{Bytes}
 use Rattle.listing.specs.Listing.{encode}
-use Rattle.listing.specs.Conditions.{reading, writing}
+use Rattle.listing.specs.Listing.{reading}
+use Rattle.listing.specs.Writing.{writing}
 use Rattle.listing.specs.Writing.{bufferAfter}
 use Rattle.walks.specs.Arcs.{tail, head}
 use Rattle.walks.specs.Graph.{Crosses, ClosedWalk, Connected, Bridge, visited, bridge, used, liveLinks, bridges}

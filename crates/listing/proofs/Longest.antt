@@ -3,21 +3,22 @@ use mathlib.Core.Path.{_≡_, refl, ap}
 use mathlib.Core.List.{List, [], _∷_}
 use Prim.Native.Nat.{ℕ, zero, suc, _+_, _*_, _^_, _≤_, _<_}
 use native.Mathlib.Omega.{arith}
-use lib.ListN.{length, length-append, length-take}
+use lib.ListN.{length}
 use Rattle.lists.proofs.Members.{Each, each-at}
 use Rattle.plant.specs.declared.Link.{Link}
 use Rattle.plant.specs.declared.Plant.{Plant}
 use Rattle.plant.specs.Links.{zeroLink}
 use Rattle.answers.specs.Answers.{given}
+use Rattle.answers.specs.Checks.{answer}
+use Rattle.answers.proofs.Checks.{given-exactly}
 use Rattle.limits.specs.Limits.{maxSwitches, maxLinks}
 use Rattle.limits.specs.Sound.{Sound}
-use Rattle.listing.specs.Part.{afterPart, partBytes}
-use Rattle.listing.specs.Listing.{headerFields, linkFields, linkOf, linksOf, headerBytes, linkBytes, linksBytes, encode, decode, valueOutOfRange, endOutOfRange, selfLink, soundLink}
+use Rattle.codec.specs.Part.{part, partBytes}
+use Rattle.codec.proofs.PartRoundTrip.{widths, read-length}
+use Rattle.listing.specs.Listing.{headerFields, linkFields, linkOf, headerBytes, linkBytes, encode, header, link, links, reading, valueOutOfRange, endOutOfRange, selfLink, soundLink}
 use Rattle.listing.specs.Writing.{plantOutOfRange, soundPlant}
-use Rattle.listing.specs.Conditions.{headerIn, linkIn, afterLinks, Typed}
-use Rattle.listing.proofs.PartRoundTrip.{widths, part-longest, read-length}
-use Rattle.listing.proofs.Refusing.{decode-gives}
-use Rattle.listing.proofs.RoundTrip.{none-of, write-read}
+use Rattle.listing.specs.Steps.{Typed}
+use Rattle.listing.proofs.RoundTrip.{heads, follow, none-of, write-read}
 use Rattle.listing.proofs.WriteRoundTrip.{sound-exactly}
 
 -- a record with all its fields
@@ -33,25 +34,21 @@ longest-is = refl
 
 -- ---- none is longer
 
-links-length : (n : ℕ) (before : Link) (s : List ℕ) → length s ≤ n * longestRecord + length (afterLinks n before s)
-links-length zero before s = omega arith
-links-length (suc n) before s = omega (arith, read-length (linkFields before) s, links-length n (linkIn before s) (afterPart (linkFields before) s))
+links-length : (switches n : ℕ) (before : Link) (s : List ℕ) → length s ≤ n * longestRecord + length (links switches n before s .result .1)
+unfolding links link part
+links-length switches zero before s = omega arith
+links-length switches (suc n) before s =
+    let r = link switches before s .result in omega (arith, read-length (linkFields before) s, links-length switches n (r .0) (r .1))
 
-pub longest : (s : List ℕ) (p : Plant) → decode s ≡ given p → length s ≤ longestListing
+pub longest : (s : List ℕ) (p : Plant) → answer (reading s) ≡ given p → length s ≤ longestListing
+unfolding header part
 longest s p e =
-    let n = none-of s (decode-gives s p .0 e .0) in
-    let k = headerIn s .count in
-    omega (arith, read-length headerFields s, links-length k zeroLink (afterPart headerFields s), ap length (n .at-end), n .in-range .few-links)
+    let n = none-of s (given-exactly (reading s .checks) (reading s .result) p .0 e .0) in
+    omega (arith, read-length headerFields s, links-length (heads s .switches) (heads s .count) zeroLink (follow s), ap length (n .at-end), n .in-range .few-links)
 
-linksBytes-length : (before : Link) (ls : List Link) → length (linksBytes before ls) ≤ length ls * longestRecord
-unfolding linkBytes
-linksBytes-length before [] = omega arith
-linksBytes-length before (l ∷ ls) = rw length-append (omega (arith, part-longest (linkFields before) (l .first ∷ l .second ∷ l .tag ∷ []), linksBytes-length l ls))
-
--- what is written of any plant whose count is in range is no longer
-pub encode-length : (p : Plant) → p .count ≤ maxLinks → length (encode p) ≤ longestListing
-unfolding encode headerBytes
-encode-length p h = rw length-append (omega (arith, part-longest headerFields (p .switches ∷ p .count ∷ p .start ∷ []), linksBytes-length zeroLink (linksOf p), length-take (p .count) (p .links)))
+-- so is what is written of a sound plant
+pub encode-length : (p : Plant) → Sound p → length (encode p) ≤ longestListing
+encode-length p s = longest (encode p) p (write-read p s)
 
 -- ---- one is as long: each end differs from that of the record before
 
@@ -77,6 +74,6 @@ longest-sound : Sound longestPlant
 unfolding longestPlant soundPlant plantOutOfRange valueOutOfRange soundLink endOutOfRange selfLink
 longest-sound = sound-exactly longestPlant longest-typed .0 refl
 
-pub longest-attained : (length (encode longestPlant) ≡ longestListing) × (decode (encode longestPlant) ≡ given longestPlant)
+pub longest-attained : (length (encode longestPlant) ≡ longestListing) × (answer (reading (encode longestPlant)) ≡ given longestPlant)
 unfolding longestPlant encode headerBytes linkBytes partBytes
 longest-attained = (refl, write-read longestPlant longest-sound)

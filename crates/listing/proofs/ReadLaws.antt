@@ -1,114 +1,192 @@
 -- The header, a link and the links as the code reads them, at places of the listing, against their definitions. Assumes nothing.
-use mathlib.Core.Path.{_≡_, refl, sym, ap, _∙_, subst}
-use mathlib.Core.Bool.{false}
-use mathlib.Core.List.{List}
-use Prim.Native.Nat.{ℕ, _^_, _≤_, _<_}
-use borrow.Author.Tests.{leb-true, ltb-true, eqb-false, not-false}
-use lib.ListN.{getD, drop}
-use Rattle.lists.proofs.Tests.{and-true}
+use mathlib.Core.Path.{_≡_, refl, sym, ap, _∙_}
+use mathlib.Core.Bool.{Bool, true, false}
+use mathlib.Core.List.{List, [], _∷_, _++_, append-assoc, append-nil}
+use Prim.Native.Nat.{ℕ, suc, _+_, _-_, _^_, _≤_, _<_}
+use native.Mathlib.Omega.{arith}
+use borrow.Author.Tests.{lt-ltb, le-ltb}
+use Rattle.lists.proofs.Padded.{padded-put}
+use lib.ListN.{length, getD, take, drop, set, replicate, length-append, length-drop, length-replicate}
+use lib.Seq.{getD-take, getD-set-same}
 use Rattle.plant.specs.declared.Link.{Link}
 use Rattle.plant.specs.declared.Plant.{Plant}
-use Rattle.plant.specs.Links.{plantWith}
-use Rattle.answers.specs.Answers.{Answer, given, refused, refuse, numberOf}
+use Rattle.plant.specs.Links.{zeroLink, plantWith}
 use Rattle.answers.specs.declared.Refusal.{Refusal}
-use Rattle.answers.proofs.Checks.{given-given, refuse-given, then-given}
-use Rattle.limits.specs.Limits.{maxSwitches, maxLinks}
-use Rattle.listing.specs.declared.Field.{Field}
-use Rattle.listing.specs.declared.Fields.{Fields}
-use Rattle.listing.specs.declared.Part.{Part}
-use Rattle.listing.specs.declared.Part.the-variants as part-is
-use Rattle.listing.specs.declared.Header.{Header}
-use Rattle.listing.specs.declared.Header.the-variants as header-is
-use Rattle.listing.specs.Part.{part}
-use Rattle.listing.specs.Listing.{field, headerFields, headerFrom, headerOutOfRange, judgedHeader, linkFields, valueOutOfRange, endOutOfRange, selfLink, soundLink, judged, linkOf, header, link, afterHeader, decode}
-use Rattle.listing.specs.Answers.{fieldList, partAnswer, Fits, headerAnswer}
+use Rattle.answers.specs.declared.Verdict.the-variants as verdict
+use Rattle.answers.specs.Answers.{Answer, given, refused, refuse, _>>=_, numberOf}
+use Rattle.answers.specs.Checks.{Checked, check, answer, _then_}
+use Rattle.answers.proofs.Checks.{then-is, goes-on, stops}
+use Rattle.limits.specs.Limits.{maxLinks}
+use Rattle.codec.specs.declared.Layout.{Layout}
+use Rattle.codec.specs.declared.Part.{Part}
+use Rattle.codec.specs.Field.{Bytes}
+use Rattle.codec.specs.Layout.{Lays, ReadsPart}
+use Rattle.codec.specs.Part.{part}
+use Rattle.codec.proofs.PartRoundTrip.{hold-at, hold-fits, bytes-drop, part-read}
+use Rattle.codec.proofs.PartLaws.{part-given, part-refused}
+use Rattle.listing.specs.declared.Record.{Record}
+use Rattle.listing.specs.declared.Record.the-variants as record-is
+use Rattle.listing.specs.Listing.{field, headerFields, linkFields, valueOutOfRange, headerOutOfRange, headerFrom, header, linkOf, linkFrom, soundLink, link, links, withLinks, linked, bytesRemain, ended}
+use Rattle.listing.specs.Steps.{recordAnswer, judgedLink}
 
--- ---- header
+-- ---- the first three values of a part
 
-pub record InRange (switches count start : ℕ) : Type 0 where
-  pub some-switch : 1 ≤ switches
-  pub few-switches : switches ≤ maxSwitches
-  pub few-links : count ≤ maxLinks
-  pub start-in : start < switches
+module _ (vs : List ℕ) where
+  at-0 : getD (take 3 vs) 0 0 ≡ getD vs 0 0
+  at-0 = getD-take 3 vs 0 0 (omega arith)
 
-pub in-range : (switches count start : ℕ) → valueOutOfRange switches count start ≡ false → InRange switches count start
-unfolding valueOutOfRange
-in-range a b c e =
-    let t = not-false _ e in
-    let q = and-true _ _ t in
-    let r = and-true _ _ (q .0) in
-    let u = and-true _ _ (r .0) in
-    record { some-switch = leb-true 1 a (u .0); few-switches = leb-true a maxSwitches (u .1); few-links = leb-true b maxLinks (r .1); start-in = ltb-true c a (q .1) }
+  at-1 : getD (take 3 vs) 1 0 ≡ getD vs 1 0
+  at-1 = getD-take 3 vs 1 0 (omega arith)
 
--- a link that is not refused
-pub record Ends (switches : ℕ) (l : Link) : Type 0 where
-  pub first-in : l .first < switches
-  pub second-in : l .second < switches
-  pub apart : l .first ≡ l .second → ⊥
+  at-2 : getD (take 3 vs) 2 0 ≡ getD vs 2 0
+  at-2 = getD-take 3 vs 2 0 (omega arith)
 
-pub sound-ends : (switches : ℕ) (l : Link) → soundLink switches l ≡ given tt → Ends switches l
-unfolding soundLink endOutOfRange selfLink
-sound-ends switches l e =
-    let six = refuse-given 6 (endOutOfRange switches l) (refuse 7 (selfLink l) (given tt)) tt e in
-    let seven = refuse-given 7 (selfLink l) (given tt) tt (six .1) in
-    let q = and-true _ _ (not-false _ (six .0)) in
-    record { first-in = ltb-true _ _ (q .0); second-in = ltb-true _ _ (q .1); apart = eqb-false _ _ (seven .0) }
+-- ---- the header at `at`, of which the code answers r
 
--- the header of a listing that has one: the values of its fields are in range
-pub header-given : (t rest : List ℕ) (p : Plant) → header t ≡ given (p, rest)
-    → (vs : List ℕ) × (part headerFields t ≡ given (vs, rest)) × (p ≡ headerFrom vs) × InRange (p .switches) (p .count) (p .start)
-unfolding header judgedHeader plantWith
-header-given t rest p e = (q .0 .0, q .1 ∙ ap (λ (r : List ℕ). given (q .0 .0, r)) (ap (λ (z : Plant × List ℕ). z .1) same), sym of, subst (λ (x : Plant). InRange (x .switches) (x .count) (x .start)) of (in-range _ _ _ (u .0)))
-  where
-    q : (x : List ℕ × List ℕ) × (part headerFields t ≡ given x) × (judgedHeader (x .0) (x .1) ≡ given (p, rest))
-    q = then-given (part headerFields t) (λ r. judgedHeader (r .0) (r .1)) (p, rest) e
+judgeHeader : List ℕ × List ℕ → Checked (Plant × List ℕ)
+judgeHeader q = check ((5, headerOutOfRange (q .0)) ∷ []) (headerFrom (q .0), q .1)
 
-    u : (headerOutOfRange (q .0 .0) ≡ false) × (_≡_ {A = Answer (Plant × List ℕ)} (given (headerFrom (q .0 .0), q .0 .1)) (given (p, rest)))
-    u = refuse-given {A = Plant × List ℕ} 5 (headerOutOfRange (q .0 .0)) (given (headerFrom (q .0 .0), q .0 .1)) (p, rest) (q .2)
+module _ {most : ℕ} {l : Layout} {s : List ℕ} {at : ℕ} {r : Part} (y : Lays most headerFields l) (p : ReadsPart l s at r) where
+  pub header-stops : (k : Refusal) → r .verdict ≡ verdict.Refused k → answer (header (drop at s)) ≡ refused (numberOf k)
+  unfolding header judgeHeader
+  header-stops k e = stops (part headerFields (drop at s)) judgeHeader (numberOf k) (part-refused y p k e)
 
-    same : _≡_ {A = Plant × List ℕ} (headerFrom (q .0 .0), q .0 .1) (p, rest)
-    same = given-given {A = Plant × List ℕ} (headerFrom (q .0 .0), q .0 .1) (p, rest) (u .1)
+  module _ (ok : r .verdict ≡ verdict.Accepted) (b : Bool) (is : b ≡ valueOutOfRange (getD (r .values) 0 0) (getD (r .values) 1 0) (getD (r .values) 2 0)) where
+    header-values : answer (header (drop at s)) ≡ refuse 5 b (given (plantWith maxLinks (getD (r .values) 0 0) (getD (r .values) 1 0) (getD (r .values) 2 0), drop (r .next) s))
+    unfolding header judgeHeader
+    header-values =
+        goes-on (part headerFields (drop at s)) judgeHeader (take 3 (r .values), drop (r .next) s) (part-given y p ok)
+        ∙ rw (at-0 (r .values), at-1 (r .values), at-2 (r .values), is) refl
 
-    of : headerFrom (q .0 .0) ≡ p
-    of = ap (λ (z : Plant × List ℕ). z .0) same
+    pub header-range : b ≡ true → answer (header (drop at s)) ≡ refused 5
+    header-range e = rw e at header-values
 
-module _ (s : List ℕ) (r : Header) where
-  pub header-few : (a b c next : ℕ) (t : List ℕ) → headerAnswer s r ≡ header t → r ≡ header-is.Values a b c next → b ≤ maxLinks
-  unfolding plantWith
-  header-few a b c next t e f = header-given t (drop next s) (plantWith maxLinks a b c) (sym e ∙ ap (headerAnswer s) f) .3 .few-links
+    pub header-given : b ≡ false → answer (header (drop at s)) ≡ given (plantWith maxLinks (getD (r .values) 0 0) (getD (r .values) 1 0) (getD (r .values) 2 0), drop (r .next) s)
+    header-given e = rw e at header-values
 
-  pub decode-header : (a b c next at : ℕ) → headerAnswer s r ≡ header (drop at s) → r ≡ header-is.Values a b c next
-      → afterHeader (plantWith maxLinks a b c) (drop next s) ≡ decode (drop at s)
-  unfolding decode
-  decode-header a b c next at e f = rw (sym e ∙ ap (headerAnswer s) f) refl
+-- ---- so is the record at `at`, after the record `before`
 
-  pub decode-refused : (k : Refusal) (at : ℕ) → headerAnswer s r ≡ header (drop at s) → r ≡ header-is.Refused k → refused (numberOf k) ≡ decode (drop at s)
-  unfolding decode
-  decode-refused k at e f = rw (sym e ∙ ap (headerAnswer s) f) refl
+judgeLink : ℕ → List ℕ × List ℕ → Checked (Link × List ℕ)
+judgeLink switches q = soundLink switches (linkFrom (q .0)) then λ _. check [] (linkFrom (q .0), q .1)
 
--- ---- a part with the fields fs, of which the code answers r
+module _ (before : Link) {most : ℕ} {l : Layout} {s : List ℕ} {at : ℕ} {r : Part} (y : Lays most (linkFields before) l) (p : ReadsPart l s at r) where
+  pub link-stops : (switches : ℕ) (k : Refusal) → r .verdict ≡ verdict.Refused k → refused (numberOf k) ≡ answer (link switches before (drop at s))
+  unfolding link judgeLink
+  link-stops switches k e = sym (stops (part (linkFields before) (drop at s)) (judgeLink switches) (numberOf k) (part-refused y p k e))
 
-module _ (s : List ℕ) (at : ℕ) (r : Part) (fs : List Field) (e : partAnswer s r ≡ part fs (drop at s)) where
-  module _ (is : fs ≡ headerFields) where
-    pub header-values : (a b c next : ℕ) → r ≡ part-is.Values a b c next
-        → refuse 5 (valueOutOfRange a b c) (given (plantWith maxLinks a b c, drop next s)) ≡ header (drop at s)
-    unfolding header judgedHeader
-    header-values a b c next f = rw (sym is, sym e ∙ ap (partAnswer s) f) refl
+  module _ (ok : r .verdict ≡ verdict.Accepted) where
+    pub link-values : (switches : ℕ) → judgedLink switches (linkOf (getD (r .values) 0 0) (getD (r .values) 1 0) (getD (r .values) 2 0)) (drop (r .next) s) ≡ answer (link switches before (drop at s))
+    unfolding link judgeLink
+    link-values switches =
+        let k = linkFrom (take 3 (r .values)) in
+        sym
+        (goes-on (part (linkFields before) (drop at s)) (judgeLink switches) (take 3 (r .values), drop (r .next) s) (part-given y p ok)
+        ∙ then-is (soundLink switches k) (λ _. check [] (k, drop (r .next) s))
+        ∙ rw (at-0 (r .values), at-1 (r .values), at-2 (r .values)) refl)
 
-    pub header-refused : (k : Refusal) → r ≡ part-is.Refused k → refused (numberOf k) ≡ header (drop at s)
-    unfolding header
-    header-refused k f = rw (sym is, sym e ∙ ap (partAnswer s) f) refl
+    -- the tag fits two bytes
+    pub tag-fits : Bytes s → getD (r .values) 2 0 < 2 ^ 16
+    tag-fits h =
+        let w = part-read (linkFields before) (drop at s) (take 3 (r .values)) (drop (r .next) s) (bytes-drop at s h) (part-given y p ok) in
+        rw (at-2 (r .values)) at (hold-fits (field 2 0) (getD (take 3 (r .values)) 2 0) (omega arith) (hold-at (linkFields before) (take 3 (r .values)) (w .hold) 2 (field 0 0) (omega arith)))
 
-  module _ (switches : ℕ) (before : Link) (is : fs ≡ linkFields before) where
-    pub link-values : (a b c next : ℕ) → r ≡ part-is.Values a b c next → judged switches (linkOf a b c) (drop next s) ≡ link switches before (drop at s)
-    unfolding link
-    link-values a b c next f = rw (sym is, sym e ∙ ap (partAnswer s) f) refl
+-- ---- the loop over the links: what is left of them, after those that are read, gives what all of them give
 
-    pub link-refused : (k : Refusal) → r ≡ part-is.Refused k → refused (numberOf k) ≡ link switches before (drop at s)
-    unfolding link
-    link-refused k f = rw (sym is, sym e ∙ ap (partAnswer s) f) refl
+-- no link yet
+pub none : (switches count start : ℕ) → plantWith maxLinks switches count start ≡ withLinks (plantWith maxLinks switches count start) []
+unfolding plantWith withLinks
+none switches count start = refl
 
--- the tag of a link fits two bytes
-pub tag-fits : (before : Link) (fs : Fields) (r : Part) (a b c next : ℕ) → fieldList fs ≡ linkFields before → Fits fs r → r ≡ part-is.Values a b c next → c < 2 ^ 16
-tag-fits before fs r a b c next is q e =
-    let w : fs .third .width ≡ 2 = ap (λ (l : List Field). getD l 2 (field 0 0) .width) is in rw w at ((subst (Fits fs) e q) .2)
+pub places : (p : Plant) (ls : List Link) → length (withLinks p ls .links) ≡ length ls + (maxLinks - length ls)
+unfolding withLinks
+places p ls = length-append ls (replicate (maxLinks - length ls) zeroLink) ∙ ap (λ (n : ℕ). length ls + n) (length-replicate (maxLinks - length ls) zeroLink)
+
+-- one link more
+pub put : (p : Plant) (ls : List Link) (l : Link) → length ls < maxLinks
+    → record { switches = p .switches; count = p .count; start = p .start; links = set (withLinks p ls .links) (length ls) l } ≡ withLinks p (ls ++ (l ∷ []))
+unfolding withLinks
+put p ls l h = ap (λ (ks : List Link). record { switches = p .switches; count = p .count; start = p .start; links = ks }) (padded-put maxLinks zeroLink ls l h)
+
+-- a link before those that follow it
+abbrev ahead : Link → List Link × List ℕ → Answer (List Link × List ℕ)
+ahead l q = given (l ∷ q .0, q .1)
+
+module _ (switches n : ℕ) (before : Link) (t : List ℕ) where
+  abbrev more : Link × List ℕ → Checked (List Link × List ℕ)
+  more r = links switches n (r .0) (r .1) then λ q. check [] (r .0 ∷ q .0, q .1)
+
+  links-next : (l : Link) (u : List ℕ) → answer (link switches before t) ≡ given (l, u) → answer (links switches (suc n) before t) ≡ (answer (links switches n l u) >>= ahead l)
+  unfolding links
+  links-next l u e = goes-on (link switches before t) more (l, u) e ∙ then-is (links switches n l u) (λ q. check [] (l ∷ q .0, q .1))
+
+  links-stop : (k : ℕ) → answer (link switches before t) ≡ refused k → answer (links switches (suc n) before t) ≡ refused k
+  unfolding links
+  links-stop k e = stops (link switches before t) more k e
+
+-- the plant h with the links ls and then those of q
+abbrev after : Plant → List Link → List Link × List ℕ → Answer (Plant × List ℕ)
+after h ls q = given (withLinks h (ls ++ q .0), q .1)
+
+-- the links that are left, after those of ls
+abbrev left : Plant → List Link → ℕ → Link → List ℕ → Answer (Plant × List ℕ)
+left h ls n before t = answer (links (h .switches) n before t) >>= after h ls
+
+module _ (s : List ℕ) (from : ℕ) (h : Plant) where
+  -- i links are read: p has them, and what is left gives what the whole gives
+  pub record Read (i : ℕ) (p : Plant) (before : Link) (at : ℕ) : Type 0 where
+    pub within : i ≤ h .count
+    pub have : List Link
+    pub long : length have ≡ i
+    pub is : p ≡ withLinks h have
+    pub rest : left h have (h .count - i) before (drop at s) ≡ answer (linked h (drop from s))
+
+  pub read-none : (p : Plant) (before : Link) → p ≡ withLinks h [] → before ≡ zeroLink → Read 0 p before from
+  unfolding linked
+  read-none p before e f =
+      let k : h .count - 0 ≡ h .count = omega arith in
+      record { within = omega arith; have = []; long = refl; is = e; rest = rw (f, k) (sym (then-is (links (h .switches) (h .count) zeroLink (drop from s)) (λ r. check [] (withLinks h (r .0), r .1)))) }
+
+  module _ (i : ℕ) (p : Plant) (before : Link) (at : ℕ) (r : Read i p before at) (a : Record) (e : recordAnswer s a ≡ answer (link (h .switches) before (drop at s))) (some : i < h .count) where
+    less : h .count - i ≡ suc (h .count - (i + 1))
+    less = omega arith
+
+    pub read-refused : (k : Refusal) → a ≡ record-is.Refused k → answer (linked h (drop from s)) ≡ refused (numberOf k)
+    read-refused k f = sym (rw (less, links-stop (h .switches) (h .count - (i + 1)) before (drop at s) (numberOf k) (sym e ∙ ap (recordAnswer s) f)) at (r .rest))
+
+    pub read-one : (l : Link) (next : ℕ) → h .count ≤ maxLinks → a ≡ record-is.Link l next
+        → Read (i + 1) (record { switches = p .switches; count = p .count; start = p .start; links = set (p .links) i l }) (getD (set (p .links) i l) i zeroLink) next
+    unfolding withLinks
+    read-one l next few f = rw (getD-set-same (p .links) i l zeroLink room) (record {
+      within = omega arith;
+      have = r .have ++ (l ∷ []);
+      long = length-append (r .have) (l ∷ []) ∙ ap (λ (k : ℕ). k + 1) (r .long);
+      is = rw (r .is, sym (r .long)) (put h (r .have) l (omega (arith, r .long)));
+      rest =
+          sym (regroup (answer (links (h .switches) (h .count - (i + 1)) l (drop next s))))
+          ∙ rw (less, links-next (h .switches) (h .count - (i + 1)) before (drop at s) l (drop next s) (sym e ∙ ap (recordAnswer s) f)) at (r .rest);
+    })
+      where
+        room : i < length (p .links)
+        room = omega (arith, ap (λ (x : Plant). length (x .links)) (r .is) ∙ places h (r .have), r .long)
+
+        regroup : (q : Answer (List Link × List ℕ))
+            → (q >>= ahead l >>= after h (r .have)) ≡ (q >>= after h (r .have ++ (l ∷ [])))
+        regroup (given t) = ap (λ (ks : List Link). given (withLinks h ks, t .1)) (sym (append-assoc (r .have) (l ∷ []) (t .0)))
+        regroup (refused n) = refl
+
+  pub read-all : (i : ℕ) (p : Plant) (before : Link) (at : ℕ) → Read i p before at → h .count ≤ i → answer (linked h (drop from s)) ≡ given (p, drop at s)
+  unfolding links
+  read-all i p before at r all =
+      let k : h .count - i ≡ 0 = omega arith in
+      sym (rw (k, append-nil) at (r .rest)) ∙ ap (λ (x : Plant). given (x, drop at s)) (sym (r .is))
+
+-- ---- the end, at `at`
+
+module _ (s : List ℕ) (at : ℕ) (p : Plant) where
+  pub end-remains : at < length s → answer (ended p (drop at s)) ≡ refused 8
+  unfolding ended bytesRemain
+  end-remains h = rw (length-drop at s, lt-ltb 0 (length s - at) (omega arith)) refl
+
+  pub end-here : length s ≤ at → answer (ended p (drop at s)) ≡ given p
+  unfolding ended bytesRemain
+  end-here h = rw (length-drop at s, le-ltb 0 (length s - at) (omega arith)) refl

@@ -3,72 +3,67 @@
 use mathlib.Core.Path.{_≡_, refl, sym, ap, ap₂, _∙_, subst}
 use mathlib.Core.Logic.{inr}
 use mathlib.Core.List.{List, [], _∷_, _++_, append-assoc, append-nil}
-use Prim.Native.Nat.{ℕ, zero, suc, _+_, _-_, _≤_}
+use Prim.Native.Nat.{ℕ, zero, suc, _-_, _≤_}
 use native.Mathlib.Omega.{arith}
-use lib.ListN.{length, replicate, length-append, length-replicate, take-append-drop}
+use lib.ListN.{length, replicate, take-append-drop}
 use lib.Seq.{take-at, drop-at}
 use Rattle.lists.proofs.Members.{Each}
 use Rattle.plant.specs.declared.Link.{Link}
 use Rattle.plant.specs.declared.Plant.{Plant}
 use Rattle.plant.specs.Links.{zeroLink, plantWith}
 use Rattle.answers.specs.Answers.{given}
-use Rattle.answers.specs.Checks.{NoneHolds}
-use Rattle.answers.proofs.Checks.{none-append, otherwise-none}
+use Rattle.answers.specs.Checks.{NoneHolds, check, answer, _then_}
+use Rattle.answers.proofs.Checks.{none-append, none-trying, given-exactly, goes-on}
 use Rattle.limits.specs.Limits.{maxSwitches, maxLinks}
 use Rattle.limits.specs.Sound.{Sound}
-use Rattle.listing.specs.Field.{Bytes}
-use Rattle.listing.specs.Part.{fieldValues, afterPart, partBytes}
-use Rattle.listing.specs.Listing.{field, headerFields, linkFields, headerOutOfRange, judgedHeader, header, soundLink, judged, link, links, bytesRemain, withLinks, finish, afterHeader, decode, linksOf, headerBytes, linkBytes, linksBytes, encode}
-use Rattle.listing.specs.Conditions.{partConditions, headerConditions, headerIn, linkIn, endsConditions, linkConditions, linksConditions, linksIn, afterLinks, conditions, plantIn, AnswersReading}
-use Rattle.listing.proofs.ReadLaws.{InRange, in-range, sound-ends}
-use Rattle.listing.proofs.PartRoundTrip.{hold-fits, Whole, part-again, part-written, bytes-append, part-bytes}
-use Rattle.listing.proofs.Refusing.{decode-refuses, decode-gives}
+use Rattle.codec.specs.Field.{Bytes}
+use Rattle.codec.specs.Part.{fieldValues, part, partBytes}
+use Rattle.codec.proofs.PartRoundTrip.{hold-fits, Whole, part-again, part-written, bytes-append, part-bytes}
+use Rattle.listing.specs.Listing.{field, headerFields, linkFields, headerOutOfRange, headerFrom, header, linkFrom, soundLink, link, links, bytesRemain, withLinks, linked, ended, reading, linksOf, headerBytes, linkBytes, linksBytes, encode}
+use Rattle.listing.proofs.ReadLaws.{places}
 use Rattle.listing.proofs.ConditionLaws.{no-byte-remains}
-use Rattle.listing.proofs.SoundLaws.{Linked, Parts, length-links, sound-parts, parts-sound, range-in, ends-sound}
+use Rattle.listing.proofs.SoundLaws.{InRange, in-range, sound-ends, Fitting, Parts, length-links, sound-parts, parts-sound, range-in, ends-sound}
 
 -- ---- what was read is sound, and is written again as it stands
 
 -- one record
-record LinkRead (switches : ℕ) (before : Link) (s : List ℕ) : Type 0 where
-  linked : Linked switches (linkIn before s)
-  again : linkBytes before (linkIn before s) ++ afterPart (linkFields before) s ≡ s
-  bytes-after : Bytes (afterPart (linkFields before) s)
+record LinkRead (before : Link) (s : List ℕ) (switches : ℕ) (r : Link × List ℕ) : Type 0 where
+  fitting : Fitting switches (r .0)
+  again : linkBytes before (r .0) ++ r .1 ≡ s
+  bytes-after : Bytes (r .1)
 
-link-read : (switches : ℕ) (before : Link) (s : List ℕ) → Bytes s → NoneHolds (linkConditions switches before s) → LinkRead switches before s
-unfolding soundLink linkBytes fieldValues
+link-read : (switches : ℕ) (before : Link) (s : List ℕ) → Bytes s → NoneHolds (link switches before s .checks) → LinkRead before s switches (link switches before s .result)
+unfolding link part soundLink linkBytes fieldValues
 link-read switches before s h c =
-    let q = none-append (partConditions (linkFields before) s) (endsConditions switches (linkIn before s)) c in
+    let l = linkFrom (fieldValues (linkFields before) s) in
+    let q = none-append (part (linkFields before) s .checks) (soundLink switches l .checks) c in
     let r = part-again (linkFields before) s h (q .0) in
     record {
-      linked = record {
-        ends = sound-ends switches (linkIn before s) (rw (q .1 .0, q .1 .1 .0) refl);
-        tag-fits = hold-fits (field 2 0) (linkIn before s .tag) (omega arith) (r .hold .1 .1 .0);
-      };
+      fitting = record { ends = sound-ends switches l (none-trying (soundLink switches l .checks) (given tt) (q .1)); tag-fits = hold-fits (field 2 0) (l .tag) (omega arith) (r .hold .1 .1 .0) };
       again = r .again;
       bytes-after = r .bytes-after;
     }
 
 -- so many records
-record LinksRead (switches n : ℕ) (before : Link) (s : List ℕ) : Type 0 where
-  each-link : Each (Linked switches) (linksIn n before s)
-  again : linksBytes before (linksIn n before s) ++ afterLinks n before s ≡ s
+record LinksRead (switches n : ℕ) (before : Link) (s : List ℕ) (r : List Link × List ℕ) : Type 0 where
+  each-link : Each (Fitting switches) (r .0)
+  long : length (r .0) ≡ n
+  again : linksBytes before (r .0) ++ r .1 ≡ s
 
-links-read : (switches n : ℕ) (before : Link) (s : List ℕ) → Bytes s → NoneHolds (linksConditions switches n before s) → LinksRead switches n before s
-links-read switches zero before s h c = record { each-link = tt; again = refl }
+links-read : (switches n : ℕ) (before : Link) (s : List ℕ) → Bytes s → NoneHolds (links switches n before s .checks) → LinksRead switches n before s (links switches n before s .result)
+unfolding links
+links-read switches zero before s h c = record { each-link = tt; long = refl; again = refl }
 links-read switches (suc n) before s h c =
-    let l = linkIn before s in
-    let t = afterPart (linkFields before) s in
-    let q = none-append (linkConditions switches before s) (linksConditions switches n l t) c in
+    let r = link switches before s .result in
+    let k = links switches n (r .0) (r .1) in
+    let q = none-append (link switches before s .checks) (k .checks ++ []) c in
     let one = link-read switches before s h (q .0) in
-    let more = links-read switches n l t (one .bytes-after) (q .1) in
+    let more = links-read switches n (r .0) (r .1) (one .bytes-after) (none-append (k .checks) [] (q .1) .0) in
     record {
-      each-link = (one .linked, more .each-link);
-      again = append-assoc (linkBytes before l) (linksBytes l (linksIn n l t)) (afterLinks n l t) ∙ ap (λ (u : List ℕ). linkBytes before l ++ u) (more .again) ∙ one .again;
+      each-link = (one .fitting, more .each-link);
+      long = ap suc (more .long);
+      again = append-assoc (linkBytes before (r .0)) (linksBytes (r .0) (k .result .0)) (k .result .1) ∙ ap (λ (u : List ℕ). linkBytes before (r .0) ++ u) (more .again) ∙ one .again;
     }
-
-length-linksIn : (n : ℕ) (before : Link) (s : List ℕ) → length (linksIn n before s) ≡ n
-length-linksIn zero before s = refl
-length-linksIn (suc n) before s = ap suc (length-linksIn n (linkIn before s) (afterPart (linkFields before) s))
 
 -- ---- a plant with these links
 
@@ -81,88 +76,78 @@ module _ (p : Plant) (ls : List Link) (long : length ls ≡ p .count) where
   unfolding encode withLinks headerBytes
   encode-with = ap (λ (ks : List Link). headerBytes p ++ linksBytes zeroLink ks) links-of-with
 
-  parts-with : InRange (p .switches) (p .count) (p .start) → Each (Linked (p .switches)) ls → Parts (withLinks p ls)
+  parts-with : InRange (p .switches) (p .count) (p .start) → Each (Fitting (p .switches)) ls → Parts (withLinks p ls)
   unfolding withLinks
   parts-with r k = record {
     header = r;
     each-link = rw links-of-with k;
-    places = length-append ls (replicate (maxLinks - length ls) zeroLink) ∙ ap (λ (n : ℕ). length ls + n) (length-replicate (maxLinks - length ls) zeroLink) ∙ omega (arith, r .few-links);
+    places = places p ls ∙ omega (arith, r .few-links);
     zeros = drop-at ls (replicate (maxLinks - length ls) zeroLink) (p .count) long ∙ ap (λ (n : ℕ). replicate (maxLinks - n) zeroLink) long;
   }
 
 -- ---- the listing
 
+header-same : (s : List ℕ) → headerBytes (header s .result .0) ≡ partBytes headerFields (fieldValues headerFields s)
+unfolding header part headerBytes plantWith fieldValues
+header-same s = refl
+
+header-whole : (s : List ℕ) → Bytes s → NoneHolds (part headerFields s .checks) → Whole headerFields s (fieldValues headerFields s) (header s .result .1)
+unfolding header part
+header-whole s b c = part-again headerFields s b c
+
 -- a listing of which no condition holds: its header is whole and in range, none holds of its records, and nothing is left
-pub record NoneOf (s : List ℕ) : Type 0 where
-  pub of-header : NoneHolds (partConditions headerFields s)
-  pub of-links : NoneHolds (linksConditions (headerIn s .switches) (headerIn s .count) zeroLink (afterPart headerFields s))
-  pub at-end : afterLinks (headerIn s .count) zeroLink (afterPart headerFields s) ≡ []
-  pub in-range : InRange (headerIn s .switches) (headerIn s .count) (headerIn s .start)
+module _ (s : List ℕ) where
+  abbrev pub heads : Plant
+  heads = header s .result .0
 
-pub none-of : (s : List ℕ) → NoneHolds (conditions s) → NoneOf s
-unfolding conditions plantWith
-none-of s c =
-    let h = headerIn s in
-    let t = afterPart headerFields s in
-    let cs = linksConditions (h .switches) (h .count) zeroLink t in
-    let q = none-append (headerConditions s ++ cs) ((8, bytesRemain (afterLinks (h .count) zeroLink t)) ∷ []) c in
-    let r = none-append (headerConditions s) cs (q .0) in
-    let u = none-append (partConditions headerFields s) ((5, headerOutOfRange (fieldValues headerFields s)) ∷ []) (r .0) in
-    record { of-header = u .0; of-links = r .1; at-end = no-byte-remains (afterLinks (h .count) zeroLink t) .0 (q .1 .0); in-range = in-range (h .switches) (h .count) (h .start) (u .1 .0) }
+  abbrev pub follow : List ℕ
+  follow = header s .result .1
 
-header-again : (s : List ℕ) → headerBytes (headerIn s) ≡ partBytes headerFields (fieldValues headerFields s)
-unfolding headerBytes plantWith fieldValues
-header-again s = refl
+  pub record NoneOf : Type 0 where
+    pub of-header : NoneHolds (part headerFields s .checks)
+    pub of-links : NoneHolds (links (heads .switches) (heads .count) zeroLink follow .checks)
+    pub at-end : links (heads .switches) (heads .count) zeroLink follow .result .1 ≡ []
+    pub in-range : InRange (heads .switches) (heads .count) (heads .start)
 
-record ListingRead (s : List ℕ) : Type 0 where
-  sound : Sound (plantIn s)
-  again : encode (plantIn s) ≡ s
+  pub none-of : NoneHolds (reading s .checks) → NoneOf
+  unfolding reading header linked ended plantWith
+  none-of c =
+      let l = links (heads .switches) (heads .count) zeroLink follow in
+      let q = none-append (header s .checks ++ (l .checks ++ [])) ((8, bytesRemain (l .result .1)) ∷ []) c in
+      let r = none-append (header s .checks) (l .checks ++ []) (q .0) in
+      let u = none-append (part headerFields s .checks) _ (r .0) in
+      record { of-header = u .0; of-links = none-append (l .checks) [] (r .1) .0; at-end = no-byte-remains (l .result .1) .0 (q .1 .0); in-range = in-range _ _ _ (u .1 .0) }
 
-listing-read : (s : List ℕ) → Bytes s → NoneHolds (conditions s) → ListingRead s
-unfolding plantIn
-listing-read s b c = record {
-  sound = parts-sound (withLinks h ls) (parts-with h ls long (n .in-range) (r .each-link));
-  again =
-      encode-with h ls long
-      ∙ ap₂ (λ (x y : List ℕ). x ++ y) (header-again s) (sym (append-nil (linksBytes zeroLink ls)) ∙ (rw (n .at-end) at (r .again)))
-      ∙ w .again;
-}
-  where
-    n : NoneOf s
-    n = none-of s c
+  record ListingRead : Type 0 where
+    sound : Sound (reading s .result)
+    again : encode (reading s .result) ≡ s
 
-    h : Plant
-    h = headerIn s
+  listing-read : Bytes s → NoneHolds (reading s .checks) → ListingRead
+  unfolding reading linked ended
+  listing-read b c = record {
+    sound = parts-sound (withLinks heads ls) (parts-with heads ls (r .long) (n .in-range) (r .each-link));
+    again = encode-with heads ls (r .long) ∙ ap₂ (λ (x y : List ℕ). x ++ y) (header-same s) (sym (append-nil (linksBytes zeroLink ls)) ∙ (rw (n .at-end) at (r .again))) ∙ w .again;
+  }
+    where
+      n : NoneOf
+      n = none-of c
 
-    t : List ℕ
-    t = afterPart headerFields s
+      ls : List Link
+      ls = links (heads .switches) (heads .count) zeroLink follow .result .0
 
-    ls : List Link
-    ls = linksIn (h .count) zeroLink t
+      w : Whole headerFields s (fieldValues headerFields s) follow
+      w = header-whole s b (n .of-header)
 
-    long : length ls ≡ h .count
-    long = length-linksIn (h .count) zeroLink t
-
-    w : Whole headerFields s (fieldValues headerFields s) t
-    w = part-again headerFields s b (n .of-header)
-
-    r : LinksRead (h .switches) (h .count) zeroLink t
-    r = links-read (h .switches) (h .count) zeroLink t (w .bytes-after) (n .of-links)
+      r : LinksRead (heads .switches) (heads .count) zeroLink follow (links (heads .switches) (heads .count) zeroLink follow .result)
+      r = links-read (heads .switches) (heads .count) zeroLink follow (w .bytes-after) (n .of-links)
 
 -- a plant that was read is sound
-pub decode-sound : (s : List ℕ) (p : Plant) → Bytes s → decode s ≡ given p → Sound p
-decode-sound s p b e = let r = decode-gives s p .0 e in subst Sound (r .1) (listing-read s b (r .0) .sound)
+pub decode-sound : (s : List ℕ) (p : Plant) → Bytes s → answer (reading s) ≡ given p → Sound p
+decode-sound s p b e = let r = given-exactly (reading s .checks) (reading s .result) p .0 e in subst Sound (r .1) (listing-read s b (r .0) .sound)
 
 -- it is written as the bytes from which it was read
-pub read-write : (s : List ℕ) (p : Plant) → Bytes s → decode s ≡ given p → encode p ≡ s
-read-write s p b e = let r = decode-gives s p .0 e in rw (sym (r .1)) (listing-read s b (r .0) .again)
-
--- every reading answers as demand 1 says
-pub decode-answers : (s : List ℕ) → Bytes s → AnswersReading s (decode s)
-decode-answers s b = record { refusals = decode-refuses s; otherwise = λ h. plant (otherwise-none (conditions s) h) }
-  where
-    plant : NoneHolds (conditions s) → (p : Plant) × (decode s ≡ given p) × Sound p
-    plant c = (plantIn s, decode-gives s (plantIn s) .1 (c, refl), listing-read s b c .sound)
+pub read-write : (s : List ℕ) (p : Plant) → Bytes s → answer (reading s) ≡ given p → encode p ≡ s
+read-write s p b e = let r = given-exactly (reading s .checks) (reading s .result) p .0 e in rw (sym (r .1)) (listing-read s b (r .0) .again)
 
 -- ---- what is written is bytes, for any plant
 
@@ -178,26 +163,26 @@ encode-bytes p = bytes-append (headerBytes p) (linksBytes zeroLink (linksOf p)) 
 -- ---- what was written is read
 
 module _ (switches : ℕ) (few : switches ≤ maxSwitches) where
-  link-written : (before l : Link) (rest : List ℕ) → Linked switches l → link switches before (linkBytes before l ++ rest) ≡ given (l, rest)
-  unfolding link linkBytes judged
+  link-written : (before l : Link) (rest : List ℕ) → Fitting switches l → answer (link switches before (linkBytes before l ++ rest)) ≡ given (l, rest)
+  unfolding link linkBytes
   link-written before l rest r =
-      rw (
-        part-written (linkFields before) (l .first ∷ l .second ∷ l .tag ∷ []) rest (inr (omega (arith, r .ends .first-in)), (inr (omega (arith, r .ends .second-in)), (inr (omega (arith, r .tag-fits)), tt))),
-        ends-sound switches l (r .ends),
-      )
+      goes-on (part (linkFields before) (linkBytes before l ++ rest)) (λ q. soundLink switches (linkFrom (q .0)) then λ _. check [] (linkFrom (q .0), q .1)) (l .first ∷ l .second ∷ l .tag ∷ [], rest)
+      (part-written (linkFields before) (l .first ∷ l .second ∷ l .tag ∷ []) rest (inr (omega (arith, r .ends .first-in)), (inr (omega (arith, r .ends .second-in)), (inr (omega (arith, r .tag-fits)), tt))))
+      ∙ goes-on (soundLink switches l) (λ _. check [] (l, rest)) tt (ends-sound switches l (r .ends))
 
-  links-written : (before : Link) (ls : List Link) → Each (Linked switches) ls → links switches (length ls) before (linksBytes before ls) ≡ given (ls, [])
+  links-written : (before : Link) (ls : List Link) → Each (Fitting switches) ls → answer (links switches (length ls) before (linksBytes before ls)) ≡ given (ls, [])
   unfolding links
   links-written before [] h = refl
-  links-written before (l ∷ ls) h = rw (link-written before l (linksBytes l ls) (h .0), links-written l ls (h .1))
+  links-written before (l ∷ ls) h =
+      goes-on (link switches before (linkBytes before l ++ linksBytes l ls)) (λ r. links switches (length ls) (r .0) (r .1) then λ q. check [] (r .0 ∷ q .0, q .1)) (l, linksBytes l ls) (link-written before l (linksBytes l ls) (h .0))
+      ∙ goes-on (links switches (length ls) l (linksBytes l ls)) (λ q. check [] (l ∷ q .0, q .1)) (ls, []) (links-written l ls (h .1))
 
-header-written : (p : Plant) (rest : List ℕ) → InRange (p .switches) (p .count) (p .start) → header (headerBytes p ++ rest) ≡ given (plantWith maxLinks (p .switches) (p .count) (p .start), rest)
-unfolding header headerBytes judgedHeader
+header-written : (p : Plant) (rest : List ℕ) → InRange (p .switches) (p .count) (p .start) → answer (header (headerBytes p ++ rest)) ≡ given (plantWith maxLinks (p .switches) (p .count) (p .start), rest)
+unfolding header headerBytes
 header-written p rest r =
-    rw (
-      part-written headerFields (p .switches ∷ p .count ∷ p .start ∷ []) rest (inr (omega (arith, r .few-switches)), (inr (omega (arith, r .few-links)), (inr (omega (arith, r .start-in, r .few-switches)), tt))),
-      range-in (p .switches) (p .count) (p .start) r,
-    )
+    goes-on (part headerFields (headerBytes p ++ rest)) (λ r. check ((5, headerOutOfRange (r .0)) ∷ []) (headerFrom (r .0), r .1)) (p .switches ∷ p .count ∷ p .start ∷ [], rest)
+    (part-written headerFields (p .switches ∷ p .count ∷ p .start ∷ []) rest (inr (omega (arith, r .few-switches)), (inr (omega (arith, r .few-links)), (inr (omega (arith, r .start-in, r .few-switches)), tt))))
+    ∙ rw (range-in (p .switches) (p .count) (p .start) r) refl
 
 -- its own links make a plant what it is
 with-own : (p : Plant) → Parts p → withLinks (plantWith maxLinks (p .switches) (p .count) (p .start)) (linksOf p) ≡ p
@@ -208,12 +193,14 @@ with-own p r = ap (λ (ls : List Link). record { switches = p .switches; count =
     own = rw (length-links p (r .header .few-links) (r .places), sym (r .zeros)) (take-append-drop (p .count) (p .links))
 
 -- a sound plant that was written is read as that plant
-pub write-read : (p : Plant) → Sound p → decode (encode p) ≡ given p
-unfolding decode encode afterHeader finish bytesRemain plantWith
-write-read p s = rw (header-written p (linksBytes zeroLink (linksOf p)) (r .header), read) (ap given (with-own p r))
-  where
-    r : Parts p
-    r = sound-parts p s
-
-    read : links (p .switches) (p .count) zeroLink (linksBytes zeroLink (linksOf p)) ≡ given (linksOf p, [])
-    read = rw (length-links p (s .few-links) (s .places)) at (links-written (p .switches) (s .few-switches) zeroLink (linksOf p) (r .each-link))
+pub write-read : (p : Plant) → Sound p → answer (reading (encode p)) ≡ given p
+unfolding reading encode linked ended bytesRemain plantWith
+write-read p s =
+    let r = sound-parts p s in
+    let h = plantWith maxLinks (p .switches) (p .count) (p .start) in
+    let bs = linksBytes zeroLink (linksOf p) in
+    let read : answer (links (p .switches) (p .count) zeroLink bs) ≡ given (linksOf p, []) = rw (length-links p (s .few-links) (s .places)) at (links-written (p .switches) (s .few-switches) zeroLink (linksOf p) (r .each-link)) in
+    goes-on (header (encode p) then λ q. linked (q .0) (q .1)) (λ q. ended (q .0) (q .1)) (p, [])
+    (goes-on (header (encode p)) (λ q. linked (q .0) (q .1)) (h, bs) (header-written p bs (r .header))
+    ∙ goes-on (links (p .switches) (p .count) zeroLink bs) (λ q. check [] (withLinks h (q .0), q .1)) (linksOf p, []) read
+    ∙ ap (λ (q : Plant). given (q, [])) (with-own p r))

@@ -1,89 +1,145 @@
--- The writer's loops over the link places: what is left of the places gives what the whole gives. Assumes nothing.
-use mathlib.Core.Path.{_≡_, refl, sym, ap, ap₂, _∙_}
+-- The writer's loops over the link places: what is left of them gives what the whole gives; and what the writer answers and leaves. Assumes nothing.
+use mathlib.Core.Path.{_≡_, refl, sym, ap, _∙_}
 use mathlib.Core.Bool.{true, false}
-use mathlib.Core.List.{List, [], _∷_}
+use mathlib.Core.List.{List, [], _∷_, _++_}
 use Prim.Native.Nat.{ℕ, _+_, _≤_, _<_}
-use native.Mathlib.Numerals.{add-one}
 use native.Mathlib.Omega.{arith}
-use lib.ListN.{length, getD, drop, drop-of-length-le}
-use lib.Seq.{drop-cons, getD-take}
+use borrow.Author.Tests.{lt-ltb, le-ltb}
+use lib.ListN.{length, getD, drop, length-append, drop-of-length-le}
+use lib.Seq.{sets}
 use Rattle.lists.proofs.Tests.{or-false}
+use Rattle.lists.proofs.Arrays.{sets-append, sets-front}
 use Rattle.lists.specs.Members.{all}
 use Rattle.plant.specs.declared.Link.{Link}
 use Rattle.plant.specs.declared.Plant.{Plant}
-use Rattle.answers.specs.declared.Refusal.{Refusal}
 use Rattle.plant.specs.Links.{zeroLink}
-use Rattle.answers.specs.Answers.{given, refused, numberOf}
-use Rattle.answers.proofs.Checks.{refuse-given}
-use Rattle.limits.specs.Limits.{maxLinks}
+use Rattle.answers.specs.declared.Refusal.{Refusal}
 use Rattle.answers.specs.declared.Verdict.{Verdict}
 use Rattle.answers.specs.declared.Verdict.the-variants as verdict
-use Rattle.listing.specs.Listing.{valueOutOfRange, soundLink, linksOf}
-use Rattle.listing.specs.Writing.{isZero, plantOutOfRange, soundLinks, soundPlant}
-use Rattle.answers.specs.Answers.{verdictAnswer}
-use Rattle.listing.proofs.ReadLaws.{in-range}
-use Rattle.listing.proofs.SoundLaws.{length-links}
+use Rattle.answers.specs.Answers.{given, refused, numberOf, verdictAnswer}
+use Rattle.answers.specs.Checks.{check, answer}
+use Rattle.answers.proofs.Checks.{refuse-given, goes-on, stops, left-kept}
+use Rattle.limits.specs.Limits.{maxLinks}
+use Rattle.codec.specs.declared.Layout.{Layout}
+use Rattle.codec.specs.Part.{partBytes}
+use Rattle.codec.specs.Layout.{fieldsOf, Lays}
+use Rattle.codec.proofs.Taken.{drop-next, taken-next, taken-end}
+use Rattle.listing.specs.Listing.{headerFields, linkFields, valueOutOfRange, soundLink, linksOf, headerBytes, linkBytes, linksBytes, encode}
+use Rattle.listing.specs.Writing.{isZero, plantOutOfRange, soundLinks, soundPlant, bufferShort, writing, bufferAfter}
+use Rattle.listing.proofs.SoundLaws.{in-range}
+
+-- the bytes of a header and of a link with the values vs, by the layout
+module _ {most : ℕ} {l : Layout} {vs : List ℕ} where
+  pub header-by : (p : Plant) → Lays most headerFields l → vs ≡ p .switches ∷ p .count ∷ p .start ∷ [] → partBytes (fieldsOf l) vs ≡ headerBytes p
+  unfolding headerBytes
+  header-by p y e = rw (y .fields, e) refl
+
+  pub link-by : (before k : Link) → Lays most (linkFields before) l → vs ≡ k .first ∷ k .second ∷ k .tag ∷ [] → partBytes (fieldsOf l) vs ≡ linkBytes before k
+  unfolding linkBytes
+  link-by before k y e = rw (y .fields, e) refl
 
 -- ---- the places from i on are zero
 
 module _ (p : Plant) (long : length (p .links) ≡ maxLinks) (i : ℕ) where
-  next-place : i < maxLinks → drop i (p .links) ≡ getD (p .links) i zeroLink ∷ drop (i + 1) (p .links)
-  next-place h = drop-cons (p .links) i zeroLink (omega arith) ∙ ap (λ (n : ℕ). getD (p .links) i zeroLink ∷ drop n (p .links)) (sym (add-one i))
-
   pub zeros-on : i < maxLinks → isZero (getD (p .links) i zeroLink) ≡ true → all isZero (drop (i + 1) (p .links)) ≡ all isZero (drop i (p .links))
-  zeros-on h e = sym (rw (next-place h, e) refl)
+  zeros-on h e = sym (rw (drop-next (p .links) i zeroLink (omega arith), e) refl)
 
   pub zeros-not : i < maxLinks → isZero (getD (p .links) i zeroLink) ≡ false → false ≡ all isZero (drop i (p .links))
-  zeros-not h e = rw (next-place h, e) refl
+  zeros-not h e = rw (drop-next (p .links) i zeroLink (omega arith), e) refl
 
   pub zeros-end : maxLinks ≤ i → true ≡ all isZero (drop i (p .links))
   zeros-end h = rw (drop-of-length-le (p .links) {i = i} (omega arith)) refl
 
 -- ---- the links of a plant, from link i on
 
-module _ (p : Plant) (long : length (p .links) ≡ maxLinks) (few : p .count ≤ maxLinks) where
-  links-long : length (linksOf p) ≡ p .count
-  links-long = length-links p few long
+module _ (p : Plant) (long : length (p .links) ≡ maxLinks) (few : p .count ≤ maxLinks) (i : ℕ) where
+  links-next : i < p .count → drop i (linksOf p) ≡ getD (p .links) i zeroLink ∷ drop (i + 1) (linksOf p)
+  links-next h = taken-next (p .links) (p .count) i (omega arith) zeroLink h
 
-  module _ (i : ℕ) where
-    pub links-next : i < p .count → drop i (linksOf p) ≡ getD (p .links) i zeroLink ∷ drop (i + 1) (linksOf p)
-    links-next h =
-        drop-cons (linksOf p) i zeroLink (omega (arith, links-long))
-        ∙ ap₂ (λ (l : Link) (ls : List Link). l ∷ ls) (getD-take (p .count) (p .links) i zeroLink h) (ap (λ (n : ℕ). drop n (linksOf p)) (sym (add-one i)))
+  links-done : p .count ≤ i → drop i (linksOf p) ≡ []
+  links-done h = taken-end (p .links) (p .count) i (omega arith) h
 
-    pub links-done : p .count ≤ i → drop i (linksOf p) ≡ []
-    links-done h = drop-of-length-le (linksOf p) {i = i} (omega (arith, links-long))
+  -- refusals 6 and 7
+  module _ (v : Verdict) (e : verdictAnswer v ≡ answer (soundLink (p .switches) (getD (p .links) i zeroLink))) (h : i < p .count) where
+    pub judge-on : v ≡ verdict.Accepted → answer (soundLinks (p .switches) (drop (i + 1) (linksOf p))) ≡ answer (soundLinks (p .switches) (drop i (linksOf p)))
+    judge-on f = rw (links-next h) (sym (goes-on (soundLink (p .switches) (getD (p .links) i zeroLink)) (λ _. soundLinks (p .switches) (drop (i + 1) (linksOf p))) tt (sym e ∙ ap verdictAnswer f)))
 
-    -- refusals 6 and 7
-    module _ (v : Verdict) (e : verdictAnswer v ≡ soundLink (p .switches) (getD (p .links) i zeroLink)) (h : i < p .count) where
-      pub judge-on : v ≡ verdict.Accepted → soundLinks (p .switches) (drop (i + 1) (linksOf p)) ≡ soundLinks (p .switches) (drop i (linksOf p))
-      judge-on f = sym (rw (links-next h, sym e ∙ ap verdictAnswer f) refl)
+    pub judge-refused : (k : Refusal) → v ≡ verdict.Refused k → refused (numberOf k) ≡ answer (soundLinks (p .switches) (drop i (linksOf p)))
+    judge-refused k f = rw (links-next h) (sym (stops (soundLink (p .switches) (getD (p .links) i zeroLink)) (λ _. soundLinks (p .switches) (drop (i + 1) (linksOf p))) (numberOf k) (sym e ∙ ap verdictAnswer f)))
 
-      pub judge-refused : (k : Refusal) → v ≡ verdict.Refused k → refused (numberOf k) ≡ soundLinks (p .switches) (drop i (linksOf p))
-      judge-refused k f = rw (links-next h, sym e ∙ ap verdictAnswer f) refl
+  pub judge-all : p .count ≤ i → given tt ≡ answer (soundLinks (p .switches) (drop i (linksOf p)))
+  judge-all h = rw (links-done h) refl
 
-    pub judge-all : p .count ≤ i → given tt ≡ soundLinks (p .switches) (drop i (linksOf p))
-    judge-all h = rw (links-done h) refl
+  -- the bytes of the links
+  pub left-next : (before : Link) → i < p .count → linksBytes before (drop i (linksOf p)) ≡ linkBytes before (getD (p .links) i zeroLink) ++ linksBytes (getD (p .links) i zeroLink) (drop (i + 1) (linksOf p))
+  left-next before h = ap (linksBytes before) (links-next h)
+
+  pub left-none : (before : Link) → p .count ≤ i → linksBytes before (drop i (linksOf p)) ≡ []
+  left-none before h = ap (linksBytes before) (links-done h)
+
+  pub size-next : (before : Link) → i < p .count
+      → length (linksBytes before (drop i (linksOf p))) ≡ length (linkBytes before (getD (p .links) i zeroLink)) + length (linksBytes (getD (p .links) i zeroLink) (drop (i + 1) (linksOf p)))
+  size-next before h = ap length (left-next before h) ∙ length-append (linkBytes before (getD (p .links) i zeroLink)) (linksBytes (getD (p .links) i zeroLink) (drop (i + 1) (linksOf p)))
 
 -- ---- all of 5, then 6 and 7
 
 module _ (p : Plant) where
-  pub plant-range : valueOutOfRange (p .switches) (p .count) (p .start) ≡ true → refused 5 ≡ soundPlant p
+  pub encode-size : length (encode p) ≡ length (headerBytes p) + length (linksBytes zeroLink (linksOf p))
+  unfolding encode
+  encode-size = length-append (headerBytes p) (linksBytes zeroLink (linksOf p))
+
+  -- the header, then the links
+  pub laid-listing : (b b₁ b₂ : List ℕ) (from : ℕ) → from ≡ length (headerBytes p) → b₁ ≡ sets b 0 (headerBytes p) → b₂ ≡ sets b₁ from (linksBytes zeroLink (linksOf p)) → b₂ ≡ sets b 0 (encode p)
+  unfolding encode
+  laid-listing b b₁ b₂ from e f g =
+      let k : from ≡ 0 + length (headerBytes p) = omega arith in
+      g ∙ rw (f, k) (sets-append b 0 (headerBytes p) (linksBytes zeroLink (linksOf p)))
+
+  pub plant-range : valueOutOfRange (p .switches) (p .count) (p .start) ≡ true → refused 5 ≡ answer (soundPlant p)
   unfolding soundPlant plantOutOfRange
   plant-range e = rw e refl
 
   module _ (inside : valueOutOfRange (p .switches) (p .count) (p .start) ≡ false) where
-    pub plant-places : all isZero (drop (p .count) (p .links)) ≡ false → refused 5 ≡ soundPlant p
+    pub plant-places : all isZero (drop (p .count) (p .links)) ≡ false → refused 5 ≡ answer (soundPlant p)
     unfolding soundPlant plantOutOfRange
     plant-places e = rw (inside, e) refl
 
-    pub plant-links : all isZero (drop (p .count) (p .links)) ≡ true → soundLinks (p .switches) (linksOf p) ≡ soundPlant p
+    pub plant-links : all isZero (drop (p .count) (p .links)) ≡ true → answer (soundLinks (p .switches) (linksOf p)) ≡ answer (soundPlant p)
     unfolding soundPlant plantOutOfRange
     plant-links e = sym (rw (inside, e) refl)
 
   -- a plant that is not refused has no more links than there are places
-  pub sound-few : soundPlant p ≡ given tt → p .count ≤ maxLinks
+  pub sound-few : answer (soundPlant p) ≡ given tt → p .count ≤ maxLinks
   unfolding soundPlant plantOutOfRange
-  sound-few e =
-      let five = refuse-given 5 (plantOutOfRange p) (soundLinks (p .switches) (linksOf p)) tt e in
-      in-range _ _ _ (or-false _ _ (five .0) .0) .few-links
+  sound-few e = in-range _ _ _ (or-false _ _ (refuse-given 5 (plantOutOfRange p) (answer (soundLinks (p .switches) (linksOf p))) tt e .0) .0) .few-links
+
+-- ---- what the writer answers and leaves
+
+module _ (p : Plant) (b : List ℕ) where
+  pub writing-on : answer (soundPlant p) ≡ given tt → answer (writing p b) ≡ answer (check ((16, bufferShort p b) ∷ []) (length (encode p)))
+  unfolding writing
+  writing-on e = goes-on (soundPlant p) (λ _. check ((16, bufferShort p b) ∷ []) (length (encode p))) tt e
+
+  pub kept : (n : ℕ) → answer (writing p b) ≡ refused n → bufferAfter p b ≡ b
+  unfolding bufferAfter
+  kept n e = left-kept (λ k. encode p ++ drop k b) b (answer (writing p b)) n e
+
+  module _ (v : Verdict) (e : verdictAnswer v ≡ answer (soundPlant p)) where
+    -- 5, 6, 7
+    pub write-refused : (k : Refusal) → v ≡ verdict.Refused k → answer (writing p b) ≡ refused (numberOf k)
+    unfolding writing
+    write-refused k f = stops (soundPlant p) (λ _. check ((16, bufferShort p b) ∷ []) (length (encode p))) (numberOf k) (sym e ∙ ap verdictAnswer f)
+
+    module _ (f : v ≡ verdict.Accepted) where
+      -- 16
+      pub write-short : length b < length (encode p) → answer (writing p b) ≡ refused 16
+      unfolding bufferShort
+      write-short h = writing-on (sym e ∙ ap verdictAnswer f) ∙ rw (lt-ltb (length b) (length (encode p)) h) refl
+
+      pub write-length : length (encode p) ≤ length b → answer (writing p b) ≡ given (length (encode p))
+      unfolding bufferShort
+      write-length h = writing-on (sym e ∙ ap verdictAnswer f) ∙ rw (le-ltb (length b) (length (encode p)) h) refl
+
+      pub left-written : length (encode p) ≤ length b → sets b 0 (encode p) ≡ bufferAfter p b
+      unfolding bufferAfter
+      left-written h = rw (write-length h) (sets-front b (encode p) h)

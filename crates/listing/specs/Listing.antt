@@ -3,14 +3,15 @@ use mathlib.Core.Bool.{Bool, not, _&&_}
 use mathlib.Core.List.{List, [], _∷_, _++_}
 use Prim.Native.Nat.{ℕ, zero, suc, _-_}
 use lib.Dec.{eqb, leb, ltb}
-use lib.ListN.{length, getD, take, replicate}
+use lib.ListN.{length, getD, take}
+use Rattle.lists.specs.Padded.{padded}
 use Rattle.plant.specs.declared.Link.{Link}
 use Rattle.plant.specs.declared.Plant.{Plant}
 use Rattle.plant.specs.Links.{zeroLink, plantWith}
-use Rattle.answers.specs.Answers.{Answer, given, refuse, _>>=_}
+use Rattle.answers.specs.Checks.{Checked, check, _then_}
 use Rattle.limits.specs.Limits.{maxSwitches, maxLinks}
-use Rattle.listing.specs.declared.Field.{Field}
-use Rattle.listing.specs.Part.{part, partBytes}
+use Rattle.codec.specs.declared.Field.{Field}
+use Rattle.codec.specs.Part.{part, partBytes}
 
 -- ---- the fields, by rising bit
 
@@ -40,15 +41,11 @@ endOutOfRange switches l = not (ltb (l .first) switches && ltb (l .second) switc
 unfoldable pub selfLink : Link → Bool
 selfLink l = eqb (l .first) (l .second)
 
--- a link is tried against both
-unfoldable pub soundLink : ℕ → Link → Answer Unit
-soundLink switches l = refuse 6 (endOutOfRange switches l) (refuse 7 (selfLink l) (given tt))
-
 -- 8: bytes remain
 unfoldable pub bytesRemain : List ℕ → Bool
 bytesRemain s = ltb 0 (length s)
 
--- ---- reading
+-- ---- reading: each step tries what concerns it and gives what it read, with the bytes after it
 
 abbrev pub linkOf : ℕ → ℕ → ℕ → Link
 linkOf first second tag = record { first = first; second = second; tag = tag }
@@ -62,30 +59,22 @@ headerOutOfRange vs = valueOutOfRange (getD vs 0 0) (getD vs 1 0) (getD vs 2 0)
 abbrev pub headerFrom : List ℕ → Plant
 headerFrom vs = plantWith maxLinks (getD vs 0 0) (getD vs 1 0) (getD vs 2 0)
 
--- the values of a header and the bytes after it, by refusal 5: the plant that the header tells of, with no link yet
-unfoldable pub judgedHeader : List ℕ → List ℕ → Answer (Plant × List ℕ)
-judgedHeader vs rest = refuse 5 (headerOutOfRange vs) (given (headerFrom vs, rest))
+-- the header: the plant that it tells of, with no link yet
+unfoldable pub header : List ℕ → Checked (Plant × List ℕ)
+header s = part headerFields s then λ r. check ((5, headerOutOfRange (r .0)) ∷ []) (headerFrom (r .0), r .1)
 
-unfoldable pub header : List ℕ → Answer (Plant × List ℕ)
-header s = part headerFields s >>= λ r. judgedHeader (r .0) (r .1)
+-- the ends of a link
+unfoldable pub soundLink : ℕ → Link → Checked Unit
+soundLink switches l = check ((6, endOutOfRange switches l) ∷ (7, selfLink l) ∷ []) tt
 
--- a link and the bytes after it, by refusals 6 and 7
-unfoldable pub judged : ℕ → Link → List ℕ → Answer (Link × List ℕ)
-judged switches l rest = soundLink switches l >>= λ _. given (l, rest)
+-- one link, after the record `before`
+unfoldable pub link : ℕ → Link → List ℕ → Checked (Link × List ℕ)
+link switches before s = part (linkFields before) s then λ r. soundLink switches (linkFrom (r .0)) then λ _. check [] (linkFrom (r .0), r .1)
 
--- one link, after the record `before`, and the bytes after it
-unfoldable pub link : ℕ → Link → List ℕ → Answer (Link × List ℕ)
-link switches before s = part (linkFields before) s >>= λ r. judged switches (linkFrom (r .0)) (r .1)
-
--- a link before those that follow it
-abbrev pub ahead : Link → List Link × List ℕ → Answer (List Link × List ℕ)
-ahead l q = given (l ∷ q .0, q .1)
-
--- so many links, and the bytes after them
-unfoldable pub links : ℕ → ℕ → Link → List ℕ → Answer (List Link × List ℕ)
-links switches zero before s = given ([], s)
-links switches (suc n) before s =
-    link switches before s >>= λ r. links switches n (r .0) (r .1) >>= ahead (r .0)
+-- so many links in order
+unfoldable pub links : ℕ → ℕ → Link → List ℕ → Checked (List Link × List ℕ)
+links switches zero before s = check [] ([], s)
+links switches (suc n) before s = link switches before s then λ r. links switches n (r .0) (r .1) then λ q. check [] (r .0 ∷ q .0, q .1)
 
 -- the plant p with these links, and zeros in every place past them
 unfoldable pub withLinks : Plant → List Link → Plant
@@ -93,20 +82,20 @@ withLinks p ls = record {
   switches = p .switches;
   count = p .count;
   start = p .start;
-  links = ls ++ replicate (maxLinks - length ls) zeroLink;
+  links = padded maxLinks zeroLink ls;
 }
 
--- the links are read: 8, or the plant with them
-unfoldable pub finish : Plant → List Link → List ℕ → Answer Plant
-finish p ls rest = refuse 8 (bytesRemain rest) (given (withLinks p ls))
+-- the links of the plant p; before the first record both ends count as 0
+unfoldable pub linked : Plant → List ℕ → Checked (Plant × List ℕ)
+linked p s = links (p .switches) (p .count) zeroLink s then λ r. check [] (withLinks p (r .0), r .1)
 
--- what follows the header
-unfoldable pub afterHeader : Plant → List ℕ → Answer Plant
-afterHeader p s = links (p .switches) (p .count) zeroLink s >>= λ r. finish p (r .0) (r .1)
+-- the end of the listing of the plant p
+unfoldable pub ended : Plant → List ℕ → Checked Plant
+ended p s = check ((8, bytesRemain s) ∷ []) p
 
--- the whole listing
-unfoldable pub decode : List ℕ → Answer Plant
-decode s = header s >>= λ h. afterHeader (h .0) (h .1)
+-- the whole listing: the header, then the records in order, then the end
+unfoldable pub reading : List ℕ → Checked Plant
+reading s = header s then (λ h. linked (h .0) (h .1)) then (λ l. ended (l .0) (l .1))
 
 -- ---- writing
 

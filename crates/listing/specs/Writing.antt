@@ -1,4 +1,4 @@
--- What the writer answers and leaves in the lent buffer: refusals 5, 6, 7 and 16 in checking order, for any plant value.
+-- What the writer comes to and leaves in the lent buffer: refusals 5, 6, 7 and 16 in checking order, for any plant value.
 use mathlib.Core.Bool.{Bool, not, _&&_, _||_}
 use mathlib.Core.List.{List, [], _∷_, _++_}
 use Prim.Native.Nat.{ℕ}
@@ -7,7 +7,7 @@ use lib.ListN.{length, drop}
 use Rattle.lists.specs.Members.{all}
 use Rattle.plant.specs.declared.Link.{Link}
 use Rattle.plant.specs.declared.Plant.{Plant}
-use Rattle.answers.specs.Answers.{Answer, given, refused, refuse, _>>=_}
+use Rattle.answers.specs.Checks.{Checked, check, answer, _then_, leaves}
 use Rattle.listing.specs.Listing.{valueOutOfRange, soundLink, linksOf, encode}
 
 unfoldable pub isZero : Link → Bool
@@ -18,26 +18,22 @@ unfoldable pub plantOutOfRange : Plant → Bool
 plantOutOfRange p = valueOutOfRange (p .switches) (p .count) (p .start) || not (all isZero (drop (p .count) (p .links)))
 
 -- 6 and 7, record by record
-abbrev pub soundLinks : ℕ → List Link → Answer Unit
-soundLinks switches [] = given tt
-soundLinks switches (l ∷ ls) = soundLink switches l >>= λ _. soundLinks switches ls
+abbrev pub soundLinks : ℕ → List Link → Checked Unit
+soundLinks switches [] = check [] tt
+soundLinks switches (l ∷ ls) = soundLink switches l then λ _. soundLinks switches ls
 
 -- all of 5, then 6 and 7
-unfoldable pub soundPlant : Plant → Answer Unit
-soundPlant p = refuse 5 (plantOutOfRange p) (soundLinks (p .switches) (linksOf p))
+unfoldable pub soundPlant : Plant → Checked Unit
+soundPlant p = check {A = Unit} ((5, plantOutOfRange p) ∷ []) tt then λ _. soundLinks (p .switches) (linksOf p)
 
 -- 16: the lent buffer is shorter than the listing
 unfoldable pub bufferShort : Plant → List ℕ → Bool
 bufferShort p b = ltb (length b) (length (encode p))
 
 -- the length of the listing
-unfoldable pub written : Plant → List ℕ → Answer ℕ
-written p b = soundPlant p >>= λ _. refuse 16 (bufferShort p b) (given (length (encode p)))
+unfoldable pub writing : Plant → List ℕ → Checked ℕ
+writing p b = soundPlant p then λ _. check ((16, bufferShort p b) ∷ []) (length (encode p))
 
 -- the buffer afterwards: the listing, then its old bytes; at a refusal as it was
-abbrev pub leaves : Plant → List ℕ → Answer ℕ → List ℕ
-leaves p b (given n) = encode p ++ drop n b
-leaves p b (refused n) = b
-
 unfoldable pub bufferAfter : Plant → List ℕ → List ℕ
-bufferAfter p b = leaves p b (written p b)
+bufferAfter p b = leaves (λ n. encode p ++ drop n b) b (answer (writing p b))

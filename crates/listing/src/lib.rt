@@ -1,53 +1,50 @@
 // The listing of a plant (document 01, "Listing bytes"): its reader and its writer.
 use answers::Refusal;
 use answers::Verdict;
+use codec::Field;
+use codec::Layout;
+use codec::part_size;
+use codec::put_part;
+use codec::read_part;
 use plant::Link;
 use plant::Plant;
 ghost use mathlib.Core.Path.{_≡_};
 ghost use mathlib.Core.List.{List, [], _∷_};
-ghost use Prim.Native.Nat.{ℕ, _+_, _*_, _^_, _≤_, _<_};
-ghost use lib.ListN.{length, take, drop};
+ghost use Prim.Native.Nat.{ℕ, _+_, _^_, _≤_, _<_};
+ghost use lib.ListN.{length, drop};
 ghost use lib.Seq.{sets};
-ghost use Rattle.listing.specs.Field.{number, bytesOf};
-ghost use Rattle.listing.specs.Part.{taken, size, valueOf, repeats, part, fieldBytes, isGiven, mapOf, partBytes};
 ghost use Rattle.lists.specs.Members.{all};
 ghost use Rattle.plant.specs.Links.{zeroLink, plantWith};
-ghost use Rattle.answers.specs.Answers.{given, refused, refuse, numberOf};
+ghost use Rattle.answers.specs.Answers.{Answer, refused, numberOf, verdictAnswer};
+ghost use Rattle.answers.specs.Checks.{answer};
 ghost use Rattle.limits.specs.Limits.{maxLinks};
-ghost use Rattle.listing.specs.Listing.{valueOutOfRange, headerFields, linkFields, bytesRemain, linkOf, soundLink, judged, header, link, afterHeader, decode, linksOf, headerBytes, linkBytes, linksBytes, encode};
-ghost use Rattle.listing.specs.Writing.{isZero, soundLinks, soundPlant, written, bufferAfter};
-ghost use Rattle.answers.specs.Answers.{verdictAnswer};
-ghost use Rattle.listing.specs.Answers.{fieldList, Proper, ProperFields, fieldsOf, anyRepeats, Fits, partAnswer, headerAnswer, recordAnswer, Reads, writeAnswer};
+ghost use Rattle.codec.specs.Layout.{Lays};
+ghost use Rattle.listing.specs.Listing.{valueOutOfRange, headerFields, linkFields, linkOf, soundLink, link, linked, linksOf, linksBytes, encode};
+ghost use Rattle.listing.specs.Writing.{isZero, soundLinks, soundPlant, writing, bufferAfter};
+ghost use Rattle.listing.specs.Answers.{Reads, writeAnswer};
+ghost use Rattle.listing.specs.Steps.{recordAnswer, judgedLink, HeaderIs, ReadsHeader, LinkedIs, ReadsLinks, ReadsEnd};
 
-// A field of a part: its width in bytes, and the value that its absence means.
-pub struct Field {
-    pub width: usize,
-    pub absent: u32,
-}
-
-// The three fields of a part, by rising bit.
-pub struct Fields {
-    pub first: Field,
-    pub second: Field,
-    pub third: Field,
-}
-
-// A part's three values by rising bit and the place after it, or why there is none.
-pub enum Part {
-    Values(u32, u32, u32, usize),
-    Refused(Refusal),
-}
-
-// Switch count, link count and start of a header and the place after it.
-pub enum Header {
-    Values(u8, u16, u8, usize),
-    Refused(Refusal),
+// Switch count, link count and start of a header, and the place after it. At a refusal they are those of the plant of one switch and no link, and the place is that
+// of the header.
+pub struct Header {
+    pub verdict: Verdict,
+    pub switches: u8,
+    pub count: u16,
+    pub start: u8,
+    pub next: usize,
 }
 
 // A link of a record and the place after it.
 pub enum Record {
     Link(Link, usize),
     Refused(Refusal),
+}
+
+// The plant with its links, and the place after them. At a refusal it is the plant of one switch and no link, and the place is where the links began.
+pub struct Linked {
+    pub verdict: Verdict,
+    pub plant: Plant,
+    pub next: usize,
 }
 
 // A plant that was read. At a refusal it is the plant of one switch and no link.
@@ -62,10 +59,20 @@ pub enum Written {
     Refused(Refusal),
 }
 
+// The layout of a part with three fields: the width of each and the value that its absence means.
+fn three(first: Field, second: Field, third: Field) -> Layout
+    requires { ⌜ (first .width ≤ 4) × (second .width ≤ 4) × (third .width ≤ 4) ⌝ }
+    ensures { λ r. do ⌜ Lays (← ⟦Layout::MOST⟧ .entry) (first ∷ second ∷ third ∷ []) r ⌝ }
+{
+    let mut fields = [first; Layout::MOST];
+    fields[1] = second;
+    fields[2] = third;
+    Layout { count: 3, fields }
+}
+
 // The fields of a header: switch count, link count, start.
-fn header_fields() -> Fields
-    ensures { λ r. ⌜ fieldList r ≡ headerFields ⌝ }
-    ensures { λ r. ⌜ ProperFields r ⌝ }
+fn header_layout() -> Layout
+    ensures { λ r. do ⌜ Lays (← ⟦Layout::MOST⟧ .entry) headerFields r ⌝ }
 {
     let first = Field {
         width: 1,
@@ -79,17 +86,12 @@ fn header_fields() -> Fields
         width: 1,
         absent: 0,
     };
-    Fields {
-        first,
-        second,
-        third,
-    }
+    three(first, second, third)
 }
 
 // The fields of a link after the record `before`: first end, second end, tag.
-fn link_fields(before: Link) -> Fields
-    ensures { λ r. ⌜ fieldList r ≡ linkFields before ⌝ }
-    ensures { λ r. ⌜ ProperFields r ⌝ }
+fn link_layout(before: Link) -> Layout
+    ensures { λ r. do ⌜ Lays (← ⟦Layout::MOST⟧ .entry) (linkFields before) r ⌝ }
 {
     let first = Field {
         width: 1,
@@ -103,128 +105,26 @@ fn link_fields(before: Link) -> Fields
         width: 2,
         absent: 0,
     };
-    Fields {
-        first,
-        second,
-        third,
-    }
+    three(first, second, third)
 }
 
-fn wide(b: u8) -> u32
-    ensures { λ r. ⌜ (r ≡ b) × (r < 2 ^ 8) ⌝ }
+// The values of a plant's header, and of a link.
+fn header_values(p: Plant) -> [u32; Layout::MOST]
+    ensures { λ r. ⌜ r ≡ p .switches ∷ p .count ∷ p .start ∷ [] ⌝ }
 {
-    b as u32
+    let mut vs = [p.switches as u32; Layout::MOST];
+    vs[1] = p.count as u32;
+    vs[2] = p.start as u32;
+    vs
 }
 
-// The number in `width` bytes from `at` on, low byte first.
-fn number_at(s: &[u8], at: usize, width: usize) -> u32
-    requires { ⌜ (width ≤ 4) × (at + width ≤ length (now s)) ⌝ }
-    ensures { λ r. ⌜ (r ≡ number (take width (drop at (now (s .entry))))) × (r < (2 ^ 8) ^ width) ⌝ }
+fn link_values(l: Link) -> [u32; Layout::MOST]
+    ensures { λ r. ⌜ r ≡ l .first ∷ l .second ∷ l .tag ∷ [] ⌝ }
 {
-    let mut n: u32 = 0;
-    let mut i = width;
-    while 0 < i {
-        i -= 1;
-        n = n * 256 + wide(s[at + i]);
-    }
-    n
-}
-
-// The value of a field: the number in its bytes if its bit is set, else what its absence means.
-fn value_at(s: &[u8], at: usize, bit: usize, f: Field) -> u32
-    requires { ⌜ Proper f × (at + taken f bit ≤ length (now s)) ⌝ }
-    ensures { λ r. ⌜ (r ≡ valueOf f bit (drop at (now (s .entry)))) × (r < (2 ^ 8) ^ f .width) ⌝ }
-{
-    if bit == 0 {
-        return f.absent;
-    }
-    let width = f.width;
-    number_at(s, at, width)
-}
-
-// The bytes that a field takes, by its bit.
-fn taken_by(f: Field, bit: usize) -> usize
-    requires { ⌜ Proper f ⌝ }
-    ensures { λ r. ⌜ (r ≡ taken f bit) × (r ≤ 4) ⌝ }
-{
-    if bit == 0 {
-        return 0;
-    }
-    f.width
-}
-
-// Is a field given with the value that its absence means?
-fn is_redundant(bit: usize, value: u32, absent: u32) -> bool
-    ensures { λ r. ⌜ r ≡ repeats bit value absent ⌝ }
-{
-    if bit == 0 {
-        return false;
-    }
-    value == absent
-}
-
-// The bytes that the fields of a part take, by its map.
-fn fields_size(fs: Fields, map: usize) -> usize
-    requires { ⌜ ProperFields fs ⌝ }
-    ensures { λ r. ⌜ (r ≡ size map (fieldList fs)) × (r ≤ 12) ⌝ }
-{
-    taken_by(fs.first, map % 2)
-        + taken_by(fs.second, map / 2 % 2)
-        + taken_by(fs.third, map / 2 / 2 % 2)
-}
-
-// Is one of the fields of a part redundant, by its map and its values?
-fn any_redundant(fs: Fields, map: usize, x: u32, y: u32, z: u32) -> bool
-    ensures { λ r. ⌜ r ≡ anyRepeats fs map x y z ⌝ }
-{
-    if is_redundant(map % 2, x, fs.first.absent) {
-        return true;
-    }
-    if is_redundant(map / 2 % 2, y, fs.second.absent) {
-        return true;
-    }
-    is_redundant(map / 2 / 2 % 2, z, fs.third.absent)
-}
-
-// The fields of a part whose map was read and whose bytes are there, from `at` on: refused if one is redundant.
-fn read_fields(s: &[u8], at: usize, map: usize, fs: Fields) -> Part
-    requires { ⌜ ProperFields fs × (at + size map (fieldList fs) ≤ length (now s)) ⌝ }
-    ensures { λ r. ⌜ partAnswer (now (s .entry)) r ≡ fieldsOf (fieldList fs) map (drop at (now (s .entry))) ⌝ }
-    ensures { λ r. ⌜ Fits fs r ⌝ }
-{
-    let i = map % 2;
-    let j = map / 2 % 2;
-    let k = map / 2 / 2 % 2;
-    let second = at + taken_by(fs.first, i);
-    let third = second + taken_by(fs.second, j);
-    let next = third + taken_by(fs.third, k);
-    let x = value_at(s, at, i, fs.first);
-    let y = value_at(s, second, j, fs.second);
-    let z = value_at(s, third, k, fs.third);
-    if any_redundant(fs, map, x, y, z) {
-        return Part::Refused(Refusal::FieldRedundant);
-    }
-    Part::Values(x, y, z, next)
-}
-
-// The part that begins at `at`, with these fields.
-fn read_part(s: &[u8], at: usize, fs: Fields) -> Part
-    requires { ⌜ ProperFields fs ⌝ }
-    ensures { λ r. ⌜ partAnswer (now (s .entry)) r ≡ part (fieldList fs) (drop at (now (s .entry))) ⌝ }
-    ensures { λ r. ⌜ Fits fs r ⌝ }
-{
-    if s.len() <= at {
-        return Part::Refused(Refusal::MapMissing);
-    }
-    let map = wide(s[at]) as usize;
-    if 8 <= map {
-        return Part::Refused(Refusal::MapUndefined);
-    }
-    let from = at + 1;
-    if s.len() - from < fields_size(fs, map) {
-        return Part::Refused(Refusal::FieldMissing);
-    }
-    read_fields(s, from, map, fs)
+    let mut vs = [l.first as u32; Layout::MOST];
+    vs[1] = l.second as u32;
+    vs[2] = l.tag as u32;
+    vs
 }
 
 // Refusal 5's condition on the values of a header.
@@ -246,29 +146,49 @@ fn out_of_range(switches: u32, count: u32, start: u32) -> bool
     true
 }
 
-// The values of a header, judged.
-fn judge_header(switches: u32, count: u32, start: u32, next: usize) -> Header
-    ensures { λ r. ⌜ ((s : List ℕ) → headerAnswer s r ≡ refuse 5 (valueOutOfRange switches count start) (given (plantWith maxLinks switches count start, drop next s))) ⌝ }
+// A header at `at` that is refused.
+fn refused_header(k: Refusal, at: usize) -> Header
+    ensures { λ r. ⌜ ((s : List ℕ) (a : Answer (Plant × List ℕ)) → a ≡ refused (numberOf k) → HeaderIs s at a r) ⌝ }
 {
-    if out_of_range(switches, count, start) {
-        return Header::Refused(Refusal::ValueOutOfRange);
+    Header {
+        verdict: Verdict::Refused(k),
+        switches: 1,
+        count: 0,
+        start: 0,
+        next: at,
     }
-    Header::Values(switches as u8, count as u16, start as u8, next)
 }
 
-// The header that begins at `at`.
+// The header that begins at `at`: refusals 1 to 5.
 pub fn read_header(s: &[u8], at: usize) -> Header
-    ensures { λ r. ⌜ headerAnswer (now (s .entry)) r ≡ header (drop at (now (s .entry))) ⌝ }
+    ensures { λ r. ⌜ ReadsHeader (now (s .entry)) at r ⌝ }
 {
-    match read_part(s, at, header_fields()) {
-        Part::Values(switches, count, start, next) => judge_header(switches, count, start, next),
-        Part::Refused(k) => Header::Refused(k),
+    let part = read_part(s, at, header_layout());
+    let verdict = part.verdict;
+    let vs = part.values;
+    match verdict {
+        Verdict::Accepted => {
+            let switches = vs[0];
+            let count = vs[1];
+            let start = vs[2];
+            if out_of_range(switches, count, start) {
+                return refused_header(Refusal::ValueOutOfRange, at);
+            }
+            Header {
+                verdict: Verdict::Accepted,
+                switches: switches as u8,
+                count: count as u16,
+                start: start as u8,
+                next: part.next,
+            }
+        }
+        Verdict::Refused(k) => refused_header(k, at),
     }
 }
 
 // Refusals 6 and 7 of a link with these ends.
 fn judge_ends(first: u32, second: u32, switches: u8) -> Verdict
-    ensures { λ r. ⌜ ((tag : ℕ) → verdictAnswer r ≡ soundLink switches (linkOf first second tag)) ⌝ }
+    ensures { λ r. ⌜ ((tag : ℕ) → verdictAnswer r ≡ answer (soundLink switches (linkOf first second tag))) ⌝ }
 {
     let most = switches as u32;
     if most <= first {
@@ -286,7 +206,7 @@ fn judge_ends(first: u32, second: u32, switches: u8) -> Verdict
 // The ends and the tag of a link, judged.
 fn judge_link(first: u32, second: u32, tag: u32, switches: u8, next: usize) -> Record
     requires { ⌜ tag < 2 ^ 16 ⌝ }
-    ensures { λ r. ⌜ ((s : List ℕ) → recordAnswer s r ≡ judged switches (linkOf first second tag) (drop next s)) ⌝ }
+    ensures { λ r. ⌜ ((s : List ℕ) → recordAnswer s r ≡ judgedLink switches (linkOf first second tag) (drop next s)) ⌝ }
 {
     match judge_ends(first, second, switches) {
         Verdict::Accepted => {
@@ -302,12 +222,73 @@ fn judge_link(first: u32, second: u32, tag: u32, switches: u8, next: usize) -> R
 }
 
 // The link record that begins at `at`, after the record `before`, in a plant of so many switches.
-pub fn read_link(s: &[u8], at: usize, before: Link, switches: u8) -> Record
-    ensures { λ r. ⌜ recordAnswer (now (s .entry)) r ≡ link switches before (drop at (now (s .entry))) ⌝ }
+fn read_link(s: &[u8], at: usize, before: Link, switches: u8) -> Record
+    ensures { λ r. ⌜ recordAnswer (now (s .entry)) r ≡ answer (link switches before (drop at (now (s .entry)))) ⌝ }
 {
-    match read_part(s, at, link_fields(before)) {
-        Part::Values(first, second, tag, next) => judge_link(first, second, tag, switches, next),
-        Part::Refused(k) => Record::Refused(k),
+    let part = read_part(s, at, link_layout(before));
+    let verdict = part.verdict;
+    let vs = part.values;
+    match verdict {
+        Verdict::Accepted => judge_link(vs[0], vs[1], vs[2], switches, part.next),
+        Verdict::Refused(k) => Record::Refused(k),
+    }
+}
+
+// The links from `at` on, refused.
+fn refused_links(k: Refusal, at: usize) -> Linked
+    ensures { λ r. ⌜ ((s : List ℕ) (a : Answer (Plant × List ℕ)) → a ≡ refused (numberOf k) → LinkedIs s at a r) ⌝ }
+{
+    let plant = Plant::empty();
+    Linked {
+        verdict: Verdict::Refused(k),
+        plant,
+        next: at,
+    }
+}
+
+// The links that follow a header with these values, from `from` on.
+fn read_records(s: &[u8], from: usize, switches: u8, count: u16, start: u8) -> Linked
+    requires { ⌜ count ≤ maxLinks ⌝ }
+    ensures { λ r. ⌜ LinkedIs (now (s .entry)) from (answer (linked (plantWith maxLinks switches count start) (drop from (now (s .entry))))) r ⌝ }
+{
+    let mut p = Plant::with(switches, count, start);
+    let n = count as usize;
+    let mut before = Link::zero();
+    let mut at = from;
+    let mut i: usize = 0;
+    while i < n {
+        match read_link(s, at, before, switches) {
+            Record::Link(l, next) => {
+                p.links[i] = l;
+                before = p.links[i];
+                at = next;
+            }
+            Record::Refused(k) => {
+                return refused_links(k, from);
+            }
+        }
+        i += 1;
+    }
+    Linked {
+        verdict: Verdict::Accepted,
+        plant: p,
+        next: at,
+    }
+}
+
+// The links from `at` on, after the header h. No header that was read has more links than a plant has places.
+pub fn read_links(s: &[u8], at: usize, h: Header) -> Linked
+    ensures { λ r. ⌜ ReadsLinks (now (s .entry)) at h r ⌝ }
+{
+    let verdict = h.verdict;
+    match verdict {
+        Verdict::Accepted => {
+            if Plant::MAX_LINKS < h.count as usize {
+                return refused_links(Refusal::ValueOutOfRange, at);
+            }
+            read_records(s, at, h.switches, h.count, h.start)
+        }
+        Verdict::Refused(k) => refused_links(k, at),
     }
 }
 
@@ -322,52 +303,23 @@ pub fn refused_reading(k: Refusal) -> Decoded
     }
 }
 
-// Do bytes remain from `at` on?
-pub fn bytes_remain(s: &[u8], at: usize) -> bool
-    ensures { λ r. ⌜ r ≡ bytesRemain (drop at (now (s .entry))) ⌝ }
+// The end of the listing, at `at`, after the links l.
+pub fn read_end(s: &[u8], at: usize, l: Linked) -> Decoded
+    ensures { λ r. ⌜ ReadsEnd (now (s .entry)) at l r ⌝ }
 {
-    at < s.len()
-}
-
-// The links that follow a header with these values, from `from` to the end of the listing.
-fn read_links(s: &[u8], from: usize, switches: u8, count: u16, start: u8) -> Decoded
-    requires { ⌜ count ≤ maxLinks ⌝ }
-    ensures { λ r. ⌜ Reads (afterHeader (plantWith maxLinks switches count start) (drop from (now (s .entry)))) r ⌝ }
-{
-    let mut p = Plant::with(switches, count, start);
-    let n = count as usize;
-    let mut before = Link::zero();
-    let mut at = from;
-    let mut i: usize = 0;
-    while i < n {
-        match read_link(s, at, before, switches) {
-            Record::Link(l, next) => {
-                p.links[i] = l;
-                before = l;
-                at = next;
+    let verdict = l.verdict;
+    match verdict {
+        Verdict::Accepted => {
+            if at < s.len() {
+                return refused_reading(Refusal::BytesRemain);
             }
-            Record::Refused(k) => {
-                return refused_reading(k);
+            let plant = l.plant;
+            Decoded {
+                verdict: Verdict::Accepted,
+                plant,
             }
         }
-        i += 1;
-    }
-    if bytes_remain(s, at) {
-        return refused_reading(Refusal::BytesRemain);
-    }
-    Decoded {
-        verdict: Verdict::Accepted,
-        plant: p,
-    }
-}
-
-// The plant of the listing that begins at `at`, or why there is none: refusals 1 to 8.
-pub fn read_from(s: &[u8], at: usize) -> Decoded
-    ensures { λ r. ⌜ Reads (decode (drop at (now (s .entry)))) r ⌝ }
-{
-    match read_header(s, at) {
-        Header::Values(switches, count, start, next) => read_links(s, next, switches, count, start),
-        Header::Refused(k) => refused_reading(k),
+        Verdict::Refused(k) => refused_reading(k),
     }
 }
 
@@ -404,7 +356,7 @@ fn places_zero(p: Plant) -> bool
 // Refusals 6 and 7, link by link.
 fn judge_links(p: Plant) -> Verdict
     requires { ⌜ p .count ≤ maxLinks ⌝ }
-    ensures { λ r. ⌜ verdictAnswer r ≡ soundLinks (p .switches) (linksOf p) ⌝ }
+    ensures { λ r. ⌜ verdictAnswer r ≡ answer (soundLinks (p .switches) (linksOf p)) ⌝ }
 {
     let n = p.count as usize;
     let switches = p.switches;
@@ -424,7 +376,7 @@ fn judge_links(p: Plant) -> Verdict
 
 // Refusals 5, 6 and 7 of any plant value.
 fn judge_plant(p: Plant) -> Verdict
-    ensures { λ r. ⌜ verdictAnswer r ≡ soundPlant p ⌝ }
+    ensures { λ r. ⌜ verdictAnswer r ≡ answer (soundPlant p) ⌝ }
 {
     if out_of_range(p.switches as u32, p.count as u32, p.start as u32) {
         return Verdict::Refused(Refusal::ValueOutOfRange);
@@ -435,150 +387,18 @@ fn judge_plant(p: Plant) -> Verdict
     judge_links(p)
 }
 
-// A number into `width` bytes from `at` on, low byte first.
-fn put_number(buf: &mut [u8], at: usize, width: usize, value: u32)
-    requires { ⌜ at + width ≤ length (now buf) ⌝ }
-    ensures { λ _. ⌜ now (buf .exit) ≡ sets (now (buf .entry)) at (bytesOf width value) ⌝ }
-{
-    let mut v = value;
-    let mut i: usize = 0;
-    while i < width {
-        buf[at + i] = (v % 256) as u8;
-        v = v / 256;
-        i += 1;
-    }
-}
-
-// The bytes that a field with this value takes: none if its absence means it.
-fn field_size(f: Field, value: u32) -> usize
-    requires { ⌜ Proper f ⌝ }
-    ensures { λ r. ⌜ (r ≡ length (fieldBytes f value)) × (r ≤ 4) ⌝ }
-{
-    if value == f.absent {
-        return 0;
-    }
-    f.width
-}
-
-// The bit of a field with this value.
-fn field_bit(f: Field, value: u32) -> u8
-    ensures { λ r. ⌜ (r ≡ isGiven f value) × (r ≤ 1) ⌝ }
-{
-    if value == f.absent {
-        return 0;
-    }
-    1
-}
-
-// A field from `at` on; the place after it.
-fn put_field(buf: &mut [u8], at: usize, f: Field, value: u32) -> usize
-    requires { ⌜ at + length (fieldBytes f value) ≤ length (now buf) ⌝ }
-    ensures { λ r. ⌜ r ≡ at + length (fieldBytes f value) ⌝ }
-    ensures { λ _. ⌜ now (buf .exit) ≡ sets (now (buf .entry)) at (fieldBytes f value) ⌝ }
-{
-    if value == f.absent {
-        return at;
-    }
-    let width = f.width;
-    put_number(buf, at, width, value);
-    at + width
-}
-
-// The bytes of a part with these fields and values.
-fn part_size(fs: Fields, x: u32, y: u32, z: u32) -> usize
-    requires { ⌜ ProperFields fs ⌝ }
-    ensures { λ r. ⌜ (r ≡ length (partBytes (fieldList fs) (x ∷ y ∷ z ∷ []))) × (r ≤ 13) ⌝ }
-{
-    1 + field_size(fs.first, x) + field_size(fs.second, y) + field_size(fs.third, z)
-}
-
-// The map of a part with these fields and values.
-fn part_map(fs: Fields, x: u32, y: u32, z: u32) -> u8
-    ensures { λ r. ⌜ r ≡ mapOf (fieldList fs) (x ∷ y ∷ z ∷ []) ⌝ }
-{
-    field_bit(fs.first, x) + 2 * (field_bit(fs.second, y) + 2 * field_bit(fs.third, z))
-}
-
-// A part from `at` on; the place after it.
-fn put_part(buf: &mut [u8], at: usize, fs: Fields, x: u32, y: u32, z: u32) -> usize
-    requires { ⌜ at + length (partBytes (fieldList fs) (x ∷ y ∷ z ∷ [])) ≤ length (now buf) ⌝ }
-    ensures { λ r. ⌜ r ≡ at + length (partBytes (fieldList fs) (x ∷ y ∷ z ∷ [])) ⌝ }
-    ensures { λ _. ⌜ now (buf .exit) ≡ sets (now (buf .entry)) at (partBytes (fieldList fs) (x ∷ y ∷ z ∷ [])) ⌝ }
-{
-    buf[at] = part_map(fs, x, y, z);
-    let second = put_field(buf, at + 1, fs.first, x);
-    let third = put_field(buf, second, fs.second, y);
-    put_field(buf, third, fs.third, z)
-}
-
-// The bytes of a plant's header.
-fn header_size(p: Plant) -> usize
-    ensures { λ r. ⌜ (r ≡ length (headerBytes p)) × (r ≤ 13) ⌝ }
-{
-    part_size(
-        header_fields(),
-        p.switches as u32,
-        p.count as u32,
-        p.start as u32,
-    )
-}
-
-// A plant's header at the front of the buffer; the place after it.
-fn put_header(buf: &mut [u8], p: Plant) -> usize
-    requires { ⌜ length (headerBytes p) ≤ length (now buf) ⌝ }
-    ensures { λ r. ⌜ r ≡ length (headerBytes p) ⌝ }
-    ensures { λ _. ⌜ now (buf .exit) ≡ sets (now (buf .entry)) 0 (headerBytes p) ⌝ }
-{
-    put_part(
-        buf,
-        0,
-        header_fields(),
-        p.switches as u32,
-        p.count as u32,
-        p.start as u32,
-    )
-}
-
-// The bytes of a link after the record `before`.
-fn link_size(before: Link, l: Link) -> usize
-    ensures { λ r. ⌜ (r ≡ length (linkBytes before l)) × (r ≤ 13) ⌝ }
-{
-    part_size(
-        link_fields(before),
-        l.first as u32,
-        l.second as u32,
-        l.tag as u32,
-    )
-}
-
-// A link after the record `before`, from `at` on; the place after it.
-fn put_link(buf: &mut [u8], at: usize, before: Link, l: Link) -> usize
-    requires { ⌜ at + length (linkBytes before l) ≤ length (now buf) ⌝ }
-    ensures { λ r. ⌜ r ≡ at + length (linkBytes before l) ⌝ }
-    ensures { λ _. ⌜ now (buf .exit) ≡ sets (now (buf .entry)) at (linkBytes before l) ⌝ }
-{
-    put_part(
-        buf,
-        at,
-        link_fields(before),
-        l.first as u32,
-        l.second as u32,
-        l.tag as u32,
-    )
-}
-
 // The length of a plant's listing.
 fn listing_size(p: Plant) -> usize
     requires { ⌜ p .count ≤ maxLinks ⌝ }
     ensures { λ r. ⌜ r ≡ length (encode p) ⌝ }
 {
     let n = p.count as usize;
-    let mut size = header_size(p);
+    let mut size = part_size(header_layout(), header_values(p));
     let mut before = Link::zero();
     let mut i: usize = 0;
     while i < n {
         let l = p.links[i];
-        size += link_size(before, l);
+        size += part_size(link_layout(before), link_values(l));
         before = l;
         i += 1;
     }
@@ -596,7 +416,7 @@ fn put_links(p: Plant, buf: &mut [u8], from: usize)
     let mut i: usize = 0;
     while i < n {
         let l = p.links[i];
-        at = put_link(buf, at, before, l);
+        at = put_part(buf, at, link_layout(before), link_values(l));
         before = l;
         i += 1;
     }
@@ -607,13 +427,13 @@ fn put_listing(p: Plant, buf: &mut [u8])
     requires { ⌜ (p .count ≤ maxLinks) × (length (encode p) ≤ length (now buf)) ⌝ }
     ensures { λ _. ⌜ now (buf .exit) ≡ sets (now (buf .entry)) 0 (encode p) ⌝ }
 {
-    let from = put_header(buf, p);
+    let from = put_part(buf, 0, header_layout(), header_values(p));
     put_links(p, buf, from);
 }
 
 // The listing of a plant into the front of the lent buffer: its length, or refusals 5, 6, 7 and 16.
 pub fn write(p: Plant, buffer: &mut [u8]) -> Written
-    ensures { λ r. ⌜ writeAnswer r ≡ written p (now (buffer .entry)) ⌝ }
+    ensures { λ r. ⌜ writeAnswer r ≡ answer (writing p (now (buffer .entry))) ⌝ }
     ensures { λ _. ⌜ now (buffer .exit) ≡ bufferAfter p (now (buffer .entry)) ⌝ }
 {
     match judge_plant(p) {

@@ -11,12 +11,15 @@ use Rattle.answers.specs.Checks.{check, answer, leaves}
 use Rattle.answers.proofs.Checks.{goes-on, stops, gives-so, refuses-so}
 use Rattle.answers.proofs.Beside.{beside-as}
 use Rattle.listing.specs.declared.Decoded.{Decoded}
-use Rattle.listing.specs.Field.{Bytes}
+use Rattle.codec.specs.Field.{Bytes}
 use Rattle.listing.specs.Listing.{encode}
-use Rattle.listing.specs.Writing.{bufferShort, bufferAfter}
-use Rattle.listing.specs.Conditions.{Typed, reading, writing}
+use Rattle.listing.specs.Writing.{soundPlant, bufferShort, bufferAfter}
+use Rattle.listing.specs.Steps.{Typed}
+use Rattle.listing.specs.Listing.{reading}
+use Rattle.listing.specs.Writing.{writing}
 use Rattle.listing.specs.Answers.{Reads}
-use Rattle.listing.proofs.Shim.{read-write, decode-sound, sound-writes, written-given, written-read, buffer-after}
+use Rattle.listing.proofs.RoundTrip.{read-write, decode-sound}
+use Rattle.listing.proofs.WriteRoundTrip.{sound-given, written-given, written-read}
 use Rattle.listing.proofs.WriteRoundTrip.{buffer-length}
 use Rattle.planner.specs.Calls.{rewriting, rewritten, rereading}
 
@@ -28,13 +31,13 @@ module _ (s b : List ℕ) where
     same = read-write s p bytes e
 
     pub again-answer : answer (writing p b) ≡ answer (rewriting s b)
-    unfolding rewriting bufferShort
+    unfolding rewriting writing bufferShort
     again-answer =
-        sound-writes p b (decode-sound s p bytes e) ∙ rw same (sym (goes-on (reading s) (λ _. check ((16, ltb (length b) (length s)) ∷ []) (length s)) p e))
+        goes-on (soundPlant p) (λ _. check ((16, ltb (length b) (length (encode p))) ∷ []) (length (encode p))) tt (sound-given p (decode-sound s p bytes e)) ∙ rw same (sym (goes-on (reading s) (λ _. check ((16, ltb (length b) (length s)) ∷ []) (length s)) p e))
 
     pub again-buffer : bufferAfter p b ≡ rewritten s b
-    unfolding rewritten
-    again-buffer = buffer-after p b ∙ ap (leaves (λ n. encode p ++ drop n b) b) again-answer ∙ ap (λ (x : List ℕ). leaves (λ n. x ++ drop n b) b (answer (rewriting s b))) same
+    unfolding rewritten bufferAfter
+    again-buffer = ap (leaves (λ n. encode p ++ drop n b) b) again-answer ∙ ap (λ (x : List ℕ). leaves (λ n. x ++ drop n b) b (answer (rewriting s b))) same
 
   module _ (n : ℕ) (e : answer (reading s) ≡ refused n) where
     pub again-refused : refused n ≡ answer (rewriting s b)
@@ -55,7 +58,7 @@ module _ (p : Plant) (b : List ℕ) where
   module _ (n : ℕ) (e : answer (writing p b) ≡ given n) where
     -- the listing lies in the buffer
     pub back-room : n ≤ length (bufferAfter p b)
-    back-room = let w = written-given p b n e in omega (arith, w .0, w .1, buffer-length p b)
+    back-room = let w = written-given p b n e in omega (arith, w .1, w .2, buffer-length p b)
 
     pub back-given : Typed p → (r : Decoded) → Reads (answer (reading (take n (bufferAfter p b)))) r → Reads (answer (rereading p b)) r
     unfolding rereading

@@ -15,7 +15,7 @@ use Rattle.plant.proofs.Plant
 use Rattle.plant.specs.declared.Plant.{Plant}
 use Rattle.plant.specs.Links.{zeroLink}
 use Rattle.limits.specs.Limits.{maxLinks}
-use Rattle.listing.specs.Conditions.{Typed}
+use Rattle.listing.specs.Steps.{Typed}
 
 pub each-good : {d : Type 0} (f : d → List Val → Fml) (P : d → Type 0) → ((x : d) (vs : List Val) → shadow (f x vs) → P x)
     → (xs : List d) (us : List Val) → shadow (each d f xs us) → (i : ℕ) (z : d) → i < length xs → P (getD xs i z)

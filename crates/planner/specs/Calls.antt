@@ -9,7 +9,8 @@ use Rattle.plant.specs.declared.Plant.{Plant}
 use Rattle.answers.specs.Answers.{Answer}
 use Rattle.answers.specs.Checks.{Checked, check, answer, _then_, _giving_, leaves}
 use Rattle.limits.specs.Limits.{maxLinks}
-use Rattle.listing.specs.Conditions.{reading, writing}
+use Rattle.listing.specs.Listing.{reading}
+use Rattle.listing.specs.Writing.{writing}
 use Rattle.walks.specs.Graph.{bridge}
 use Rattle.routes.specs.Plants.{trailOf}
 use Rattle.trail.specs.Filled.{filledWith}

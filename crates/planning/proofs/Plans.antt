@@ -2,10 +2,9 @@
 use mathlib.Core.Path.{_≡_, refl, sym, ap, _∙_, subst}
 use mathlib.Core.Bool.{true, false, not}
 use mathlib.Core.List.{List, [], _∷_}
-use Prim.Native.Nat.{ℕ, suc, _^_, _≤_, _<_}
+use Prim.Native.Nat.{ℕ, _≤_, _<_}
 use borrow.Author.Tests.{leb-false, le-leb, lt-leb, not-false}
 use lib.Dec.{leb}
-use lib.ListN.{getD}
 use Rattle.lists.proofs.Tests.{true-T}
 use Rattle.plant.specs.declared.Plant.{Plant}
 use Rattle.answers.specs.declared.Refusal.{Refusal}
@@ -19,16 +18,11 @@ use Rattle.walks.specs.Graph.{Connected, connected}
 use Rattle.walks.proofs.Tests.{connected-is}
 use Rattle.walks.proofs.Valid.{sound-valid}
 use Rattle.listing.specs.declared.Decoded.{Decoded}
-use Rattle.listing.specs.Field.{Bytes}
-use Rattle.listing.specs.Conditions.{reading}
+use Rattle.codec.specs.Field.{Bytes}
+use Rattle.listing.specs.Listing.{reading}
 use Rattle.listing.specs.Answers.{Reads}
-use Rattle.listing.proofs.Shim.{decode-sound}
+use Rattle.listing.proofs.RoundTrip.{decode-sound}
 use Rattle.planning.specs.Planning.{notConnected, planning, switchOutOfRange, planningAt, Ready}
-
--- a slice of bytes holds bytes
-pub bytes-known : (s : List ℕ) → ((i : ℕ) → getD s i 0 < 2 ^ 8) → Bytes s
-bytes-known [] f = tt
-bytes-known (b ∷ s) f = (f 0, bytes-known s (λ i. f (suc i)))
 
 -- ---- refusals 1 to 9
 

@@ -11,7 +11,7 @@ use Rattle.answers.specs.Checks.{Checked, check, _then_}
 use Rattle.limits.specs.Sound.{Sound}
 use Rattle.walks.specs.Graph.{Connected, connected}
 use Rattle.listing.specs.declared.Decoded.{Decoded}
-use Rattle.listing.specs.Conditions.{reading}
+use Rattle.listing.specs.Listing.{reading}
 
 -- 9: some switch can't be reached from the start
 unfoldable pub notConnected : Plant → Bool

@@ -5,11 +5,11 @@ use Prim.Native.Nat.{ℕ, _<_}
 use native.Mathlib.Omega.{arith}
 use lib.ListN.{take}
 use Rattle.listing.proofs.Longest.{longestListing}
-use Rattle.listing.proofs.Shim.{decode-front}
+use Rattle.listing.proofs.Front.{decode-front}
 use Rattle.plant.specs.declared.Plant.{Plant}
 use Rattle.answers.specs.Checks.{Checked, check}
 use Rattle.answers.proofs.Checks.{then-is}
-use Rattle.listing.specs.Conditions.{reading}
+use Rattle.listing.specs.Listing.{reading}
 use Rattle.planning.specs.Planning.{notConnected, planning}
 use Rattle.printing.specs.Output.{printed}
 

@@ -7,9 +7,8 @@ use Rattle.lists.specs.Count.{count}
 use Rattle.lists.specs.Least.{leastFrom}
 use Rattle.lists.specs.Numbers.{every}
 use Rattle.plant.specs.Links.{plantWith, live}
-use Rattle.listing.specs.Part.{taken, valueOf, repeats, mapMissing, mapUndefined, fieldMissing, fieldRedundant, fieldValues, afterPart}
-use Rattle.listing.specs.Listing.{valueOutOfRange, endOutOfRange, selfLink, bytesRemain, withLinks}
-use Rattle.listing.specs.Conditions.{conditions, plantIn, reading}
+use Rattle.codec.specs.Part.{taken, valueOf, redundant, mapMissing, mapUndefined, fieldMissing, fieldRedundant, fieldValues, afterPart, part}
+use Rattle.listing.specs.Listing.{valueOutOfRange, endOutOfRange, selfLink, bytesRemain, soundLink, header, link, links, withLinks, linked, ended, reading}
 use Rattle.walks.specs.Visit.{scan, visit}
 use Rattle.walks.specs.Arcs.{tail, head}
 use Rattle.walks.specs.Graph.{arcs, others, visitFrom, visited, connected, bridge, entered, earlier, used, liveLinks, bridges, arcsUsed}
@@ -27,5 +26,5 @@ abbrev listings : List (List ℕ)
 listings = (3 ∷ 4 ∷ 4 ∷ 0 ∷ 2 ∷ 1 ∷ 3 ∷ 1 ∷ 2 ∷ 3 ∷ 2 ∷ 0 ∷ 3 ∷ 0 ∷ 3 ∷ []) ∷ (0 ∷ []) ∷ [] ∷ []
 
 as-said : map printed listings ≡ map (λ r. r .1) (take 3 rows)
-unfolding plantWith taken valueOf repeats mapMissing mapUndefined fieldMissing fieldRedundant fieldValues afterPart valueOutOfRange endOutOfRange selfLink bytesRemain withLinks conditions plantIn reading trail legs nearest near route hops hop dist within sources leastFrom count used bridge entered earlier visited visitFrom arcs others visit scan tail head live every connected notConnected planning rulesBelow liveLinks bridges arcsUsed digits decimal line pageOf plantOutput
+unfolding plantWith taken valueOf redundant mapMissing mapUndefined fieldMissing fieldRedundant fieldValues afterPart part valueOutOfRange endOutOfRange selfLink bytesRemain soundLink header link links withLinks linked ended reading trail legs nearest near route hops hop dist within sources leastFrom count used bridge entered earlier visited visitFrom arcs others visit scan tail head live every connected notConnected planning rulesBelow liveLinks bridges arcsUsed digits decimal line pageOf plantOutput
 as-said = refl

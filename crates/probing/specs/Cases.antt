@@ -22,7 +22,7 @@ use Rattle.rings.specs.Order as orders
 use Rattle.rings.specs.Probe.{outward, probe}
 use Rattle.rings.specs.Injection.{probeRules, ringOf, orderOf, probeOf, probeRun}
 use Rattle.rings.specs.Parts.{out, outStretch, outFront}
-use Rattle.listing.specs.Part.{taken, valueOf, repeats, mapMissing, mapUndefined, fieldMissing, fieldRedundant, fieldValues, afterPart}
+use Rattle.codec.specs.Part.{taken, valueOf, redundant, mapMissing, mapUndefined, fieldMissing, fieldRedundant, fieldValues, afterPart, part}
 use Rattle.listing.specs.Listing as listing
 use Rattle.trail.specs.Filled.{sameList}
 use Rattle.order.specs.Order.{listed}
@@ -33,7 +33,6 @@ use Rattle.search.specs.declared.Outcome.{Outcome}
 use Rattle.search.specs.declared.Outcome.the-variants.{Returned, Lost}
 use Rattle.planning.specs.Planning.{notConnected, planning, planningAt, switchOutOfRange}
 use Rattle.answers.specs.Checks.{answer}
-use Rattle.listing.specs.Conditions.{conditions, plantIn, reading}
 use Rattle.probing.specs.Conditions.{trailDiffers, statesShort, searchUnsound}
 use Rattle.probing.specs.Calls.{runIn, checkIn, orderIn, outSpan, outwardIn, probeIn, Name, link, none, unknown, nameIn}
 
@@ -146,5 +145,5 @@ table =
     ∷ []
 
 as-said : (answer (planning triangle) >>= λ p. given (map (λ r. r .got p) table)) ≡ given (map (λ r. r .said) table)
-unfolding runIn checkIn orderIn outwardIn outSpan probeIn nameIn switchOutOfRange trailDiffers statesShort searchUnsound planningAt notConnected planning ringSpan spanOf listed sameList plantWith taken valueOf repeats mapMissing mapUndefined fieldMissing fieldRedundant fieldValues afterPart listing.valueOutOfRange listing.endOutOfRange listing.selfLink listing.bytesRemain listing.withLinks conditions plantIn reading out outStretch outFront probeRules ringOf orderOf probeOf probeRun probe outward orders.order readFrom place ring upBy inTable inAll rulesFor trail legs nearest near route hops hop dist within sources arcs others visitFrom visited connected bridge entered earlier used liveLinks opposite tail head scan visit live leastFrom count every
+unfolding runIn checkIn orderIn outwardIn outSpan probeIn nameIn switchOutOfRange trailDiffers statesShort searchUnsound planningAt notConnected planning ringSpan spanOf listed sameList plantWith taken valueOf redundant mapMissing mapUndefined fieldMissing fieldRedundant fieldValues afterPart part listing.valueOutOfRange listing.endOutOfRange listing.selfLink listing.bytesRemain listing.soundLink listing.header listing.link listing.links listing.withLinks listing.linked listing.ended listing.reading out outStretch outFront probeRules ringOf orderOf probeOf probeRun probe outward orders.order readFrom place ring upBy inTable inAll rulesFor trail legs nearest near route hops hop dist within sources arcs others visitFrom visited connected bridge entered earlier used liveLinks opposite tail head scan visit live leastFrom count every
 as-said = refl

@@ -1,28 +1,29 @@
 // A reading carries the lent listing and how far it has come (document 01, "Listing bytes"). Each function over it is thin:
-// it takes the reading apart, or makes one, and leaves the work to the crate `listing`.
+// it takes the reading apart, or makes one, and leaves the work to the crate `listing`. A refusal travels in what is handed on.
 use listing::Decoded;
 use listing::Header;
-use listing::Record;
-use plant::Link;
+use listing::Linked;
 ghost use mathlib.Core.Path.{_≡_};
-ghost use Rattle.listing.specs.Listing.{bytesRemain, header, link, decode};
-ghost use Rattle.listing.specs.Answers.{headerAnswer, recordAnswer, Reads};
-ghost use Rattle.reading.specs.Left.{readingAt, bytes, left};
+ghost use Rattle.answers.specs.Checks.{answer};
+ghost use Rattle.listing.specs.Listing.{reading};
+ghost use Rattle.listing.specs.Answers.{Reads};
+ghost use Rattle.listing.specs.Steps.{ReadsHeader, ReadsLinks, ReadsEnd};
+ghost use Rattle.reading.specs.Carried.{readingAt, bytes};
 
-pub struct Reading<'a> {
-    pub listing: &'a [u8],
-    pub at: usize,
+struct Reading<'a> {
+    listing: &'a [u8],
+    at: usize,
 }
 
 // A reading at the front of a listing.
-pub fn begin<'a>(listing: &'a [u8]) -> Reading<'a>
+fn begin<'a>(listing: &'a [u8]) -> Reading<'a>
     ensures { λ r. ⌜ r ≡ readingAt (listing .entry) 0 ⌝ }
 {
     Reading { listing, at: 0 }
 }
 
 // The same listing, at another place.
-pub fn moved<'a>(r: Reading<'a>, at: usize) -> Reading<'a>
+fn moved<'a>(r: Reading<'a>, at: usize) -> Reading<'a>
     ensures { λ q. ⌜ q ≡ readingAt (r .entry .listing) at ⌝ }
 {
     Reading {
@@ -32,36 +33,34 @@ pub fn moved<'a>(r: Reading<'a>, at: usize) -> Reading<'a>
 }
 
 // The header that comes next, or why there is none: refusals 1 to 5.
-pub fn header<'a>(r: Reading<'a>) -> Header
-    ensures { λ h. ⌜ headerAnswer (bytes (r .entry)) h ≡ header (left (r .entry)) ⌝ }
+fn header<'a>(r: Reading<'a>) -> Header
+    ensures { λ h. ⌜ ReadsHeader (bytes (r .entry)) (r .entry .at) h ⌝ }
 {
     listing::read_header(r.listing, r.at)
 }
 
-// The link that comes next, after the record `before`, in a plant of so many switches, or why there is none: refusals 1 to 4, 6 and 7.
-pub fn next_link<'a>(r: Reading<'a>, before: Link, switches: u8) -> Record
-    ensures { λ l. ⌜ recordAnswer (bytes (r .entry)) l ≡ link switches before (left (r .entry)) ⌝ }
+// The links that come next, after the header h, or why there are none: refusals 1 to 4, 6 and 7, or that of the header.
+fn links<'a>(r: Reading<'a>, h: Header) -> Linked
+    ensures { λ l. ⌜ ReadsLinks (bytes (r .entry)) (r .entry .at) h l ⌝ }
 {
-    listing::read_link(r.listing, r.at, before, switches)
+    listing::read_links(r.listing, r.at, h)
 }
 
-// Do bytes remain? After the last record that is refusal 8.
-pub fn bytes_remain<'a>(r: Reading<'a>) -> bool
-    ensures { λ b. ⌜ b ≡ bytesRemain (left (r .entry)) ⌝ }
+// The end of the listing, after the links l: refusal 8 where bytes remain, or that of the links.
+fn end<'a>(r: Reading<'a>, l: Linked) -> Decoded
+    ensures { λ d. ⌜ ReadsEnd (bytes (r .entry)) (r .entry .at) l d ⌝ }
 {
-    listing::bytes_remain(r.listing, r.at)
-}
-
-// The plant of the listing that begins where the reading has come, or why there is none: refusals 1 to 8.
-pub fn whole<'a>(r: Reading<'a>) -> Decoded
-    ensures { λ d. ⌜ Reads (decode (left (r .entry))) d ⌝ }
-{
-    listing::read_from(r.listing, r.at)
+    listing::read_end(r.listing, r.at, l)
 }
 
 // The plant of a listing, or why there is none: refusals 1 to 8.
 pub fn read(listing: &[u8]) -> Decoded
-    ensures { λ d. ⌜ Reads (decode (now (listing .entry))) d ⌝ }
+    ensures { λ d. ⌜ Reads (answer (reading (now (listing .entry)))) d ⌝ }
 {
-    whole(begin(listing))
+    let r = begin(listing);
+    let h = header(r);
+    let q = moved(r, h.next);
+    let l = links(q, h);
+    let p = moved(q, l.next);
+    end(p, l)
 }

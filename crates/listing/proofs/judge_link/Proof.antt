@@ -1,18 +1,11 @@
 -- `listing::judge_link` meets its contract. Assumes nothing.
 use mathlib.Core.Path.{refl, sym, ap, _∙_}
 use native.Mathlib.Omega.{arith}
-use Rattle.listing.specs.Listing.{judged}
 use Rattle.answers.specs.Answers.{verdictAnswer}
-use Rattle.listing.proofs.ReadLaws.{sound-ends}
+use Rattle.listing.proofs.SoundLaws.{sound-ends}
 use borrow.Author.Needs.{needs}
 use Rattle.listing.proofs.judge_link.Statement.{statement}
 use Rattle.listing.proofs.judge_link.Tie as tie
-
-judge-ends-requires : tie.Need-judge-ends-requires
-judge-ends-requires c κs = search needs
-
-enum-told : tie.Need-enum-told
-enum-told c = search needs
 
 cast-t10 : tie.Need-cast-t10
 cast-t10 c =
@@ -24,29 +17,21 @@ cast-t11 c =
     let e = sound-ends _ _ (sym (c .before .before .judge-ends .ensures (c .before .before .before .args .tag)) ∙ ap verdictAnswer (c .enum-told .given .1)) in
     omega (arith, e .second-in, c .before .before .before .fits .switches)
 
-cast-t12 : tie.Need-cast-t12
-cast-t12 c = search needs
-
-enum-known-k : tie.Need-enum-known-k
-enum-known-k c = search needs
-
 returns : tie.Need-returns
-unfolding judged
 returns c s = rw (sym (c .before .before .judge-ends .ensures (c .before .before .before .args .tag)) ∙ ap verdictAnswer (c .enum-told .given .1)) refl
 
 returns-2 : tie.Need-returns-2
-unfolding judged
 returns-2 c s = rw (sym (c .before .before .before .judge-ends .ensures (c .before .before .before .before .args .tag)) ∙ ap verdictAnswer (c .before .k .given .1)) refl
 
 pub judge-link-spec : {M : Type 1} → statement M
 judge-link-spec =
     tie.close
     (tie.spec
-    judge-ends-requires
-    enum-told
+    (λ c κs. search needs)
+    (λ c. search needs)
     cast-t10
     cast-t11
-    cast-t12
-    enum-known-k
+    (λ c. search needs)
+    (λ c. search needs)
     returns
     returns-2)

@@ -1,29 +1,14 @@
 -- `listing::judge_plant` meets its contract. Assumes nothing.
 use mathlib.Core.Path.{sym, _∙_}
 use borrow.Author.Tests.{not-true, not-false}
-use Rattle.listing.proofs.ReadLaws.{in-range}
+use Rattle.listing.proofs.SoundLaws.{in-range}
 use Rattle.listing.proofs.WriteLaws.{plant-range, plant-places, plant-links}
 use borrow.Author.Needs.{needs}
 use Rattle.listing.proofs.judge_plant.Statement.{statement}
 use Rattle.listing.proofs.judge_plant.Tie as tie
 
-cast-out-of-range : tie.Need-cast-out-of-range
-cast-out-of-range c = search needs
-
-cast-out-of-range-2 : tie.Need-cast-out-of-range-2
-cast-out-of-range-2 c = search needs
-
-cast-out-of-range-3 : tie.Need-cast-out-of-range-3
-cast-out-of-range-3 c = search needs
-
-out-of-range-requires : tie.Need-out-of-range-requires
-out-of-range-requires c κs = search needs
-
 returns : tie.Need-returns
 returns c = plant-range _ (sym (c .before .out-of-range .ensures) ∙ c .if1 .taken)
-
-places-zero-requires : tie.Need-places-zero-requires
-places-zero-requires c κs = search needs
 
 returns-2 : tie.Need-returns-2
 returns-2 c =
@@ -41,12 +26,12 @@ pub judge-plant-spec : {M : Type 1} → statement M
 judge-plant-spec =
     tie.close
     (tie.spec
-    cast-out-of-range
-    cast-out-of-range-2
-    cast-out-of-range-3
-    out-of-range-requires
+    (λ c. search needs)
+    (λ c. search needs)
+    (λ c. search needs)
+    (λ c κs. search needs)
     returns
-    places-zero-requires
+    (λ c κs. search needs)
     returns-2
     judge-links-requires
     returns-3)

@@ -1,62 +1,52 @@
--- `listing::listing_size` meets its contract: the size so far and that of the links from i on make that of the listing. Assumes nothing.
-use Prim.Native.Nat.{_-_}
+-- `listing::listing_size` meets its contract: `size` bytes and those of the links from i on make the listing. Assumes nothing.
+use mathlib.Core.Path.{_≡_, ap, _∙_}
+use Prim.Native.Nat.{_+_, _-_, _*_, _≤_}
 use native.Mathlib.Omega.{arith}
 use borrow.Author.Needs.{needs}
-use Rattle.limits.specs.Limits.{maxLinks}
+use lib.ListN.{length, drop}
 use Rattle.lists.proofs.Arrays.{sized}
-use Rattle.listing.proofs.EncodeLaws.{Sized, sized-none, sized-one, sized-all}
+use Rattle.plant.specs.declared.Link.{Link}
+use Rattle.plant.specs.Links.{linkAt}
+use Rattle.limits.specs.Limits.{maxLinks}
+use Rattle.listing.specs.Listing.{linksOf, linksBytes, encode}
+use Rattle.listing.proofs.WriteLaws.{header-by, link-by, size-next, left-none, encode-size}
 use Rattle.listing.proofs.listing_size.Statement.{statement}
 use Rattle.listing.proofs.listing_size.Tie as tie
 
 abbrev Inv-loop : tie.InvT-loop
-Inv-loop p n size₀ before₀ i₀ size before i = Sized p size before i
+Inv-loop p n size₀ before₀ i₀ size before i =
+    (i ≤ n) × (size ≤ 13 * i + 13) × (size + length (linksBytes before (drop i (linksOf p))) ≡ length (encode p))
 
 abbrev μ-loop : tie.MeasureT-loop
 μ-loop p n size₀ before₀ i₀ size before i = n - i
 
-cast-n : tie.Need-cast-n Inv-loop μ-loop
-cast-n c = search needs
-
-header-size-requires : tie.Need-header-size-requires Inv-loop μ-loop
-header-size-requires c κs = tt
-
-zero-requires : tie.Need-zero-requires Inv-loop μ-loop
-zero-requires c κs = tt
-
 loop-holds : tie.Need-loop-holds Inv-loop μ-loop
 loop-holds c =
-    let k = c .before .before in
-    sized-none (k .args .t1) (sized _ (k .args .t1 .links) maxLinks (k .good .0 .1 .1 .1 .1 .1 .0 .1 .0 .1)) (k .pre) _ _ (c .before .header-size .ensures .0) (c .before .header-size .ensures .1) (c .zero .ensures)
-
-mul-l : tie.Need-mul-l Inv-loop μ-loop
-mul-l c = search needs
-
-element-copy-out-l : tie.Need-element-copy-out-l Inv-loop μ-loop
-element-copy-out-l c = search needs
-
-link-size-requires : tie.Need-link-size-requires Inv-loop μ-loop
-link-size-requires c κs = tt
+    let z = c .before in
+    let y = z .before .before in
+    let p = y .before .args .t1 in
+    let e = z .part-size .ensures .0 ∙ ap length (header-by p (y .header-layout .ensures) (z .before .header-values .ensures)) in
+    (omega arith, omega (arith, z .part-size .ensures .1, y .header-layout .ensures .proper .few), omega (arith, encode-size p, ap (λ (l : Link). length (linksBytes l (linksOf p))) (c .zero .ensures)))
 
 add-size : tie.Need-add-size Inv-loop μ-loop
-add-size c = omega (arith, c .link-size .ensures .1, c .before .before .before .loop .inv .small)
-
-add-i : tie.Need-add-i Inv-loop μ-loop
-add-i c = search needs
-
-loop-less : tie.Need-loop-less Inv-loop μ-loop
-loop-less c = search needs
+add-size c = omega (arith, c .part-size2 .ensures .1, c .before .before .link-layout .ensures .proper .few, c .before .before .before .before .before .loop .inv)
 
 loop-again : tie.Need-loop-again Inv-loop μ-loop
 loop-again c =
-    let l = c .before .before .before in
-    let k = l .before .before .before in
-    sized-one (k .args .t1) (sized _ (k .args .t1 .links) maxLinks (k .good .0 .1 .1 .1 .1 .1 .0 .1 .0 .1)) (k .pre) _ _ (l .loop .i) (l .loop .before) (c .before .before .loop-test .taken) (c .link-size .ensures .0) (c .link-size .ensures .1) (l .loop .inv)
+    let y = c .before .before in
+    let k = y .before .before .before in
+    let a = k .before .before .before .before .before in
+    let e = c .part-size2 .ensures .0 ∙ ap length (link-by (k .loop .before) (linkAt (a .args .t1) (k .loop .i)) (y .link-layout .ensures) (c .before .link-values .ensures)) in (
+      omega arith,
+      omega (arith, c .part-size2 .ensures .1, y .link-layout .ensures .proper .few, k .loop .inv .1),
+      omega (arith, k .loop .inv .2, size-next (a .args .t1) (sized _ (a .args .t1 .links) maxLinks (a .good .0 .1 .1 .1 .1 .1 .0 .1 .0 .1)) (a .pre) (k .loop .i) (k .loop .before) (y .before .before .loop-test .taken)),
+    )
 
 returns : tie.Need-returns Inv-loop μ-loop
 returns c =
-    let l = c .before in
-    let k = l .before .before .before in
-    sized-all (k .args .t1) (sized _ (k .args .t1 .links) maxLinks (k .good .0 .1 .1 .1 .1 .1 .0 .1 .0 .1)) (k .pre) _ (l .loop .i) (l .loop .before) (c .loop-test .left) (l .loop .inv)
+    let k = c .before in
+    let a = k .before .before .before .before .before in
+    omega (arith, k .loop .inv .2, ap length (left-none (a .args .t1) (sized _ (a .args .t1 .links) maxLinks (a .good .0 .1 .1 .1 .1 .1 .0 .1 .0 .1)) (a .pre) (k .loop .i) (k .loop .before) (c .loop-test .left)))
 
 pub listing-size-spec : {M : Type 1} → statement M
 listing-size-spec =
@@ -64,15 +54,19 @@ listing-size-spec =
     (tie.spec
     Inv-loop
     μ-loop
-    cast-n
-    header-size-requires
-    zero-requires
+    (λ c. search needs)
+    (λ c κs. search needs)
+    (λ c κs. search needs)
+    (λ c κs. search needs)
+    (λ c κs. search needs)
     loop-holds
-    mul-l
-    element-copy-out-l
-    link-size-requires
+    (λ c. search needs)
+    (λ c. search needs)
+    (λ c κs. search needs)
+    (λ c κs. search needs)
+    (λ c κs. search needs)
     add-size
-    add-i
-    loop-less
+    (λ c. search needs)
+    (λ c. search needs)
     loop-again
     returns)

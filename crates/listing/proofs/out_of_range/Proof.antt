@@ -9,15 +9,9 @@ returns : tie.Need-returns
 unfolding valueOutOfRange
 returns c = simp (lt-leb _ _ (c .if1 .taken))
 
-cast-if2 : tie.Need-cast-if2
-cast-if2 c = search needs
-
 returns-2 : tie.Need-returns-2
 unfolding valueOutOfRange
 returns-2 c = simp (le-leb _ _ (c .before .if1 .left), lt-leb _ _ (c .if2 .taken))
-
-cast-if3 : tie.Need-cast-if3
-cast-if3 c = search needs
 
 returns-3 : tie.Need-returns-3
 unfolding valueOutOfRange
@@ -33,4 +27,4 @@ returns-5 c = simp (le-leb _ _ (c .before .before .before .if1 .left), le-leb _ 
 
 pub out-of-range-spec : {M : Type 1} → statement M
 out-of-range-spec =
-    tie.close (tie.spec returns cast-if2 returns-2 cast-if3 returns-3 returns-4 returns-5)
+    tie.close (tie.spec returns (λ c. search needs) returns-2 (λ c. search needs) returns-3 returns-4 returns-5)

@@ -18,32 +18,14 @@ Inv-loop p i₀ i = all isZero (drop i (p .links)) ≡ all isZero (drop (p .coun
 abbrev μ-loop : tie.MeasureT-loop
 μ-loop p i₀ i = maxLinks - i
 
-cast-i : tie.Need-cast-i Inv-loop μ-loop
-cast-i c = search needs
-
 loop-holds : tie.Need-loop-holds Inv-loop μ-loop
 loop-holds c = refl
-
-mul-is-zero : tie.Need-mul-is-zero Inv-loop μ-loop
-mul-is-zero c = search needs
-
-element-copy-out-is-zero : tie.Need-element-copy-out-is-zero Inv-loop μ-loop
-element-copy-out-is-zero c = search needs
-
-is-zero-requires : tie.Need-is-zero-requires Inv-loop μ-loop
-is-zero-requires c κs = tt
 
 returns : tie.Need-returns Inv-loop μ-loop
 returns c =
     let k = c .before .before .before .before in
     let long = sized _ (k .before .args .t1 .links) maxLinks (k .before .good .0 .1 .1 .1 .1 .1 .0 .1 .0 .1) in
     zeros-not (k .before .args .t1) long _ (c .before .before .before .loop-test .taken) (sym (c .before .is-zero .ensures) ∙ not-true _ (c .if1 .taken)) ∙ k .loop .inv
-
-add-i : tie.Need-add-i Inv-loop μ-loop
-add-i c = search needs
-
-loop-less : tie.Need-loop-less Inv-loop μ-loop
-loop-less c = search needs
 
 loop-again : tie.Need-loop-again Inv-loop μ-loop
 loop-again c =
@@ -63,13 +45,13 @@ places-zero-spec =
     (tie.spec
     Inv-loop
     μ-loop
-    cast-i
+    (λ c. search needs)
     loop-holds
-    mul-is-zero
-    element-copy-out-is-zero
-    is-zero-requires
+    (λ c. search needs)
+    (λ c. search needs)
+    (λ c κs. tt)
     returns
-    add-i
-    loop-less
+    (λ c. search needs)
+    (λ c. search needs)
     loop-again
     returns-2)

@@ -1,34 +1,45 @@
 -- `listing::put_listing` meets its contract. Assumes nothing.
 use native.Mathlib.Omega.{arith}
-use Rattle.listing.specs.Listing.{headerBytes}
+use borrow.Author.Needs.{needs}
 use Rattle.lists.proofs.Arrays.{laid}
-use Rattle.listing.proofs.EncodeLaws.{encode-size, laid-listing}
+use Rattle.listing.specs.Listing.{headerBytes}
+use Rattle.listing.proofs.WriteLaws.{header-by, encode-size, laid-listing}
 use borrow.Author.Needs.{needs}
 use Rattle.listing.proofs.put_listing.Statement.{statement}
 use Rattle.listing.proofs.put_listing.Tie as tie
 
-put-header-requires : tie.Need-put-header-requires
-put-header-requires c κs =
-    let k = c .before .before in
-    omega (arith, k .pre .1, encode-size (k .args .p))
+put-part-requires : tie.Need-put-part-requires
+put-part-requires c κs =
+    let y = c .before in
+    let k = y .before .before .before in
+    (y .header-layout .ensures .proper, rw (header-by (k .args .p) (y .header-layout .ensures) (c .header-values .ensures)) (omega (arith, k .pre .1, encode-size (k .args .p))))
 
 put-links-requires : tie.Need-put-links-requires
 put-links-requires c κs =
     let h = c .before .before .before in
-    let k = h .before .before .before in (
+    let y = h .before .before in
+    let k = y .before .before .before in
+    let e = header-by (k .args .p) (y .header-layout .ensures) (h .before .header-values .ensures) in (
       k .pre .0,
-      omega (arith, k .pre .1, encode-size (k .args .p), h .put-header .ensures .0, laid (k .args .buf .now) (h .put-header .last .0) 0 (headerBytes (k .args .p)) (h .put-header .ensures .1)),
+      omega (arith, k .pre .1, encode-size (k .args .p), rw e at (h .put-part .ensures .0), laid (k .args .buf .now) (h .put-part .last .0) 0 (headerBytes (k .args .p)) (rw e at (h .put-part .ensures .1))),
     )
-
-same-length : tie.Need-same-length
-same-length c = search needs
 
 returns : tie.Need-returns
 returns c =
     let l = c .before .before in
     let h = l .before .before .before .before in
-    let k = h .before .before .before in
-    laid-listing (k .args .p) (k .args .buf .now) (h .put-header .last .0) (l .put-links .last .1 .0) (h .put-header .result) (h .put-header .ensures .0) (h .put-header .ensures .1) (l .put-links .ensures)
+    let y = h .before .before in
+    let k = y .before .before .before in
+    let e = header-by (k .args .p) (y .header-layout .ensures) (h .before .header-values .ensures) in
+    laid-listing (k .args .p) (k .args .buf .now) (h .put-part .last .0) (l .put-links .last .1 .0) (h .put-part .result) (omega (arith, rw e at (h .put-part .ensures .0))) (rw e at (h .put-part .ensures .1)) (l .put-links .ensures)
 
 pub put-listing-spec : {M : Type 1} → statement M
-put-listing-spec = tie.close (tie.spec put-header-requires put-links-requires same-length returns)
+put-listing-spec =
+    tie.close
+    (tie.spec
+    (λ c κs. search needs)
+    (λ c κs. search needs)
+    put-part-requires
+    put-links-requires
+    (λ c. search needs)
+    returns)

@@ -1,43 +1,61 @@
 -- `listing::read_header` meets its contract. Assumes nothing.
-use mathlib.Core.Path.{_∙_}
-use Rattle.listing.proofs.ReadLaws.{header-values, header-refused}
+use mathlib.Core.Path.{refl, sym, _∙_}
+use native.Mathlib.Omega.{arith}
+use borrow.Author.Needs.{needs}
+use Rattle.answers.proofs.Beside.{beside-given}
+use Rattle.listing.proofs.SoundLaws.{in-range}
+use Rattle.listing.proofs.ReadLaws.{header-range, header-given, header-stops}
 use borrow.Author.Needs.{needs}
 use Rattle.listing.proofs.read_header.Statement.{statement}
 use Rattle.listing.proofs.read_header.Tie as tie
 
-header-fields-requires : tie.Need-header-fields-requires
-header-fields-requires c κs = search needs
-
-read-part-requires : tie.Need-read-part-requires
-read-part-requires c κs = search needs
-
-enum-known-switches : tie.Need-enum-known-switches
-enum-known-switches c = search needs
-
-judge-header-requires : tie.Need-judge-header-requires
-judge-header-requires c κs = search needs
-
-enum-known-k : tie.Need-enum-known-k
-enum-known-k c = search needs
-
 returns : tie.Need-returns
 returns c =
-    c .judge-header .ensures _
-    ∙ header-values _ (c .before .before .before .before .before .before .before .args .at) _ _ (c .before .before .before .before .read-part .ensures .0) (c .before .before .before .before .before .header-fields .ensures .0) _ _ _ _ (c .before .before .switches .given .1)
+    let t = c .before .before .before in
+    let p = t .before .before .before in
+    c .refused-header .ensures _ _ (header-range (p .before .header-layout .ensures) (p .read-part .ensures) (t .enum-told .given .1) _ (c .before .before .out-of-range .ensures) (c .before .if1 .taken))
+
+cast-t22 : tie.Need-cast-t22
+cast-t22 c = let r = in-range _ _ _ (sym (c .before .out-of-range .ensures) ∙ c .if1 .left) in omega arith
+
+cast-t23 : tie.Need-cast-t23
+cast-t23 c = let r = in-range _ _ _ (sym (c .before .out-of-range .ensures) ∙ c .if1 .left) in omega arith
+
+cast-t24 : tie.Need-cast-t24
+cast-t24 c = let r = in-range _ _ _ (sym (c .before .out-of-range .ensures) ∙ c .if1 .left) in omega arith
 
 returns-2 : tie.Need-returns-2
 returns-2 c =
-    let r = c .before .before .before in
-    header-refused _ (r .before .before .before .args .at) _ _ (r .read-part .ensures .0) (r .before .header-fields .ensures .0) _ (c .before .k .given .1)
+    let t = c .before .before in
+    let p = t .before .before .before in
+    record {
+      few = in-range _ _ _ (sym (c .before .out-of-range .ensures) ∙ c .if1 .left) .few-links;
+      is = beside-given _ _ _ _ refl (header-given (p .before .header-layout .ensures) (p .read-part .ensures) (t .enum-told .given .1) _ (c .before .out-of-range .ensures) (c .if1 .left));
+    }
+
+returns-3 : tie.Need-returns-3
+returns-3 c =
+    let v = c .before .before in
+    let p = v .before .before .before in
+    c .refused-header2 .ensures _ _ (header-stops (p .before .header-layout .ensures) (p .read-part .ensures) _ (v .verdict .given .1))
 
 pub read-header-spec : {M : Type 1} → statement M
 read-header-spec =
     tie.close
     (tie.spec
-    header-fields-requires
-    read-part-requires
-    enum-known-switches
-    judge-header-requires
-    enum-known-k
+    (λ c κs. search needs)
+    (λ c κs. search needs)
+    (λ c. search needs)
+    (λ c. search needs)
+    (λ c. search needs)
+    (λ c. search needs)
+    (λ c κs. search needs)
+    (λ c κs. search needs)
     returns
-    returns-2)
+    cast-t22
+    cast-t23
+    cast-t24
+    (λ c. search needs)
+    (λ c κs. search needs)
+    returns-2
+    returns-3)

@@ -3,8 +3,6 @@ use Rattle.planner.proofs.Owned.{typed-owned}
 use mathlib.Core.Path.{sym, ap, _∙_}
 use native.Mathlib.Omega.{arith}
 use lib.ListN.{length, length-take}
-use Rattle.answers.proofs.Beside.{beside-as}
-use Rattle.listing.proofs.Shim.{reading-is, writing-is}
 use Rattle.listing.specs.Answers.{writeAnswer}
 use Rattle.planner.proofs.Again.{back-refused, back-room, back-given}
 use borrow.Author.Needs.{needs}
@@ -15,14 +13,14 @@ slice-reshare-prefix-read : tie.Need-slice-reshare-prefix-read
 slice-reshare-prefix-read c =
     let w = c .before .before .before .before .before in
     let k = w .before .before .before in
-    let e = writing-is _ _ ∙ sym (w .write .ensures .0) ∙ ap writeAnswer (c .before .n .given .1) in
+    let e = sym (w .write .ensures .0) ∙ ap writeAnswer (c .before .n .given .1) in
     omega (arith, back-room (k .args .p) (k .args .buffer .now) _ e, ap length (w .write .ensures .1))
 
 slice-aggregate-read : tie.Need-slice-aggregate-read
 slice-aggregate-read c =
     let w = c .before .before .before .before .before .before in
     let k = w .before .before .before in
-    let e = writing-is _ _ ∙ sym (w .write .ensures .0) ∙ ap writeAnswer (c .before .before .n .given .1) in
+    let e = sym (w .write .ensures .0) ∙ ap writeAnswer (c .before .before .n .given .1) in
     let r = back-room (k .args .p) (k .args .buffer .now) _ e in
     simp (length-take) (omega (arith, r, ap length (w .write .ensures .1)))
 
@@ -30,9 +28,9 @@ returns : tie.Need-returns
 returns c =
     let w = c .before .before .before .before .before .before .before in
     let k = w .before .before .before in
-    let e = writing-is _ _ ∙ sym (w .write .ensures .0) ∙ ap writeAnswer (c .before .before .before .n .given .1) in
+    let e = sym (w .write .ensures .0) ∙ ap writeAnswer (c .before .before .before .n .given .1) in
     let t = typed-owned (k .args .p) _ (k .good .0 .1 .1 .1 .1 .1 .0) in (
-      back-given (k .args .p) (k .args .buffer .now) _ e t _ (beside-as _ _ _ _ _ (sym (reading-is _)) (rw (w .write .ensures .1) at (c .read .ensures))),
+      back-given (k .args .p) (k .args .buffer .now) _ e t _ (rw (w .write .ensures .1) at (c .read .ensures)),
       w .write .ensures .1,
     )
 
@@ -40,7 +38,7 @@ returns-2 : tie.Need-returns-2
 returns-2 c =
     let w = c .before .before .before .before .before .before in
     let k = w .before .before .before in (
-      back-refused (k .args .p) (k .args .buffer .now) _ _ (writing-is _ _ ∙ sym (w .write .ensures .0) ∙ ap writeAnswer (c .before .before .k .given .1)) (c .refused-reading .ensures),
+      back-refused (k .args .p) (k .args .buffer .now) _ _ (sym (w .write .ensures .0) ∙ ap writeAnswer (c .before .before .k .given .1)) (c .refused-reading .ensures),
       w .write .ensures .1,
     )
 

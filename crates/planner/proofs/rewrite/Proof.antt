@@ -1,8 +1,7 @@
 -- `planner::rewrite` meets its contract. Assumes nothing.
-use mathlib.Core.Path.{sym, _∙_}
-use Rattle.answers.proofs.Beside.{accepted, was-refused, beside-as}
-use Rattle.listing.proofs.Shim.{reading-is, writing-is}
-use Rattle.planning.proofs.Plans.{bytes-known}
+use mathlib.Core.Path.{_∙_}
+use Rattle.answers.proofs.Beside.{accepted, was-refused}
+use Rattle.codec.proofs.FieldLaws.{bytes-known}
 use Rattle.planner.proofs.Again.{again-answer, again-buffer, again-refused, again-kept}
 use borrow.Author.Needs.{needs}
 use Rattle.planner.proofs.rewrite.Statement.{statement}
@@ -14,8 +13,8 @@ returns c =
     let m = w .before .before .before in
     let k = m .before .before .before .before .before in
     let bytes = bytes-known (k .args .listing .now) (λ i. m .before .before .before .before .shared-slice-known .given i .fits) in
-    let e = accepted _ _ _ _ (beside-as _ _ _ _ _ (sym (reading-is _)) (m .before .before .read .ensures)) (m .enum-told .given .1) in (
-      w .write .ensures .0 ∙ sym (writing-is _ _) ∙ again-answer (k .args .listing .now) (k .args .buffer .now) _ bytes e,
+    let e = accepted _ _ _ _ (m .before .before .read .ensures) (m .enum-told .given .1) in (
+      w .write .ensures .0 ∙ again-answer (k .args .listing .now) (k .args .buffer .now) _ bytes e,
       w .write .ensures .1 ∙ again-buffer (k .args .listing .now) (k .args .buffer .now) _ bytes e,
     )
 
@@ -23,7 +22,7 @@ returns-2 : tie.Need-returns-2
 returns-2 c =
     let r = c .before .before .before in
     let k = r .before .before .before in
-    let e = was-refused _ _ _ _ (beside-as _ _ _ _ _ (sym (reading-is _)) (r .read .ensures)) _ (c .before .v .given .1) in
+    let e = was-refused _ _ _ _ (r .read .ensures) _ (c .before .v .given .1) in
     (again-refused (k .args .listing .now) (k .args .buffer .now) _ e, again-kept (k .args .listing .now) (k .args .buffer .now) _ e)
 
 pub rewrite-spec : {M : Type 1} → statement M

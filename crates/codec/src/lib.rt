@@ -1,0 +1,260 @@
+// A part of a listing (document 01, "Listing bytes"): a map byte, then the fields whose bit is set, by rising bit. Its reader and its writer, for any fields.
+use answers::Refusal;
+use answers::Verdict;
+ghost use mathlib.Core.Path.{_≡_};
+ghost use Prim.Native.Nat.{_+_, _*_, _^_, _≤_, _<_};
+ghost use lib.ListN.{length, take, drop};
+ghost use lib.Seq.{sets};
+ghost use Rattle.codec.specs.Field.{number, bytesOf};
+ghost use Rattle.codec.specs.Part.{taken, size, rest, isGiven, fieldBytes, mapOf, bodyOf, partBytes};
+ghost use Rattle.codec.specs.Layout.{fieldsOf, Proper, ReadsField, Refuses, ReadsFields, ReadsPart};
+
+// A field of a part: its width in bytes, and the value that its absence means.
+pub struct Field {
+    pub width: usize,
+    pub absent: u32,
+}
+
+// The fields of a part by rising bit, `count` of them.
+pub struct Layout {
+    pub count: usize,
+    pub fields: [Field; Layout::MOST],
+}
+
+impl Layout {
+    pub const MOST: usize = 3;
+}
+
+// The values of a part by rising bit, and the place after it. At a refusal the values are 0 and the place is that of the part.
+pub struct Part {
+    pub verdict: Verdict,
+    pub values: [u32; Layout::MOST],
+    pub next: usize,
+}
+
+// A field that was read: its value, the bytes that it takes, and whether it is given with the value that its absence means.
+struct Found {
+    value: u32,
+    size: usize,
+    redundant: bool,
+}
+
+// What a map tells: the bytes that the fields take, and what is left of it once each field has taken its bit.
+struct Extent {
+    size: usize,
+    rest: usize,
+}
+
+fn wide(b: u8) -> u32
+    ensures { λ r. ⌜ (r ≡ b) × (r < 2 ^ 8) ⌝ }
+{
+    b as u32
+}
+
+// The number in `width` bytes from `at` on, low byte first.
+fn number_at(s: &[u8], at: usize, width: usize) -> u32
+    requires { ⌜ (width ≤ 4) × (at + width ≤ length (now s)) ⌝ }
+    ensures { λ r. ⌜ r ≡ number (take width (drop at (now (s .entry)))) ⌝ }
+{
+    let mut n: u32 = 0;
+    let mut left = width;
+    while 0 < left {
+        n = n * 256 + wide(s[at + (left - 1)]);
+        left -= 1;
+    }
+    n
+}
+
+// The field that stands at `at`, by its bit.
+fn read_field(s: &[u8], at: usize, bit: usize, f: Field) -> Found
+    requires { ⌜ (f .width ≤ 4) × (at + taken f bit ≤ length (now s)) ⌝ }
+    ensures { λ r. ⌜ ReadsField f bit (drop at (now (s .entry))) r ⌝ }
+{
+    if bit == 0 {
+        return Found {
+            value: f.absent,
+            size: 0,
+            redundant: false,
+        };
+    }
+    let width = f.width;
+    let value = number_at(s, at, width);
+    Found {
+        value,
+        size: width,
+        redundant: value == f.absent,
+    }
+}
+
+// The bytes that a field takes, by its bit.
+fn taken_by(f: Field, bit: usize) -> usize
+    requires { ⌜ f .width ≤ 4 ⌝ }
+    ensures { λ r. ⌜ (r ≡ taken f bit) × (r ≤ 4) ⌝ }
+{
+    if bit == 0 {
+        return 0;
+    }
+    f.width
+}
+
+// What this map tells of these fields.
+fn measure(layout: Layout, map: usize) -> Extent
+    requires { do ⌜ Proper (← ⟦Layout::MOST⟧) layout ⌝ }
+    ensures { λ r. ⌜ (r .size ≡ size map (fieldsOf layout)) × (r .rest ≡ rest map (fieldsOf layout)) × (r .size ≤ 4 * layout .count) ⌝ }
+{
+    let n = layout.count;
+    let mut m = map;
+    let mut size: usize = 0;
+    let mut i: usize = 0;
+    while i < n {
+        size += taken_by(layout.fields[i], m % 2);
+        m = m / 2;
+        i += 1;
+    }
+    Extent { size, rest: m }
+}
+
+// A part at `at` that is refused.
+fn refused_part(k: Refusal, at: usize) -> Part
+    ensures { λ r. do ⌜ Refuses (← ⟦Layout::MOST⟧ .entry) k at r ⌝ }
+{
+    let values = [0u32; Layout::MOST];
+    Part {
+        verdict: Verdict::Refused(k),
+        values,
+        next: at,
+    }
+}
+
+// The fields of the part at `at`, whose map was read and whose bytes are there: refused if one is redundant.
+fn read_fields(s: &[u8], at: usize, map: usize, layout: Layout) -> Part
+    requires { do ⌜ Proper (← ⟦Layout::MOST⟧) layout × (at + 1 + size map (fieldsOf layout) ≤ length (now s)) ⌝ }
+    ensures { λ r. ⌜ ReadsFields layout (now (s .entry)) at map r ⌝ }
+{
+    let n = layout.count;
+    let mut values = [0u32; Layout::MOST];
+    let mut next = at + 1;
+    let mut m = map;
+    let mut i: usize = 0;
+    while i < n {
+        let f = read_field(s, next, m % 2, layout.fields[i]);
+        if f.redundant {
+            return refused_part(Refusal::FieldRedundant, at);
+        }
+        values[i] = f.value;
+        next += f.size;
+        m = m / 2;
+        i += 1;
+    }
+    Part {
+        verdict: Verdict::Accepted,
+        values,
+        next,
+    }
+}
+
+// The part that begins at `at`.
+pub fn read_part(s: &[u8], at: usize, layout: Layout) -> Part
+    requires { do ⌜ Proper (← ⟦Layout::MOST⟧) layout ⌝ }
+    ensures { λ r. ⌜ ReadsPart layout (now (s .entry)) at r ⌝ }
+{
+    if s.len() <= at {
+        return refused_part(Refusal::MapMissing, at);
+    }
+    let map = wide(s[at]) as usize;
+    let e = measure(layout, map);
+    if 0 < e.rest {
+        return refused_part(Refusal::MapUndefined, at);
+    }
+    if s.len() - (at + 1) < e.size {
+        return refused_part(Refusal::FieldMissing, at);
+    }
+    read_fields(s, at, map, layout)
+}
+
+// The bit of a field with this value.
+fn field_bit(f: Field, value: u32) -> u8
+    ensures { λ r. ⌜ (r ≡ isGiven f value) × (r ≤ 1) ⌝ }
+{
+    if value == f.absent {
+        return 0;
+    }
+    1
+}
+
+// The map of a part with these values.
+fn part_map(layout: Layout, values: [u32; Layout::MOST]) -> u8
+    requires { do ⌜ Proper (← ⟦Layout::MOST⟧) layout ⌝ }
+    ensures { λ r. ⌜ r ≡ mapOf (fieldsOf layout) values ⌝ }
+{
+    let mut m: u8 = 0;
+    let mut i = layout.count;
+    while 0 < i {
+        i -= 1;
+        m = m * 2 + field_bit(layout.fields[i], values[i]);
+    }
+    m
+}
+
+// The bytes of a part with these values.
+pub fn part_size(layout: Layout, values: [u32; Layout::MOST]) -> usize
+    requires { do ⌜ Proper (← ⟦Layout::MOST⟧) layout ⌝ }
+    ensures { λ r. ⌜ (r ≡ length (partBytes (fieldsOf layout) values)) × (r ≤ 4 * layout .count + 1) ⌝ }
+{
+    let e = measure(layout, part_map(layout, values) as usize);
+    e.size + 1
+}
+
+// A number into `width` bytes from `at` on, low byte first.
+fn put_number(buf: &mut [u8], at: usize, width: usize, value: u32)
+    requires { ⌜ at + width ≤ length (now buf) ⌝ }
+    ensures { λ _. ⌜ now (buf .exit) ≡ sets (now (buf .entry)) at (bytesOf width value) ⌝ }
+{
+    let mut v = value;
+    let mut left = width;
+    while 0 < left {
+        buf[at + (width - left)] = (v % 256) as u8;
+        v = v / 256;
+        left -= 1;
+    }
+}
+
+// A field from `at` on; the place after it.
+fn put_field(buf: &mut [u8], at: usize, f: Field, value: u32) -> usize
+    requires { ⌜ at + length (fieldBytes f value) ≤ length (now buf) ⌝ }
+    ensures { λ r. ⌜ r ≡ at + length (fieldBytes f value) ⌝ }
+    ensures { λ _. ⌜ now (buf .exit) ≡ sets (now (buf .entry)) at (fieldBytes f value) ⌝ }
+{
+    if value == f.absent {
+        return at;
+    }
+    let width = f.width;
+    put_number(buf, at, width, value);
+    at + width
+}
+
+// The fields of a part from `from` on; the place after them.
+fn put_fields(buf: &mut [u8], from: usize, layout: Layout, values: [u32; Layout::MOST]) -> usize
+    requires { do ⌜ Proper (← ⟦Layout::MOST⟧) layout × (from + length (bodyOf (fieldsOf layout) values) ≤ length (now buf)) ⌝ }
+    ensures { λ r. ⌜ r ≡ from + length (bodyOf (fieldsOf layout) values) ⌝ }
+    ensures { λ _. ⌜ now (buf .exit) ≡ sets (now (buf .entry)) from (bodyOf (fieldsOf layout) values) ⌝ }
+{
+    let n = layout.count;
+    let mut at = from;
+    let mut i: usize = 0;
+    while i < n {
+        at = put_field(buf, at, layout.fields[i], values[i]);
+        i += 1;
+    }
+    at
+}
+
+// A part from `at` on; the place after it.
+pub fn put_part(buf: &mut [u8], at: usize, layout: Layout, values: [u32; Layout::MOST]) -> usize
+    requires { do ⌜ Proper (← ⟦Layout::MOST⟧) layout × (at + length (partBytes (fieldsOf layout) values) ≤ length (now buf)) ⌝ }
+    ensures { λ r. ⌜ r ≡ at + length (partBytes (fieldsOf layout) values) ⌝ }
+    ensures { λ _. ⌜ now (buf .exit) ≡ sets (now (buf .entry)) at (partBytes (fieldsOf layout) values) ⌝ }
+{
+    buf[at] = part_map(layout, values);
+    put_fields(buf, at + 1, layout, values)
+}
