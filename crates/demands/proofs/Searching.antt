@@ -1,13 +1,11 @@
 -- What demand 3 says of a list of calls to a search. Assumes a sound connected plant and one of its switches.
-use mathlib.Core.Path.{_≡_, refl, sym, _∙_}
+use mathlib.Core.Path.{_≡_}
 use mathlib.Core.Logic.{_⊎_, inl, inr, _↔_}
-use mathlib.Core.Bool.{Bool, true, false}
+use mathlib.Core.Bool.{true}
 use mathlib.Core.List.{List, []}
 use Prim.Native.Nat.{ℕ, _+_, _≤_, _<_}
 use native.Mathlib.Omega.{arith}
-use borrow.Author.Tests.{ltb-true, ltb-false, eq-eqb, ne-eqb}
-use lib.Dec.{ltb}
-use Rattle.lists.specs.Tests.{choose}
+use borrow.Author.Tests.{eq-eqb, ne-eqb}
 use Rattle.lists.proofs.Tests.{eq?, not-both, not-false-true}
 use Rattle.plant.specs.declared.Plant.{Plant}
 use Rattle.limits.specs.Limits.{maxLinks}
@@ -19,18 +17,16 @@ use Rattle.routes.specs.Plants.{trailOf}
 use Rattle.rings.specs.Trail.{Trail}
 use Rattle.rings.specs.Rules.{upBy}
 use Rattle.rings.specs.Injection.{orderOf, probeRun}
-use Rattle.rings.proofs.FirstDown.{firstDown}
-use Rattle.rings.proofs.FirstDown.{first-one}
+use Rattle.rings.proofs.FirstDown.{firstDown, first-one}
 use Rattle.rings.proofs.Injection.{probe-tells, broken-most, none-broken, first-broken}
 use Rattle.walks.proofs.Valid.{sound-valid}
 use Rattle.allowance.specs.Allowance.{allowance}
 use Rattle.allowance.proofs.Ceiling.{allowance-enough, allowance-least}
-use Rattle.search.specs.declared.Outcome.the-variants.{Returned, Lost}
 use Rattle.search.specs.Search.{ended, next, give}
 use Rattle.search.specs.Calls.{Call, perform, begun}
 use Rattle.search.specs.Limit.{limit}
 use Rattle.search.proofs.Sound.{answers-given}
-use Rattle.search.proofs.Finds.{Tells, finds}
+use Rattle.search.proofs.Finds.{Tells, tells-by, finds}
 use Rattle.trail.proofs.Trails.{trail-is}
 use Rattle.demands.specs.Demands.{MostProbes, NoneBroken, actualOutcome, AllTrue, Says, Searches}
 
@@ -45,15 +41,6 @@ most-probes e = record {
 
 -- ---- the search
 
--- what a true outcome is, by a test
-returned-true : (b : Bool) → Returned ≡ choose b Returned Lost → b ≡ true
-returned-true true e = refl
-returned-true false e = let z : _≡_ {A = ℕ} 0 1 = cc in absurd (omega arith)
-
-lost-false : (b : Bool) → Lost ≡ choose b Returned Lost → b ≡ false
-lost-false true e = let z : _≡_ {A = ℕ} 0 1 = cc in absurd (omega arith)
-lost-false false e = refl
-
 module _ (p : Plant) (ok : Sound p) (con : Connected p) (x : ℕ) (x-in : x < p .switches) where
   valid : Valid p
   valid = sound-valid p ok
@@ -66,21 +53,15 @@ module _ (p : Plant) (ok : Sound p) (con : Connected p) (x : ℕ) (x-in : x < p 
 
   module _ (states : List ℕ) where
     -- the place of the first broken link
-    abbrev pub place : ℕ
+    abbrev place : ℕ
     place = firstDown (upBy states) (orderOf p (trailOf p) x)
 
     -- probe m returns exactly if it comes after the m-th link
-    pub told : (m : ℕ) → 1 ≤ m → m ≤ liveLinks p → probeRun p (trailOf p) x (upBy states) m .ended ≡ ltb m place
-    told = probe-tells p valid con (trailOf p) trail x x-in (upBy states)
-
-    pub tells : Tells (liveLinks p) place (λ m o. o ≡ actualOutcome p x states m)
+    tells : Tells (liveLinks p) place (λ m o. o ≡ actualOutcome p x states m)
     unfolding actualOutcome
-    tells = record {
-      from-one = first-one (upBy states) (orderOf p (trailOf p) x);
-      to-none = broken-most p valid con (trailOf p) trail x x-in (upBy states);
-      after = λ m h i t. ltb-true m place (sym (told m h i) ∙ returned-true (probeRun p (trailOf p) x (upBy states) m .ended) t);
-      up-to = λ m h i t. ltb-false m place (sym (told m h i) ∙ lost-false (probeRun p (trailOf p) x (upBy states) m .ended) t);
-    }
+    tells =
+        tells-by (liveLinks p) place (first-one (upBy states) (orderOf p (trailOf p) x)) (broken-most p valid con (trailOf p) trail x x-in (upBy states))
+        (λ m. probeRun p (trailOf p) x (upBy states) m .ended) (probe-tells p valid con (trailOf p) trail x x-in (upBy states))
 
     none : (place ≡ liveLinks p + 1) ↔ NoneBroken p states
     none =

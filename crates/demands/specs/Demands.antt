@@ -205,7 +205,7 @@ module _ (p : Plant) (x : ℕ) (states : List ℕ) where
     pub first-broken : (NoneBroken p states → ⊥) → (k : ℕ) × (state ≡ Down k) × FirstDown (upBy states) (orderOf p (trailOf p) x) k
 
 -- what holds of r, where the calls cs led to after a new search over the E links of p from injection switch x; `liveLinks p` is E, and `r .probes` the number of
--- accepted outcomes
+-- accepted outcomes that settle their probe, which each does (search/specs/Search `settles`)
 pub record Searches (p : Plant) (x : ℕ) (cs : List Call) (r : Progress) : Type 0 where
   -- "whatever fates are given, the probes number at most 1 + ⌈log2 E⌉, or none for E = 0, and with that many the search has ended"
   pub limit-is : MostProbes (liveLinks p) (limit (liveLinks p))

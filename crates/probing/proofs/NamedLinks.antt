@@ -1,8 +1,7 @@
 -- The order of links has each link of the plant once, and a link that is named is one of the plant. Assumes a sound connected plant and one of its switches.
 use mathlib.Core.Path.{_≡_, sym, subst}
 use mathlib.Core.Logic.{_↔_}
-use mathlib.Core.Bool.{false}
-use mathlib.Core.List.{List}
+use mathlib.Core.List.{List, [], _∷_}
 use Prim.Native.Nat.{ℕ, _-_, _<_}
 use native.Mathlib.Omega.{arith}
 use lib.Dec.{T}
@@ -11,10 +10,10 @@ use Rattle.lists.specs.Members.{In, Distinct}
 use Rattle.lists.proofs.Members.{getD-in}
 use Rattle.plant.specs.declared.Plant.{Plant}
 use Rattle.plant.specs.Links.{live}
-use Rattle.answers.specs.Answers.{given, refuse}
+use Rattle.answers.specs.Answers.{given}
 use Rattle.answers.specs.Checks.{answer}
 use Rattle.limits.specs.Sound.{Sound}
-use Rattle.answers.proofs.Checks.{given-given, refuse-given}
+use Rattle.answers.proofs.Checks.{given-exactly}
 use Rattle.walks.specs.Graph.{Connected, liveLinks}
 use Rattle.walks.proofs.Valid.{sound-valid}
 use Rattle.routes.specs.Plants.{trailOf}
@@ -25,8 +24,11 @@ use Rattle.order.specs.declared.Order.{Order}
 use Rattle.order.specs.Order.{listed}
 use Rattle.order.proofs.Gathering.{listed-links}
 use Rattle.search.specs.declared.Search.{Search}
-use Rattle.search.specs.declared.Search.the-variants.{Checking, Halving, AllUp, Down}
-use Rattle.search.specs.Sound.{Good}
+use Rattle.search.specs.declared.Said.{Said}
+use Rattle.search.specs.declared.Said.the-variants.{Open, AllUp, Down}
+use Rattle.search.specs.Search.{says}
+use Rattle.search.specs.Sound.{SaysIn}
+use Rattle.search.proofs.Sound.{says-in}
 use Rattle.probing.specs.Conditions.{trailDiffers, searchUnsound}
 use Rattle.probing.specs.Calls.{orderIn, Name, link, none, unknown, namedIn, nameIn}
 use Rattle.probing.proofs.Lent.{trail-of}
@@ -47,7 +49,7 @@ OfPlant p unknown = Unit
 module _ (p : Plant) (ok : Sound p) (con : Connected p) (x : ℕ) (x-in : x < p .switches) where
   pub order-each : (w : List ℕ) (o : Order) → answer (orderIn x w p) ≡ given o → EachOnce p o
   unfolding orderIn listed
-  order-each w o e = subst (EachOnce p) (given-given (listed ls) o (refuse-given 12 (trailDiffers p w) (given (listed ls)) o e .1)) each
+  order-each w o e = subst (EachOnce p) (given-exactly ((12, trailDiffers p w) ∷ []) (listed ls) o .0 e .1) each
     where
       ls : List ℕ
       ls = orderOf p (trailOf p) x
@@ -62,20 +64,15 @@ module _ (p : Plant) (ok : Sound p) (con : Connected p) (x : ℕ) (x-in : x < p 
   -- a link that is named is a link of the plant
   pub named-live : (w : List ℕ) (q : Search) (n : Name) → answer (nameIn x w q p) ≡ given n → OfPlant p n
   unfolding nameIn
-  named-live w q n e = subst (OfPlant p) (given-given (namedIn ls q) n (s .1)) (go q (good-here (liveLinks p) q (s .0)))
+  named-live w q n e =
+      let r = given-exactly ((12, trailDiffers p w) ∷ (14, searchUnsound (liveLinks p) q) ∷ []) (namedIn ls (says q)) n .0 e in
+      subst (OfPlant p) (r .1) (go (says q) (says-in (liveLinks p) q (good-here (liveLinks p) q (r .0 .1 .0))))
     where
       ls : List ℕ
       ls = orderOf p (trailOf p) x
 
-      d : (trailDiffers p w ≡ false) × (refuse 14 (searchUnsound (liveLinks p) q) (given (namedIn ls q)) ≡ given n)
-      d = refuse-given 12 (trailDiffers p w) (refuse 14 (searchUnsound (liveLinks p) q) (given (namedIn ls q))) n e
-
-      s : (searchUnsound (liveLinks p) q ≡ false) × (given (namedIn ls q) ≡ given n)
-      s = refuse-given 14 (searchUnsound (liveLinks p) q) (given (namedIn ls q)) n (d .1)
-
-      go : (r : Search) → Good (liveLinks p) r → OfPlant p (namedIn ls r)
-      go (Checking count) g = tt
-      go (Halving low high) g = tt
+      go : (d : Said) → SaysIn (liveLinks p) d → OfPlant p (namedIn ls d)
+      go Open g = tt
       go AllUp g = tt
       go (Down k) g =
           let inside : k - 1 < length ls = omega (arith, g, order-length p (sound-valid p ok) con (trailOf p) (trail-of p ok con) x x-in) in

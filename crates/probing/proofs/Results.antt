@@ -28,8 +28,8 @@ use Rattle.order.proofs.Gathering.{listed-nth}
 use Rattle.packet.specs.declared.End.{End}
 use Rattle.packet.specs.Runs.{endOf, injectedAt, goesOn}
 use Rattle.packet.proofs.Probes.{table-run}
-use Rattle.search.specs.declared.Search.{Search}
-use Rattle.search.specs.declared.Search.the-variants.{Down}
+use Rattle.search.specs.declared.Said.{Said}
+use Rattle.search.specs.declared.Said.the-variants.{Down}
 use Rattle.search.specs.declared.Outcome.{Outcome}
 use Rattle.probing.specs.Conditions.{trailDiffers}
 use Rattle.probing.specs.Calls.{outcomeOf, orderIn, outSpan, link, namedIn}
@@ -66,9 +66,9 @@ module _ (p : Plant) (w : List ℕ) (x : ℕ) (same : w ≡ trailOf p) where
   out-part m b n f = rw (ne-eqb _ _ (λ e. n (e ∙ all-live p))) (f ∙ ap (λ (v : List ℕ). spanOf p v x m) same)
 
   -- the link at a place in the order
-  pub named-link : (o : Order) (q : Search) (k : ℕ) → o ≡ listed (orderOf p w x) → q ≡ Down k
-      → given (link (getD (o .links) (k - 1) 0)) ≡ given (namedIn (orderOf p (trailOf p) x) q)
-  named-link o q k f e =
+  pub named-link : (o : Order) (d : Said) (k : ℕ) → o ≡ listed (orderOf p w x) → d ≡ Down k
+      → given (link (getD (o .links) (k - 1) 0)) ≡ given (namedIn (orderOf p (trailOf p) x) d)
+  named-link o d k f e =
       let l : getD (o .links) (k - 1) 0 ≡ nth (orderOf p (trailOf p) x) k =
       ap (λ (d : Order). getD (d .links) (k - 1) 0) f ∙ listed-nth (orderOf p w x) k ∙ ap (λ (v : List ℕ). nth (orderOf p v x) k) same
       in

@@ -22,11 +22,12 @@ use Rattle.order.specs.declared.Span.{Span}
 use Rattle.order.specs.Order.{listed}
 use Rattle.order.specs.Span.{ringSpan, spanOf, stretchOf, frontOf}
 use Rattle.search.specs.declared.Search.{Search}
-use Rattle.search.specs.declared.Search.the-variants.{Checking, Halving, AllUp, Down}
+use Rattle.search.specs.declared.Said.{Said}
+use Rattle.search.specs.declared.Said.the-variants as said
 use Rattle.search.specs.declared.Outcome.{Outcome}
 use Rattle.search.specs.declared.Outcome.the-variants.{Returned, Lost}
 use Rattle.search.specs.declared.Progress.{Progress}
-use Rattle.search.specs.Search.{newSearch, wanted}
+use Rattle.search.specs.Search.{newSearch, says, wanted}
 use Rattle.search.specs.Calls.{Call, perform, begun}
 use Rattle.planning.specs.Planning.{planningAt}
 use Rattle.probing.specs.Conditions.{trailDiffers, statesShort, searchUnsound, lentChecks, wantedChecks}
@@ -102,15 +103,14 @@ pub data Name : Type 0 where
   none : Name
   unknown : Name
 
--- Down names the link at its place in the order
-abbrev pub namedIn : List ℕ → Search → Name
-namedIn ls (Checking count) = unknown
-namedIn ls (Halving low high) = unknown
-namedIn ls AllUp = none
-namedIn ls (Down place) = link (nth ls place)
+-- by what it says: Down names the link at its place in the order
+abbrev pub namedIn : List ℕ → Said → Name
+namedIn ls said.Open = unknown
+namedIn ls said.AllUp = none
+namedIn ls (said.Down place) = link (nth ls place)
 
 unfoldable pub nameIn : ℕ → List ℕ → Search → Plant → Checked Name
-nameIn x w q p = check ((12, trailDiffers p w) ∷ (14, searchUnsound (liveLinks p) q) ∷ []) (namedIn (orderOf p (trailOf p) x) q)
+nameIn x w q p = check ((12, trailDiffers p w) ∷ (14, searchUnsound (liveLinks p) q) ∷ []) (namedIn (orderOf p (trailOf p) x) (says q))
 
 unfoldable pub naming : List ℕ → ℕ → List ℕ → Search → Checked Name
 naming s x w q = planningAt s x then nameIn x w q

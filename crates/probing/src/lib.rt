@@ -9,6 +9,7 @@ use plant::Plant;
 use search::Asked;
 use search::Outcome;
 use search::Progress;
+use search::Said;
 use search::Search;
 use search::Told;
 ghost use mathlib.Core.Path.{_≡_};
@@ -25,7 +26,7 @@ ghost use Rattle.packet.specs.Asked.{CanProbe};
 ghost use Rattle.packet.specs.Runs.{endOf};
 ghost use Rattle.search.specs.Search.{ask, give, askedOf, toldOf};
 ghost use Rattle.search.specs.Calls.{callsIn};
-ghost use Rattle.search.specs.Sound.{Good};
+ghost use Rattle.search.specs.Sound.{SaysIn};
 ghost use Rattle.probing.specs.Conditions.{trailDiffers, statesShort, searchUnsound, lentChecks, probeWanted};
 ghost use Rattle.probing.specs.Calls.{runIn, running, outcomeOf, checkIn, checking, orderIn, ordering, outSpan, outwardIn, outgoing, OutwardParts, probeOver, probeIn, probing, namedIn, nameIn, naming, beginning, performing};
 ghost use Rattle.probing.specs.Answers.{ranAnswer, probedAnswer, Orders, outwardAnswer, namedAnswer, begunAnswer, performedAnswer};
@@ -359,18 +360,17 @@ pub fn run_probe(listing: &[u8], switch: u8, trail: &[u16], states: &[u8], searc
 
 // ---- the link named
 
-// What a sound search names in a plant with this trail.
-fn name_of(p: Plant, switch: u8, trail: &[u16], search: Search) -> Named
+// What is named in a plant with this trail by what a sound search says.
+fn name_of(p: Plant, switch: u8, trail: &[u16], said: Said) -> Named
     requires { ⌜ Sound p × Connected p ⌝ }
     requires { ⌜ now trail ≡ trailOf p ⌝ }
-    requires { ⌜ Good (p .count) search ⌝ }
-    ensures { λ r. ⌜ namedAnswer r ≡ given (namedIn (orderOf p (trailOf p) switch) search) ⌝ }
+    requires { ⌜ SaysIn (p .count) said ⌝ }
+    ensures { λ r. ⌜ namedAnswer r ≡ given (namedIn (orderOf p (trailOf p) switch) said) ⌝ }
 {
-    match search {
-        Search::Checking(_) => Named::Open,
-        Search::Halving(_, _) => Named::Open,
-        Search::AllUp => Named::AllUp,
-        Search::Down(place) => {
+    match said {
+        Said::Open => Named::Open,
+        Said::AllUp => Named::AllUp,
+        Said::Down(place) => {
             let o = order::order_of(p, switch, trail);
             let j = (place - 1) as usize;
             Named::Link(o.links[j])
@@ -389,7 +389,7 @@ fn name_in(p: Plant, switch: u8, trail: &[u16], search: Search) -> Named
     if unsound(search, p.count) {
         return Named::Refused(Refusal::SearchUnsound);
     }
-    name_of(p, switch, trail, search)
+    name_of(p, switch, trail, search.says())
 }
 
 // The link that a search names from a switch: refusals 1 to 9, 11, 12 and 14.

@@ -1,17 +1,21 @@
 -- Laws of the definitions in the form in which the code's proofs cite them. Assumes nothing.
-use mathlib.Core.Path.{_≡_, sym}
+use mathlib.Core.Path.{_≡_, refl, sym}
+use mathlib.Core.Bool.{Bool, true, false}
 use mathlib.Core.List.{List}
 use Prim.Native.Nat.{ℕ, _+_, _≤_, _<_}
 use native.Mathlib.Numerals.{add-one}
+use native.Mathlib.Omega.{arith}
+use mir.Val.{boolByte}
 use lib.ListN.{length, getD, drop, drop-of-length-le}
 use lib.Seq.{drop-cons}
 use borrow.Author.Tests.{eq-eqb, ne-eqb}
+use Rattle.lists.specs.Count.{bit}
 use Rattle.answers.specs.Answers.{given, refused}
 use Rattle.answers.specs.Checks.{answer}
 use Rattle.search.specs.declared.Search.{Search}
 use Rattle.search.specs.declared.Outcome.{Outcome}
 use Rattle.search.specs.declared.Progress.{Progress}
-use Rattle.search.specs.Search.{give}
+use Rattle.search.specs.Search.{settles, give}
 use Rattle.search.specs.Calls.{outcomeIn, callIn, callsIn, step, perform}
 
 -- ---- one call
@@ -20,10 +24,15 @@ pub step-asks : (p : Progress) (b : ℕ) → b ≡ 0 → p ≡ step p (callIn b)
 unfolding callIn
 step-asks p b e = rw (eq-eqb b 0 e)
 
-pub step-given : (p : Progress) (b : ℕ) (o : Outcome) (t : Search) → (b ≡ 0 → ⊥) → o ≡ outcomeIn b → answer (give (p .state) o) ≡ given t
-    → record { state = t; probes = p .probes + 1 } ≡ step p (callIn b)
+-- a test as a number, as the code adds it
+pub byte-bit : (b : Bool) → (boolByte b ≡ bit b) × (bit b ≤ 1)
+byte-bit true = (refl, omega arith)
+byte-bit false = (refl, omega arith)
+
+pub step-given : (p : Progress) (b : ℕ) (o : Outcome) (d : Bool) (t : Search) → (b ≡ 0 → ⊥) → o ≡ outcomeIn b → d ≡ settles (p .state) o
+    → answer (give (p .state) o) ≡ given t → record { state = t; probes = p .probes + boolByte d } ≡ step p (callIn b)
 unfolding callIn
-step-given p b o t n e g = rw (ne-eqb b 0 n, sym e, g)
+step-given p b o d t n e f g = rw (ne-eqb b 0 n, sym e, g, sym f, byte-bit d .0)
 
 pub step-refused : (p : Progress) (b : ℕ) (o : Outcome) (k : ℕ) → (b ≡ 0 → ⊥) → o ≡ outcomeIn b → answer (give (p .state) o) ≡ refused k
     → p ≡ step p (callIn b)

@@ -14,8 +14,8 @@ use Rattle.answers.proofs.Checks.{none-judged}
 use Rattle.limits.specs.Limits.{maxLinks}
 use Rattle.search.specs.declared.Search.{Search}
 use Rattle.search.specs.declared.Search.the-variants.{Checking, Halving, AllUp, Down}
-use Rattle.search.specs.Search.{counts, sound, soundFor, ended, wanted, callChecks}
-use Rattle.search.specs.Sound.{Good}
+use Rattle.search.specs.Search.{counts, sound, soundFor, says, ended, wanted, callChecks}
+use Rattle.search.specs.Sound.{Good, SaysIn}
 
 -- ---- what a call answers
 
@@ -60,6 +60,12 @@ good-sound e (Halving low high) h g =
     (rw (lt-ltb 0 low (omega arith), lt-ltb low high (omega arith), le-leb high maxLinks (omega arith)), le-leb high e (omega arith))
 good-sound e AllUp h g = (refl, refl)
 good-sound e (Down place) h g = (rw (lt-ltb 0 place (omega arith), le-leb place maxLinks (omega arith)), le-leb place e (omega arith))
+
+pub says-in : (e : ℕ) (s : Search) → Good e s → SaysIn e (says s)
+says-in e (Checking count) g = tt
+says-in e (Halving low high) g = tt
+says-in e AllUp g = tt
+says-in e (Down place) g = g
 
 -- a search that has not ended wants one of the probes 1 .. e
 pub wanted-in : (e : ℕ) (s : Search) → Good e s → ended s ≡ false → (1 ≤ wanted s) × (wanted s ≤ e)

@@ -1,17 +1,18 @@
 -- A list of calls to a search, as document 01 tells it for demand 3: each call is handed the state that the last accepted outcome returned, at first the new search;
--- a call for a probe and a refused call leave that state as it is; the number of probes is the number of accepted outcomes. Assumes nothing.
+-- a call for a probe and a refused call leave that state as it is; the number of probes is the number of accepted outcomes that settle theirs. Assumes nothing.
 use mathlib.Core.Path.{_≡_}
 use mathlib.Core.List.{List, [], _∷_}
 use Prim.Native.Nat.{ℕ, _+_}
 use lib.Dec.{eqb}
 use Rattle.lists.specs.Tests.{choose}
+use Rattle.lists.specs.Count.{bit}
 use Rattle.answers.specs.Answers.{Answer, given, refused}
 use Rattle.answers.specs.Checks.{answer}
 use Rattle.search.specs.declared.Search.{Search}
 use Rattle.search.specs.declared.Outcome.{Outcome}
 use Rattle.search.specs.declared.Outcome.the-variants.{Returned, Lost}
 use Rattle.search.specs.declared.Progress.{Progress}
-use Rattle.search.specs.Search.{newSearch, ask, give}
+use Rattle.search.specs.Search.{newSearch, settles, ask, give}
 
 pub data Call : Type 0 where
   asks : Call
@@ -28,14 +29,14 @@ abbrev pub callsIn : List ℕ → List Call
 callsIn [] = []
 callsIn (b ∷ bs) = callIn b ∷ callsIn bs
 
--- an accepted outcome is counted; a refusal changes nothing
-abbrev pub counted : Progress → Answer Search → Progress
-counted p (given s) = record { state = s; probes = p .probes + 1 }
-counted p (refused n) = p
+-- after an outcome: an accepted one is counted if it settles its probe; a refusal changes nothing
+abbrev pub counted : Progress → Outcome → Answer Search → Progress
+counted p o (given s) = record { state = s; probes = p .probes + bit (settles (p .state) o) }
+counted p o (refused n) = p
 
 abbrev pub step : Progress → Call → Progress
 step p asks = p
-step p (gives o) = counted p (answer (give (p .state) o))
+step p (gives o) = counted p o (answer (give (p .state) o))
 
 abbrev pub perform : Progress → List Call → Progress
 perform p [] = p

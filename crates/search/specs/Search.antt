@@ -1,4 +1,5 @@
--- The search of document 01: its states, the probe that each wants, the state after an outcome, refusals 14 and 15, and the calls. Assumes nothing.
+-- The search of document 01: its states, what each says and the probe that it wants, what an outcome does, refusals 14 and 15, and the calls. All that goes by the kind of
+-- a state stands here. Assumes nothing.
 use mathlib.Core.Bool.{Bool, true, false, not, _&&_}
 use mathlib.Core.List.{[], _∷_}
 use Prim.Native.Nat.{ℕ, _+_, _/_}
@@ -9,6 +10,8 @@ use Rattle.answers.specs.Checks.{Conditions, Checked, check}
 use Rattle.limits.specs.Limits.{maxLinks}
 use Rattle.search.specs.declared.Search.{Search}
 use Rattle.search.specs.declared.Search.the-variants.{Checking, Halving, AllUp, Down}
+use Rattle.search.specs.declared.Said.{Said}
+use Rattle.search.specs.declared.Said.the-variants as said
 use Rattle.search.specs.declared.Outcome.{Outcome}
 use Rattle.search.specs.declared.Outcome.the-variants.{Returned, Lost}
 use Rattle.search.specs.declared.Asked.{Asked}
@@ -40,12 +43,21 @@ soundFor e (Halving low high) = leb high e
 soundFor e AllUp = true
 soundFor e (Down place) = leb place e
 
--- refusal 15
+-- what a state says: nothing yet, that all links are up, or that the link at a place is down
+abbrev pub says : Search → Said
+says (Checking count) = said.Open
+says (Halving low high) = said.Open
+says AllUp = said.AllUp
+says (Down place) = said.Down place
+
+-- refusal 15: a search has ended once it says something
+abbrev pub over : Said → Bool
+over said.Open = false
+over said.AllUp = true
+over (said.Down place) = true
+
 abbrev pub ended : Search → Bool
-ended (Checking count) = false
-ended (Halving low high) = false
-ended AllUp = true
-ended (Down place) = true
+ended s = over (says s)
 
 -- m, the probe to send; a search that has ended wants none, and 0 stands for that
 abbrev pub wanted : Search → ℕ
@@ -55,17 +67,22 @@ wanted AllUp = 0
 wanted (Down place) = 0
 
 -- the first broken link is at one of the places low .. high
-abbrev pub settled : ℕ → ℕ → Search
-settled low high = choose (eqb low high) (Down low) (Halving low high)
+abbrev pub narrowed : ℕ → ℕ → Search
+narrowed low high = choose (eqb low high) (Down low) (Halving low high)
 
 -- the state after the probe that is wanted had an outcome (document 01: a fate, home or lost)
 abbrev pub next : Search → Outcome → Search
 next (Checking count) Returned = AllUp
-next (Checking count) Lost = settled 1 count
-next (Halving low high) Returned = settled (wanted (Halving low high) + 1) high
-next (Halving low high) Lost = settled low (wanted (Halving low high))
+next (Checking count) Lost = narrowed 1 count
+next (Halving low high) Returned = narrowed (wanted (Halving low high) + 1) high
+next (Halving low high) Lost = narrowed low (wanted (Halving low high))
 next AllUp o = AllUp
 next (Down place) o = Down place
+
+-- does an accepted outcome settle its probe, so that the probe is counted? "An accepted fate counts its probe as home or lost": each does
+abbrev pub settles : Search → Outcome → Bool
+settles s Returned = true
+settles s Lost = true
 
 -- ---- the calls
 

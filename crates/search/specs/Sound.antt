@@ -1,11 +1,19 @@
--- A state that is sound for a listing of e links, as a fact: not refusal 14.
+-- A state that is sound for a listing of e links, as a fact: not refusal 14; and what it can say. Assumes nothing.
 use mathlib.Core.Path.{_≡_}
 use Prim.Native.Nat.{ℕ, _≤_, _<_}
 use Rattle.search.specs.declared.Search.{Search}
 use Rattle.search.specs.declared.Search.the-variants.{Checking, Halving, AllUp, Down}
+use Rattle.search.specs.declared.Said.{Said}
+use Rattle.search.specs.declared.Said.the-variants as said
 
 abbrev pub Good : ℕ → Search → Type 0
 Good e (Checking count) = (count ≡ e) × (1 ≤ e)
 Good e (Halving low high) = (1 ≤ low) × (low < high) × (high ≤ e)
 Good e AllUp = Unit
 Good e (Down place) = (1 ≤ place) × (place ≤ e)
+
+-- what it says names no place, or one of the places 1 .. e
+abbrev pub SaysIn : ℕ → Said → Type 0
+SaysIn e said.Open = Unit
+SaysIn e said.AllUp = Unit
+SaysIn e (said.Down place) = (1 ≤ place) × (place ≤ e)

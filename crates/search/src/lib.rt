@@ -3,7 +3,7 @@ ghost use mathlib.Core.Path.{_≡_};
 ghost use mathlib.Core.Bool.{true};
 ghost use Prim.Native.Nat.{_≤_, _<_, _+_};
 ghost use Rattle.answers.specs.Checks.{Judges, answer};
-ghost use Rattle.search.specs.Search.{newSearch, counts, sound, soundFor, ended, wanted, settled, next, callChecks, ask, give, askedOf, toldOf};
+ghost use Rattle.search.specs.Search.{newSearch, counts, sound, soundFor, says, ended, wanted, narrowed, next, settles, callChecks, ask, give, askedOf, toldOf};
 ghost use Rattle.search.specs.Calls.{outcomeIn, callIn, callsIn, step, perform, begun};
 use answers::Refusal;
 use answers::Verdict;
@@ -13,6 +13,13 @@ use plant::Plant;
 pub enum Search {
     Checking(u16),
     Halving(u16, u16),
+    AllUp,
+    Down(u16),
+}
+
+// What a state says: nothing yet, that all links are up, or that the link at a place is down.
+pub enum Said {
+    Open,
     AllUp,
     Down(u16),
 }
@@ -35,7 +42,7 @@ pub enum Told {
     Refused(Refusal),
 }
 
-// The state that the last accepted outcome returned, and how many outcomes were accepted.
+// The state that the last accepted outcome returned, and the number of probes: how many accepted outcomes settled theirs.
 pub struct Progress {
     pub state: Search,
     pub probes: usize,
@@ -78,15 +85,26 @@ impl Search {
         }
     }
 
+    // What it says.
+    pub fn says(self) -> Said
+        ensures { λ r. ⌜ r ≡ says self ⌝ }
+    {
+        match self {
+            Search::Checking(_) => Said::Open,
+            Search::Halving(_, _) => Said::Open,
+            Search::AllUp => Said::AllUp,
+            Search::Down(place) => Said::Down(place),
+        }
+    }
+
     // Refusal 15.
     pub fn ended(self) -> bool
         ensures { λ r. ⌜ r ≡ ended self ⌝ }
     {
-        match self {
-            Search::Checking(_) => false,
-            Search::Halving(_, _) => false,
-            Search::AllUp => true,
-            Search::Down(_) => true,
+        match self.says() {
+            Said::Open => false,
+            Said::AllUp => true,
+            Said::Down(_) => true,
         }
     }
 
@@ -112,14 +130,24 @@ impl Search {
         match self {
             Search::Checking(count) => match o {
                 Outcome::Returned => Search::AllUp,
-                Outcome::Lost => settled(1, count),
+                Outcome::Lost => narrowed(1, count),
             },
             Search::Halving(low, high) => match o {
-                Outcome::Returned => settled(m + 1, high),
-                Outcome::Lost => settled(low, m),
+                Outcome::Returned => narrowed(m + 1, high),
+                Outcome::Lost => narrowed(low, m),
             },
             Search::AllUp => self,
             Search::Down(_) => self,
+        }
+    }
+
+    // Does an accepted outcome settle its probe, so that the probe is counted? Each does.
+    fn settles(self, o: Outcome) -> bool
+        ensures { λ r. ⌜ r ≡ settles self o ⌝ }
+    {
+        match o {
+            Outcome::Returned => true,
+            Outcome::Lost => true,
         }
     }
 
@@ -167,8 +195,8 @@ fn counts(n: u16) -> bool
 }
 
 // The first broken link is at one of the places low .. high.
-fn settled(low: u16, high: u16) -> Search
-    ensures { λ r. ⌜ r ≡ settled low high ⌝ }
+fn narrowed(low: u16, high: u16) -> Search
+    ensures { λ r. ⌜ r ≡ narrowed low high ⌝ }
 {
     if low == high {
         Search::Down(low)
@@ -201,8 +229,9 @@ fn step(p: Progress, b: u8) -> Progress
         s.ask();
         return p;
     }
-    let after = before + 1;
-    match s.give(outcome_in(b)) {
+    let o = outcome_in(b);
+    let after = before + s.settles(o) as usize;
+    match s.give(o) {
         Told::State(t) => Progress {
             state: t,
             probes: after,

@@ -1,6 +1,7 @@
 -- The link named: refusals 12 and 14, then what the search names. Assumes nothing.
 use mathlib.Core.Path.{sym, _∙_}
 use Rattle.planning.proofs.Counted.{planned}
+use Rattle.search.proofs.Sound.{says-in}
 use Rattle.probing.specs.Calls.{nameIn}
 use Rattle.answers.proofs.Checks.{holds, fails}
 use Rattle.probing.proofs.Lent.{trail-same}
@@ -24,16 +25,20 @@ returns-2 c =
 
 name-of-requires : tie.Need-name-of-requires
 name-of-requires c κs =
-    let d = c .before .before in
+    let b = c .before in
+    let d = b .before .before in
     let s = d .before .before .before .before in
-    (s .pre, (trail-same _ _ (sym (d .before .differs .ensures) ∙ d .if1 .left), good-here _ _ (sym (c .before .unsound .ensures) ∙ c .if2 .left)))
+    let g = good-here (s .args .p .count) (s .args .search) (sym (b .before .unsound .ensures) ∙ b .if2 .left) in
+    (s .pre, (trail-same _ _ (sym (d .before .differs .ensures) ∙ d .if1 .left), rw (c .says .ensures) (says-in (s .args .p .count) (s .args .search) g)))
 
 returns-3 : tie.Need-returns-3
 unfolding nameIn
 returns-3 c =
-    let b = c .before in
+    let b = c .before .before in
     let d = b .before .before in
-    fails 12 _ _ _ (sym (d .before .differs .ensures) ∙ d .if1 .left) (fails 14 _ _ _ (unsound-live _ _ _ (sym (b .before .unsound .ensures) ∙ b .if2 .left)) (c .name-of .ensures))
+    fails 12 _ _ _ (sym (d .before .differs .ensures) ∙ d .if1 .left)
+    (fails 14 _ _ _ (unsound-live _ _ _ (sym (b .before .unsound .ensures) ∙ b .if2 .left)) (rw (c .before .says .ensures) at (c .name-of .ensures)))
 
 pub name-in-spec : {M : Type 1} → statement M
-name-in-spec = tie.close (tie.spec (λ c κs. search needs) differs-requires returns (λ c κs. search needs) returns-2 name-of-requires returns-3)
+name-in-spec =
+    tie.close (tie.spec (λ c κs. search needs) differs-requires returns (λ c κs. search needs) returns-2 (λ c κs. search needs) name-of-requires returns-3)

@@ -1,7 +1,7 @@
--- What a sound search names. Assumes nothing.
+-- What is named by what a sound search says. Assumes nothing.
 use mathlib.Core.Path.{subst}
 use native.Mathlib.Omega.{arith}
-use Rattle.search.specs.Sound.{Good}
+use Rattle.search.specs.Sound.{SaysIn}
 use Rattle.probing.proofs.Lent.{lent-arcs}
 use Rattle.probing.proofs.Results.{named-link}
 use borrow.Author.Needs.{needs}
@@ -17,13 +17,13 @@ sub-j : tie.Need-sub-j
 sub-j c =
     let n = c .before .before in
     let s = n .before .before .before in
-    omega (arith, subst (Good (s .args .p .count)) (n .search .given .1) (s .pre .1 .1))
+    omega (arith, subst (SaysIn (s .args .p .count)) (n .said .given .1) (s .pre .1 .1))
 
 element-copy-out-t10 : tie.Need-element-copy-out-t10
 element-copy-out-t10 c =
     let n = c .before .before in
     let s = n .before .before .before in
-    omega (arith, subst (Good (s .args .p .count)) (n .search .given .1) (s .pre .1 .1), s .pre .0 .0 .few-links)
+    omega (arith, subst (SaysIn (s .args .p .count)) (n .said .given .1) (s .pre .1 .1), s .pre .0 .0 .few-links)
 
 returns : tie.Need-returns
 returns c = simp (c .enum-told .given .1)
@@ -32,15 +32,12 @@ returns-2 : tie.Need-returns-2
 returns-2 c = simp (c .enum-told2 .given .1)
 
 returns-3 : tie.Need-returns-3
-returns-3 c = simp (c .enum-told3 .given .1)
-
-returns-4 : tie.Need-returns-4
-returns-4 c =
+returns-3 c =
     let n = c .before .before .before in
     let s = n .before .before .before in
-    named-link (s .args .p) _ _ (s .pre .1 .0) (c .before .order-of .result) _ _ (c .before .order-of .ensures) (n .search .given .1)
+    named-link (s .args .p) _ _ (s .pre .1 .0) (c .before .order-of .result) _ _ (c .before .order-of .ensures) (n .said .given .1)
 
 pub name-of-spec : {M : Type 1} → statement M
 name-of-spec =
-    tie.close (tie.spec (λ c. search needs) (λ c. search needs) (λ c. search needs) (λ c. search needs) order-of-requires sub-j (λ c. search needs)
-    (λ c. search needs) element-copy-out-t10 returns returns-2 returns-3 returns-4)
+    tie.close (tie.spec (λ c. search needs) (λ c. search needs) (λ c. search needs) order-of-requires sub-j (λ c. search needs) (λ c. search needs)
+    element-copy-out-t10 returns returns-2 returns-3)

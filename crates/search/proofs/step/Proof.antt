@@ -1,8 +1,8 @@
--- `step` meets its contract: the byte 0 changes nothing, an accepted outcome is counted, a refused one is not. Assumes nothing.
+-- `step` meets its contract: the byte 0 changes nothing, an accepted outcome is counted if it settles its probe, a refused one is not. Assumes nothing.
 use mathlib.Core.Path.{sym, ap, _∙_}
 use native.Mathlib.Omega.{arith}
 use Rattle.search.specs.Search.{toldOf}
-use Rattle.search.proofs.Laws.{step-asks, step-given, step-refused}
+use Rattle.search.proofs.Laws.{byte-bit, step-asks, step-given, step-refused}
 use borrow.Author.Needs.{needs}
 use Rattle.search.proofs.step.Statement.{statement}
 use Rattle.search.proofs.step.Tie as tie
@@ -10,22 +10,26 @@ use Rattle.search.proofs.step.Tie as tie
 returns : tie.Need-returns
 returns c = (step-asks _ _ (c .before .if1 .taken), omega arith)
 
+add-after : tie.Need-add-after
+add-after c = omega (arith, byte-bit (c .settles .result), c .before .before .before .pre)
+
 returns-2 : tie.Need-returns-2
 returns-2 c =
-    let k = c .before .before .before in (
-      step-given (k .before .before .before .args .p) _ _ _ (k .before .before .if1 .left) (k .before .outcome-in .ensures)
+    let k = c .before .before .before in
+    let d = k .before in (
+      step-given (d .before .before .before .args .p) _ _ _ _ (d .before .before .if1 .left) (d .before .outcome-in .ensures) (d .settles .ensures)
           (sym (k .give .ensures) ∙ ap toldOf (c .before .t .given .1)),
-      omega arith,
+      omega (arith, byte-bit (d .settles .result)),
     )
 
 returns-3 : tie.Need-returns-3
 returns-3 c =
     let k = c .before .before in (
-      step-refused _ _ _ _ (k .before .before .if1 .left) (k .before .outcome-in .ensures) (sym (k .give .ensures) ∙ ap toldOf (c .enum-told .given .1)),
+      step-refused _ _ _ _ (k .before .before .before .if1 .left) (k .before .before .outcome-in .ensures) (sym (k .give .ensures) ∙ ap toldOf (c .enum-told .given .1)),
       omega arith,
     )
 
 pub step-spec : {M : Type 1} → statement M
 step-spec =
-    tie.close (tie.spec (λ c κs. search needs) returns (λ c. search needs) (λ c κs. search needs) (λ c κs. search needs) (λ c. search needs)
-    (λ c. search needs) returns-2 returns-3)
+    tie.close (tie.spec (λ c κs. search needs) returns (λ c κs. search needs) (λ c κs. search needs) (λ c. search needs) add-after (λ c κs. search needs)
+    (λ c. search needs) (λ c. search needs) returns-2 returns-3)
