@@ -1,4 +1,4 @@
-// The allowance of a search: the least k with 2^k at least the number of links, read from a table.
+// The allowance of a search: the least k with 2^k at least the number of links, read from a table. Inner: the calls are the crates `planner` and `probing`.
 ghost use mathlib.Core.Path.{_≡_};
 ghost use Rattle.allowance.specs.Allowance.{allowance, clipped};
 

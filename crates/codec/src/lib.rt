@@ -1,4 +1,4 @@
-// A part of a listing (document 01, "Listing bytes"): a map byte, then the fields whose bit is set, by rising bit. Its reader and its writer, for any fields.
+// A part of a listing (document 01, "Listing bytes"): a map byte, then the fields whose bit is set, by rising bit. Its reader and its writer, for any fields. Inner: the calls are the crates `planner` and `probing`.
 use answers::Refusal;
 use answers::Verdict;
 ghost use mathlib.Core.Path.{_≡_};

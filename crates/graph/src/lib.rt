@@ -1,4 +1,4 @@
-// The depth-first visit of a plant, by value, and what follows from it: which switches are reached, bridges, and arcs in use.
+// The depth-first visit of a plant, by value, and what follows from it: which switches are reached, bridges, and arcs in use. Inner: the calls are the crates `planner` and `probing`.
 ghost use mathlib.Core.Path.{_≡_};
 ghost use mathlib.Core.Bool.{true};
 ghost use Prim.Native.Nat.{_+_, _*_, _<_};

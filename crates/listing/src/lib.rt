@@ -1,4 +1,4 @@
-// The listing of a plant (document 01, "Listing bytes"): its reader and its writer.
+// The listing of a plant (document 01, "Listing bytes"): its reader and its writer. Inner: the calls are the crates `planner` and `probing`.
 use answers::Refusal;
 use answers::Verdict;
 use codec::Field;

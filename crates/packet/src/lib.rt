@@ -1,4 +1,4 @@
-// Packet runs: under rules that are flags of labels, by one state byte for each link; the full check, and every probe.
+// Packet runs: under rules that are flags of labels, by one state byte for each link; the full check, and every probe. Inner: the calls are the crates `planner` and `probing`.
 ghost use mathlib.Core.Path.{_≡_};
 ghost use mathlib.Core.Bool.{not, _&&_};
 ghost use Prim.Native.Nat.{_+_, _*_, _%_, _≤_, _<_};

@@ -1,5 +1,5 @@
 // The plan of a listing as text: a line of numbers, the forwarding table and the trail; or its refusal. The whole text is made as bytes in a lent buffer,
-// and one function writes it to standard output.
+// and one function writes it to standard output. Inner: what the programs `rules` and `samples` share.
 use answers::Verdict;
 use libc::STDOUT_FILENO;
 use planning::Numbers;

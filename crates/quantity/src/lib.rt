@@ -1,4 +1,4 @@
-// The order quantity: how many rules to order, with a spare in percent.
+// The order quantity: how many rules to order, with a spare in percent. Inner: the calls are the crates `planner` and `probing`.
 ghost use mathlib.Core.Path.{_≡_};
 ghost use Rattle.answers.specs.Checks.{answer};
 ghost use Rattle.quantity.specs.Quantity.{orderQuantity, quantityOf};

@@ -1,5 +1,5 @@
 // A reading carries the lent listing and how far it has come (document 01, "Listing bytes"). Each function over it is thin:
-// it takes the reading apart, or makes one, and leaves the work to the crate `listing`. A refusal travels in what is handed on.
+// it takes the reading apart, or makes one, and leaves the work to the crate `listing`. A refusal travels in what is handed on. Inner: the call is `planner::read`.
 use listing::Decoded;
 use listing::Header;
 use listing::Linked;

@@ -1,4 +1,4 @@
-// The search for the first broken link: its state, the call for a probe, the call that gives an outcome, and a list of calls.
+// The search for the first broken link: its state, the call for a probe, the call that gives an outcome, and a list of calls. Inner: the calls are the crates `planner` and `probing`.
 ghost use mathlib.Core.Path.{_≡_};
 ghost use mathlib.Core.Bool.{true};
 ghost use Prim.Native.Nat.{_≤_, _<_, _+_};

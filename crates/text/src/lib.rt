@@ -1,5 +1,5 @@
 // The lines that the program `rules` prints (document 01, "Edges and marked cases"), laid into a lent buffer of bytes.
-// Each function lays its bytes from place `at` on and answers the place after them.
+// Each function lays its bytes from place `at` on and answers the place after them. Inner: each asks for room.
 ghost use Prim.Native.Nat.{_+_, _≤_};
 ghost use mathlib.Core.List.{_∷_, []};
 ghost use lib.ListN.{length, take};
@@ -23,7 +23,7 @@ pub const TRAIL: usize = 5 + 1;
 pub const LABEL: usize = 1 + DIGITS_16;
 
 // The bytes of a word.
-pub fn put_word(buf: &mut [u8], at: usize, word: &[u8]) -> usize
+fn put_word(buf: &mut [u8], at: usize, word: &[u8]) -> usize
     requires { ⌜ Room (now buf) at (now word) ⌝ }
     ensures { λ r. ⌜ Laid (now (buf .entry)) at (now (word .entry)) (now (buf .exit)) r ⌝ }
 {
@@ -38,7 +38,7 @@ pub fn put_word(buf: &mut [u8], at: usize, word: &[u8]) -> usize
 }
 
 // A number in decimal.
-pub fn put_decimal(buf: &mut [u8], at: usize, n: u32) -> usize
+fn put_decimal(buf: &mut [u8], at: usize, n: u32) -> usize
     requires { ⌜ Room (now buf) at (decimal n) ⌝ }
     ensures { λ r. ⌜ Laid (now (buf .entry)) at (decimal n) (now (buf .exit)) r ⌝ }
 {
@@ -52,7 +52,7 @@ pub fn put_decimal(buf: &mut [u8], at: usize, n: u32) -> usize
 }
 
 // A space and a number.
-pub fn put_number(buf: &mut [u8], at: usize, n: u32) -> usize
+fn put_number(buf: &mut [u8], at: usize, n: u32) -> usize
     requires { ⌜ Room (now buf) at (spaced n) ⌝ }
     ensures { λ r. ⌜ Laid (now (buf .entry)) at (spaced n) (now (buf .exit)) r ⌝ }
 {
@@ -61,7 +61,7 @@ pub fn put_number(buf: &mut [u8], at: usize, n: u32) -> usize
 }
 
 // The end of a line.
-pub fn end_line(buf: &mut [u8], at: usize) -> usize
+fn end_line(buf: &mut [u8], at: usize) -> usize
     requires { ⌜ Room (now buf) at (newline ∷ []) ⌝ }
     ensures { λ r. ⌜ Laid (now (buf .entry)) at (newline ∷ []) (now (buf .exit)) r ⌝ }
 {
