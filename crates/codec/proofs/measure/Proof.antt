@@ -38,16 +38,6 @@ returns c =
 
 pub measure-spec : {M : Type 1} → statement M
 measure-spec =
-    tie.close
-    (tie.spec
-    Inv-loop
-    μ-loop
-    loop-holds
-    (λ c. omega (arith, c .before .before .pre .few))
-    (λ c. omega (arith, c .before .before .pre .few))
-    taken-by-requires
-    (λ c. omega (arith, c .before .before .before .before .pre .few))
-    (λ c. search needs)
-    (λ c. search needs)
-    loop-again
-    returns)
+    tie.close (tie.spec Inv-loop μ-loop loop-holds (λ c. omega (arith, c .before .before .pre .few))
+    (λ c. omega (arith, c .before .before .pre .few)) taken-by-requires (λ c. omega (arith, c .before .before .before .before .pre .few))
+    (λ c. search needs) (λ c. search needs) loop-again returns)

@@ -34,18 +34,5 @@ returns c = from-start _ _ _ _ _ (c .loop-test .left) (c .before .loop .inv)
 
 pub number-at-spec : {M : Type 1} → statement M
 number-at-spec =
-    tie.close
-    (tie.spec
-    Inv-loop
-    μ-loop
-    loop-holds
-    mul-n
-    (λ c. omega arith)
-    (λ c. omega arith)
-    (λ c. omega arith)
-    (λ c κs. search needs)
-    add-n
-    (λ c. omega arith)
-    (λ c. omega arith)
-    loop-again
-    returns)
+    tie.close (tie.spec Inv-loop μ-loop loop-holds mul-n (λ c. omega arith) (λ c. omega arith) (λ c. omega arith) (λ c κs. search needs) add-n
+    (λ c. omega arith) (λ c. omega arith) loop-again returns)

@@ -36,19 +36,6 @@ returns c = let z : c .before .loop .i ≡ 0 = omega arith in rw z at (c .before
 
 pub part-map-spec : {M : Type 1} → statement M
 part-map-spec =
-    tie.close
-    (tie.spec
-    Inv-loop
-    μ-loop
-    loop-holds
-    (λ c. search needs)
-    mul-m
-    (λ c. omega (arith, c .before .before .pre .few))
-    (λ c. omega (arith, c .before .before .pre .few))
-    (λ c. omega (arith, c .before .before .before .pre .few))
-    (λ c. omega (arith, c .before .before .before .pre .few))
-    (λ c κs. search needs)
-    add-m
-    (λ c. search needs)
-    loop-again
-    returns)
+    tie.close (tie.spec Inv-loop μ-loop loop-holds (λ c. search needs) mul-m (λ c. omega (arith, c .before .before .pre .few))
+    (λ c. omega (arith, c .before .before .pre .few)) (λ c. omega (arith, c .before .before .before .pre .few))
+    (λ c. omega (arith, c .before .before .before .pre .few)) (λ c κs. search needs) add-m (λ c. search needs) loop-again returns)

@@ -16,5 +16,4 @@ returns c =
     (omega (arith, c .before .measure .ensures .0 ∙ ap (λ m. size m (fieldsOf (k .args .layout))) (c .before .before .part-map .ensures) ∙ size-written (fieldsOf (k .args .layout)) (k .args .values)), omega (arith, c .before .measure .ensures .2))
 
 pub part-size-spec : {M : Type 1} → statement M
-part-size-spec =
-    tie.close (tie.spec (λ c κs. search needs) (λ c. search needs) (λ c κs. search needs) (λ c. search needs) returns)
+part-size-spec = tie.close (tie.spec (λ c κs. search needs) (λ c. search needs) (λ c κs. search needs) (λ c. search needs) returns)

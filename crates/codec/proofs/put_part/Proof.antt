@@ -33,12 +33,4 @@ returns c =
     (f .put-fields .ensures .0 ∙ part-end (k .args .buf .now) (k .args .at) (fieldsOf (k .args .layout)) (k .args .values), f .put-fields .ensures .1 ∙ part-laid (k .args .buf .now) (k .args .at) (fieldsOf (k .args .layout)) (k .args .values) _ (m .part-map .ensures))
 
 pub put-part-spec : {M : Type 1} → statement M
-put-part-spec =
-    tie.close
-    (tie.spec
-    (λ c κs. search needs)
-    slice-write-buf
-    (λ c. search needs)
-    put-fields-requires
-    same-length
-    returns)
+put-part-spec = tie.close (tie.spec (λ c κs. search needs) slice-write-buf (λ c. search needs) put-fields-requires same-length returns)

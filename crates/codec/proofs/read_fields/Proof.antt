@@ -52,21 +52,8 @@ returns-2 c =
 
 pub read-fields-spec : {M : Type 1} → statement M
 read-fields-spec =
-    tie.close
-    (tie.spec
-    Inv-loop
-    μ-loop
-    (λ c. omega (arith, c .before .pre .1))
-    loop-holds
-    (λ c. omega (arith, c .before .before .before .pre .0 .few))
-    (λ c. omega (arith, c .before .before .before .pre .0 .few))
-    read-field-requires
-    (λ c κs. search needs)
-    returns
-    (λ c. omega (arith, c .before .before .before .before .before .before .pre .0 .few))
-    (λ c. omega (arith, c .before .before .before .before .before .before .pre .0 .few))
-    add-next-2
-    (λ c. search needs)
-    (λ c. search needs)
-    loop-again
-    returns-2)
+    tie.close (tie.spec Inv-loop μ-loop (λ c. omega (arith, c .before .pre .1)) loop-holds
+    (λ c. omega (arith, c .before .before .before .pre .0 .few)) (λ c. omega (arith, c .before .before .before .pre .0 .few)) read-field-requires
+    (λ c κs. search needs) returns (λ c. omega (arith, c .before .before .before .before .before .before .pre .0 .few))
+    (λ c. omega (arith, c .before .before .before .before .before .before .pre .0 .few)) add-next-2 (λ c. search needs) (λ c. search needs)
+    loop-again returns-2)

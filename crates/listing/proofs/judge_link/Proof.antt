@@ -25,13 +25,4 @@ returns-2 c s = rw (sym (c .before .before .before .judge-ends .ensures (c .befo
 
 pub judge-link-spec : {M : Type 1} → statement M
 judge-link-spec =
-    tie.close
-    (tie.spec
-    (λ c κs. search needs)
-    (λ c. search needs)
-    cast-t10
-    cast-t11
-    (λ c. search needs)
-    (λ c. search needs)
-    returns
-    returns-2)
+    tie.close (tie.spec (λ c κs. search needs) (λ c. search needs) cast-t10 cast-t11 (λ c. search needs) (λ c. search needs) returns returns-2)

@@ -24,14 +24,5 @@ returns-3 c =
 
 pub judge-plant-spec : {M : Type 1} → statement M
 judge-plant-spec =
-    tie.close
-    (tie.spec
-    (λ c. search needs)
-    (λ c. search needs)
-    (λ c. search needs)
-    (λ c κs. search needs)
-    returns
-    (λ c κs. search needs)
-    returns-2
-    judge-links-requires
-    returns-3)
+    tie.close (tie.spec (λ c. search needs) (λ c. search needs) (λ c. search needs) (λ c κs. search needs) returns (λ c κs. search needs) returns-2
+    judge-links-requires returns-3)

@@ -26,5 +26,4 @@ unfolding valueOutOfRange
 returns-5 c = simp (le-leb _ _ (c .before .before .before .if1 .left), le-leb _ _ (c .before .before .if2 .left), le-leb _ _ (c .before .if3 .left), le-ltb _ _ (c .if4 .left))
 
 pub out-of-range-spec : {M : Type 1} → statement M
-out-of-range-spec =
-    tie.close (tie.spec returns (λ c. search needs) returns-2 (λ c. search needs) returns-3 returns-4 returns-5)
+out-of-range-spec = tie.close (tie.spec returns (λ c. search needs) returns-2 (λ c. search needs) returns-3 returns-4 returns-5)

@@ -41,17 +41,5 @@ returns-2 c =
 
 pub places-zero-spec : {M : Type 1} → statement M
 places-zero-spec =
-    tie.close
-    (tie.spec
-    Inv-loop
-    μ-loop
-    (λ c. search needs)
-    loop-holds
-    (λ c. search needs)
-    (λ c. search needs)
-    (λ c κs. tt)
-    returns
-    (λ c. search needs)
-    (λ c. search needs)
-    loop-again
-    returns-2)
+    tie.close (tie.spec Inv-loop μ-loop (λ c. search needs) loop-holds (λ c. search needs) (λ c. search needs) (λ c κs. tt) returns
+    (λ c. search needs) (λ c. search needs) loop-again returns-2)

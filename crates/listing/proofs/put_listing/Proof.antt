@@ -34,12 +34,4 @@ returns c =
     laid-listing (k .args .p) (k .args .buf .now) (h .put-part .last .0) (l .put-links .last .1 .0) (h .put-part .result) (omega (arith, rw e at (h .put-part .ensures .0))) (rw e at (h .put-part .ensures .1)) (l .put-links .ensures)
 
 pub put-listing-spec : {M : Type 1} → statement M
-put-listing-spec =
-    tie.close
-    (tie.spec
-    (λ c κs. search needs)
-    (λ c κs. search needs)
-    put-part-requires
-    put-links-requires
-    (λ c. search needs)
-    returns)
+put-listing-spec = tie.close (tie.spec (λ c κs. search needs) (λ c κs. search needs) put-part-requires put-links-requires (λ c. search needs) returns)

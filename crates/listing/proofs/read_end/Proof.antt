@@ -22,13 +22,4 @@ returns-3 : tie.Need-returns-3
 returns-3 c = beside-as _ _ _ _ _ (sym (after-refused _ _ _ (c .before .before .verdict .given .1))) (c .refused-reading2 .ensures)
 
 pub read-end-spec : {M : Type 1} → statement M
-read-end-spec =
-    tie.close
-    (tie.spec
-    (λ c. search needs)
-    (λ c κs. search needs)
-    returns
-    (λ c. search needs)
-    (λ c κs. search needs)
-    returns-2
-    returns-3)
+read-end-spec = tie.close (tie.spec (λ c. search needs) (λ c κs. search needs) returns (λ c. search needs) (λ c κs. search needs) returns-2 returns-3)

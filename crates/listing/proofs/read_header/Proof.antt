@@ -41,21 +41,6 @@ returns-3 c =
 
 pub read-header-spec : {M : Type 1} → statement M
 read-header-spec =
-    tie.close
-    (tie.spec
-    (λ c κs. search needs)
-    (λ c κs. search needs)
-    (λ c. search needs)
-    (λ c. search needs)
-    (λ c. search needs)
-    (λ c. search needs)
-    (λ c κs. search needs)
-    (λ c κs. search needs)
-    returns
-    cast-t22
-    cast-t23
-    cast-t24
-    (λ c. search needs)
-    (λ c κs. search needs)
-    returns-2
-    returns-3)
+    tie.close (tie.spec (λ c κs. search needs) (λ c κs. search needs) (λ c. search needs) (λ c. search needs) (λ c. search needs)
+    (λ c. search needs) (λ c κs. search needs) (λ c κs. search needs) returns cast-t22 cast-t23 cast-t24 (λ c. search needs) (λ c κs. search needs)
+    returns-2 returns-3)

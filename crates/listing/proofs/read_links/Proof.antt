@@ -18,14 +18,5 @@ returns-3 c = λ few. c .refused-links2 .ensures _ _ (after-refused _ _ _ (c .be
 
 pub read-links-spec : {M : Type 1} → statement M
 read-links-spec =
-    tie.close
-    (tie.spec
-    (λ c. search needs)
-    (λ c. search needs)
-    (λ c κs. search needs)
-    returns
-    (λ c κs. omega (arith, c .if1 .left))
-    (λ c. search needs)
-    (λ c κs. search needs)
-    returns-2
-    returns-3)
+    tie.close (tie.spec (λ c. search needs) (λ c. search needs) (λ c κs. search needs) returns (λ c κs. omega (arith, c .if1 .left))
+    (λ c. search needs) (λ c κs. search needs) returns-2 returns-3)

@@ -3,8 +3,5 @@ use borrow.Author.Needs.{needs}
 use Rattle.listing.proofs.three.Statement.{statement}
 use Rattle.listing.proofs.three.Tie as tie
 
-returns : tie.Need-returns
-returns c = search needs
-
 pub three-spec : {M : Type 1} → statement M
-three-spec = tie.close (tie.spec (λ c. search needs) (λ c. search needs) returns)
+three-spec = tie.close (tie.spec (λ c. search needs) (λ c. search needs) (λ c. search needs))

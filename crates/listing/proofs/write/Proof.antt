@@ -48,14 +48,5 @@ returns-3 c =
 
 pub write-spec : {M : Type 1} → statement M
 write-spec =
-    tie.close
-    (tie.spec
-    (λ c κs. search needs)
-    (λ c. search needs)
-    listing-size-requires
-    returns
-    put-listing-requires
-    (λ c. search needs)
-    (λ c. search needs)
-    returns-2
-    returns-3)
+    tie.close (tie.spec (λ c κs. search needs) (λ c. search needs) listing-size-requires returns put-listing-requires (λ c. search needs)
+    (λ c. search needs) returns-2 returns-3)
