@@ -21,7 +21,7 @@ use Rattle.listing.specs.Writing.{writing}
 use Rattle.listing.proofs.RoundTrip.{read-write, write-read, decode-sound}
 use Rattle.listing.proofs.WriteRoundTrip.{sound-written, buffer-written}
 use Rattle.listing.proofs.Refusing.{refusal-numbers}
-use Rattle.walks.specs.Graph.{Connected, connected}
+use Rattle.walks.specs.Graph.{Connected, visited, connected}
 use Rattle.walks.proofs.Valid.{sound-valid}
 use Rattle.walks.proofs.Tests.{bridge-is, connected-is}
 use Rattle.walks.proofs.ByLinks.{visited-by-links}
@@ -44,13 +44,14 @@ unfolding rereading
 rereads p b ok h = gives-so (writing p b) (λ _. p) (length (encode p)) (sound-written p b ok h)
 
 plan-is : (p : Plant) → Sound p → Connected p → PlanIs p
+unfolding visited
 plan-is p ok con =
     let valid = sound-valid p ok in
     record {
       sound = ok;
       connected = con;
       bridges = λ l h. bridge-is p valid l h;
-      visit = visited-by-links p valid (p .switches) (omega arith);
+      visit = visited-by-links p valid (p .start) (p .switches) (ok .start-in) (omega arith);
       distances = distance-fewest p valid;
       trail = trail-is p ok con;
       closed = trail-closed p ok con;
@@ -61,7 +62,8 @@ plan-is p ok con =
 module _ (s : List ℕ) (b : Bytes s) where
   not-reached : (p : Plant) → answer (reading s) ≡ given p → (connected p ≡ false) ↔ (Connected p → ⊥)
   not-reached p e =
-      let c = connected-is p (sound-valid p (decode-sound s p b e)) in
+      let ok = decode-sound s p b e in
+      let c = connected-is p (sound-valid p ok) (ok .start-in) in
       (λ q k. false-T (connected p) q (c .1 k), λ n. not-true-false (connected p) (λ q. n (c .0 (true-T (connected p) q))))
 
   unreached : (answer (planning s) ≡ refused 9) ↔ ((p : Plant) × (answer (reading s) ≡ given p) × (Connected p → ⊥))

@@ -12,7 +12,6 @@ use Rattle.plant.specs.declared.Plant.{Plant}
 use Rattle.limits.specs.Sound.{Sound}
 use Rattle.walks.specs.Arcs.{tail, head}
 use Rattle.walks.specs.Graph.{Connected, liveLinks}
-use Rattle.walks.proofs.Valid.{sound-valid}
 use Rattle.routes.specs.Plants.{trailOf}
 use Rattle.rings.specs.Packet.{run, rulesFor}
 use Rattle.rings.specs.Rules.{inTable, inAll}
@@ -23,8 +22,8 @@ use Rattle.rings.specs.Injection.{ringOf, orderOf, probeRules, probeOf, probeRu
 use Rattle.rings.proofs.Ring as rings
 use Rattle.rings.proofs.Probe as probes
 use Rattle.rings.proofs.Rules.{all-rules}
-use Rattle.rings.proofs.Injection.{has-place, order-links, order-once, order-length, full-run}
-use Rattle.probing.proofs.Lent.{trail-of}
+use Rattle.rings.proofs.Injection.{has-place, order-once, full-run}
+use Rattle.probing.proofs.Injection.{ring-at, order-links, order-length}
 use Rattle.demands.specs.Demands.{RunIs, RulesAre, InjectionIs}
 
 pub run-is : (rule : ℕ → ℕ → Bool) (up : ℕ → Bool) (hd : ℕ → ℕ) → RunIs rule up hd
@@ -52,19 +51,19 @@ module _ (p : Plant) (ok : Sound p) (con : Connected p) (x : ℕ) (x-in : x < p 
   w = trailOf p
 
   below : (up : ℕ → Bool) (m : ℕ) → m < liveLinks p
-      → probeRun p w x up m ≡ run (inAll p) up (head p) x 0 (upTo (nth (orderOf p w x) m) (ringOf p w x) ++ back (upTo (nth (orderOf p w x) m) (ringOf p w x)))
+      → probeRun p w x (liveLinks p) up m ≡ run (inAll p) up (head p) x 0 (upTo (nth (orderOf p w x) m) (ringOf p w x) ++ back (upTo (nth (orderOf p w x) m) (ringOf p w x)))
   unfolding probeRun probeRules probeOf probe outward orderOf
   below up m h = rw (ne-eqb m (liveLinks p) (λ e. omega arith)) refl
 
   pub injection-is : InjectionIs p x
   unfolding ringOf ring readFrom orderOf order outward
   injection-is = record {
-    place = has-place p (sound-valid p ok) con w (trail-of p ok con) x x-in;
+    place = λ h. has-place p w x (ring-at p ok con x x-in) (omega (arith, order-length p ok con x x-in));
     place-empty = λ e. rw e (rings.place-empty (tail p) x);
     ring = refl;
-    order-each = order-links p (sound-valid p ok) con w (trail-of p ok con) x x-in;
+    order-each = order-links p ok con x x-in;
     order-once = order-once p w x;
-    order-rises = λ i j h k l. probes.order-rises (ringOf p w x) i j h k (omega (arith, order-length p (sound-valid p ok) con w (trail-of p ok con) x x-in));
+    order-rises = λ i j h k l. probes.order-rises (ringOf p w x) i j h k (omega (arith, order-length p ok con x x-in));
     probe = below;
-    full-check = full-run p w x;
+    full-check = full-run p w x (liveLinks p);
   }

@@ -11,8 +11,8 @@ use Rattle.search.specs.Search.{ended}
 use Rattle.search.specs.Calls.{Call, perform, begun}
 use Rattle.search.proofs.Witness.{ends-new}
 use Rattle.demands.specs.Demands.{actualOutcome, AllTrue}
-use Rattle.demands.proofs.Searching.{few-links}
+use Rattle.planning.proofs.Counted.{links-few}
 
 module _ (p : Plant) (ok : Sound p) (con : Connected p) (x : ℕ) (x-in : x < p .switches) (states : List ℕ) where
   pub reached : (cs : List Call) × AllTrue p x states cs × (ended (perform (begun (liveLinks p)) cs .state) ≡ true)
-  reached = ends-new (liveLinks p) (few-links p ok con x x-in) (actualOutcome p x states)
+  reached = ends-new (liveLinks p) (links-few p ok) (actualOutcome p x states)

@@ -15,7 +15,7 @@ use Rattle.walks.specs.Graph.{Connected, used, liveLinks, bridges}
 use Rattle.walks.proofs.Live.{live-below}
 use Rattle.walks.proofs.Orientation.{used-arc}
 use Rattle.walks.proofs.Counting.{arcs-in-use}
-use Rattle.walks.proofs.Fewest.{fewest}
+use Rattle.walks.proofs.Fewest.{fewest-together, fewest}
 use Rattle.walks.proofs.Valid.{sound-valid}
 use Rattle.trail.proofs.Trails.{trail-is}
 use Rattle.table.specs.Rules.{ruleOf, rulesBelow, rulesOf}
@@ -49,8 +49,9 @@ module _ (p : Plant) where
       crossed = λ a. (λ h. trail-is p ok con .exactly a .1 (labels-used a .0 h), λ h. labels-used a .1 (trail-is p ok con .exactly a .0 h));
       once = subst Distinct (sym labels-are) (keep-distinct (used p) (range 0 (2 * p .count)) (range-distinct 0 (2 * p .count)));
       number = number;
+      together = λ ws c h. omega (arith, number, fewest-together p (sound-valid p ok) ws c h);
       fewest = λ w c h. omega (arith, number, fewest p (sound-valid p ok) w c h);
     }
       where
         number : length (rulesOf p) ≡ liveLinks p + bridges p
-        number = rules-count p ∙ arcs-in-use p (sound-valid p ok) con
+        number = rules-count p ∙ arcs-in-use p (sound-valid p ok) (ok .start-in) con

@@ -6,20 +6,17 @@ use mathlib.Core.List.{List, []}
 use Prim.Native.Nat.{ℕ, _+_, _≤_, _<_}
 use native.Mathlib.Omega.{arith}
 use borrow.Author.Tests.{eq-eqb, ne-eqb}
+use lib.ListN.{length}
 use Rattle.lists.proofs.Tests.{eq?, not-both, not-false-true}
 use Rattle.plant.specs.declared.Plant.{Plant}
-use Rattle.limits.specs.Limits.{maxLinks}
 use Rattle.limits.specs.Sound.{Sound}
-use Rattle.walks.specs.Arcs.{Valid}
 use Rattle.walks.specs.Graph.{Connected, liveLinks}
-use Rattle.walks.proofs.Live.{all-live}
 use Rattle.routes.specs.Plants.{trailOf}
-use Rattle.rings.specs.Trail.{Trail}
-use Rattle.rings.specs.Rules.{upBy}
+use Rattle.rings.specs.Rules.{upBy, upByLink}
 use Rattle.rings.specs.Injection.{orderOf, probeRun}
-use Rattle.rings.proofs.FirstDown.{firstDown, first-one}
-use Rattle.rings.proofs.Injection.{probe-tells, broken-most, none-broken, first-broken}
-use Rattle.walks.proofs.Valid.{sound-valid}
+use Rattle.rings.proofs.FirstDown.{firstDown, first-one, first-most, first-some, first-none}
+use Rattle.planning.proofs.Counted.{links-few}
+use Rattle.probing.proofs.Injection.{order-links, order-length, probe-tells}
 use Rattle.allowance.specs.Allowance.{allowance}
 use Rattle.allowance.proofs.Ceiling.{allowance-enough, allowance-least}
 use Rattle.search.specs.Search.{ended, next, give}
@@ -27,7 +24,6 @@ use Rattle.search.specs.Calls.{Call, perform, begun}
 use Rattle.search.specs.Limit.{limit}
 use Rattle.search.proofs.Sound.{answers-given}
 use Rattle.search.proofs.Finds.{Tells, tells-by, finds}
-use Rattle.trail.proofs.Trails.{trail-is}
 use Rattle.demands.specs.Demands.{MostProbes, NoneBroken, actualOutcome, AllTrue, Says, Searches}
 
 -- ---- the most probes
@@ -42,31 +38,31 @@ most-probes e = record {
 -- ---- the search
 
 module _ (p : Plant) (ok : Sound p) (con : Connected p) (x : ℕ) (x-in : x < p .switches) where
-  valid : Valid p
-  valid = sound-valid p ok
+  abbrev order : List ℕ
+  order = orderOf p (trailOf p) x
 
-  trail : Trail p (trailOf p)
-  trail = let t = trail-is p ok con in record { closed = t .closed; in-use = λ a. t .exactly a .0; all-used = λ a. t .exactly a .1 }
-
-  pub few-links : liveLinks p ≤ maxLinks
-  few-links = omega (arith, all-live p, ok .few-links)
+  long : length order ≡ liveLinks p
+  long = order-length p ok con x x-in
 
   module _ (states : List ℕ) where
     -- the place of the first broken link
     abbrev place : ℕ
-    place = firstDown (upBy states) (orderOf p (trailOf p) x)
+    place = firstDown (upBy states) order
 
     -- probe m returns exactly if it comes after the m-th link
     tells : Tells (liveLinks p) place (λ m o. o ≡ actualOutcome p x states m)
     unfolding actualOutcome
     tells =
-        tells-by (liveLinks p) place (first-one (upBy states) (orderOf p (trailOf p) x)) (broken-most p valid con (trailOf p) trail x x-in (upBy states))
-        (λ m. probeRun p (trailOf p) x (upBy states) m .ended) (probe-tells p valid con (trailOf p) trail x x-in (upBy states))
+        tells-by (liveLinks p) place (first-one (upBy states) order) (omega (arith, long, first-most (upBy states) order))
+        (λ m. probeRun p (trailOf p) x (liveLinks p) (upByLink states) m .ended) (probe-tells p ok con x x-in (upBy states))
 
     none : (place ≡ liveLinks p + 1) ↔ NoneBroken p states
     none =
-        let b = none-broken p valid con (trailOf p) trail x x-in (upBy states) in
-        (λ e l t d. not-both (upBy states l) (b .0 e l t) d, λ f. b .1 (λ l t. not-false-true (upBy states l) (f l t)))
+        let b = first-none (upBy states) order in
+        let links = order-links p ok con x x-in in (
+          λ e l t d. not-both (upBy states l) (b .0 (omega (arith, long)) l (links l .1 t)) d,
+          λ f. omega (arith, long, b .1 (λ l h. not-false-true (upBy states l) (f l (links l .0 h)))),
+        )
 
     found : (NoneBroken p states → ⊥) → place ≤ liveLinks p
     found f = go (eq? place (liveLinks p + 1))
@@ -77,18 +73,18 @@ module _ (p : Plant) (ok : Sound p) (con : Connected p) (x : ℕ) (x-in : x < p 
 
     says : (cs : List Call) → AllTrue p x states cs → ended (perform (begun (liveLinks p)) cs .state) ≡ true → Says p x states (perform (begun (liveLinks p)) cs .state)
     says cs t q =
-        let r = finds (liveLinks p) few-links place (λ m o. o ≡ actualOutcome p x states m) tells cs in
+        let r = finds (liveLinks p) (links-few p ok) place (λ m o. o ≡ actualOutcome p x states m) tells cs in
         let u = r .all-up t q in
         record {
           all-up = (λ e. none .0 (u .0 e), λ f. u .1 (none .1 f));
-          first-broken = λ f. (place, r .first-down t q (found f), first-broken p valid con (trailOf p) trail x x-in (upBy states) (found f));
+          first-broken = λ f. (place, r .first-down t q (found f), first-some (upBy states) order (omega (arith, long, found f)));
         }
 
   pub searches : (cs : List Call) → Searches p x cs (perform (begun (liveLinks p)) cs)
   unfolding give
   searches cs =
       let state = perform (begun (liveLinks p)) cs .state in
-      let r = finds (liveLinks p) few-links (place []) (λ m o. o ≡ actualOutcome p x [] m) (tells []) cs in
+      let r = finds (liveLinks p) (links-few p ok) (place []) (λ m o. o ≡ actualOutcome p x [] m) (tells []) cs in
       record {
         limit-is = most-probes (liveLinks p);
         few = r .few;

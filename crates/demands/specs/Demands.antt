@@ -2,7 +2,7 @@
 use mathlib.Core.Path.{_≡_}
 use mathlib.Core.Logic.{_↔_}
 use mathlib.Core.Bool.{Bool, true, false}
-use mathlib.Core.List.{List, [], _∷_, _++_, map}
+use mathlib.Core.List.{List, [], _∷_, _++_, map, flatten}
 use Prim.Native.Nat.{ℕ, suc, _+_, _*_, _/_, _^_, _≤_, _<_}
 use lib.Dec.{T}
 use lib.ListN.{length, take, drop}
@@ -21,12 +21,12 @@ use Rattle.listing.specs.Listing.{reading}
 use Rattle.listing.specs.Writing.{writing}
 use Rattle.listing.specs.Writing.{bufferAfter}
 use Rattle.walks.specs.Arcs.{tail, head}
-use Rattle.walks.specs.Graph.{Crosses, ClosedWalk, Connected, Bridge, visited, bridge, used, liveLinks, bridges}
+use Rattle.walks.specs.Graph.{Crosses, ClosedWalk, ClosedWalks, Connected, Bridge, visited, bridge, used, liveLinks, bridges}
 use Rattle.walks.specs.ByLinks.{visitLinks}
 use Rattle.routes.specs.Meaning.{Fewest}
 use Rattle.routes.specs.Plants.{distanceOf, trailOf}
 use Rattle.rings.specs.Packet.{run}
-use Rattle.rings.specs.Rules.{upBy, inTable, inAll, allRules}
+use Rattle.rings.specs.Rules.{upBy, upByLink, inTable, inAll, allRules}
 use Rattle.rings.specs.Ring.{FirstHop}
 use Rattle.rings.specs.Order.{nth}
 use Rattle.rings.specs.Probe.{upTo, back}
@@ -96,15 +96,15 @@ pub record PlanIs (p : Plant) : Type 0 where
   pub trail : IsTrail p (trailOf p)
   pub closed : ClosedWalk p (trailOf p)
 
--- what the run of a packet is, under any rules and by the links that are up: from switch `at`, after n hops
+-- what the run of a packet is, under any rules and by the labels that are up, those whose link is: from switch `at`, after n hops
 pub record RunIs (rule : ℕ → ℕ → Bool) (up : ℕ → Bool) (hd : ℕ → ℕ) : Type 0 where
   -- "at a switch with a rule for the next label, and that label's link up, it crosses"
-  pub crosses : (at n a : ℕ) (w : List ℕ) → rule at a ≡ true → up (a / 2) ≡ true → run rule up hd at n (a ∷ w) ≡ run rule up hd (hd a) (suc n) w
+  pub crosses : (at n a : ℕ) (w : List ℕ) → rule at a ≡ true → up a ≡ true → run rule up hd at n (a ∷ w) ≡ run rule up hd (hd a) (suc n) w
   -- "with the list empty it has ended there"
   pub ends : (at n : ℕ) → run rule up hd at n [] ≡ record { ended = true; hops = n; last = at }
   -- "otherwise it is lost"
   pub no-rule : (at n a : ℕ) (w : List ℕ) → rule at a ≡ false → run rule up hd at n (a ∷ w) ≡ record { ended = false; hops = n; last = at }
-  pub link-down : (at n a : ℕ) (w : List ℕ) → up (a / 2) ≡ false → run rule up hd at n (a ∷ w) ≡ record { ended = false; hops = n; last = at }
+  pub link-down : (at n a : ℕ) (w : List ℕ) → up a ≡ false → run rule up hd at n (a ∷ w) ≡ record { ended = false; hops = n; last = at }
 
 -- the rules that packets run under
 pub record RulesAre (p : Plant) : Type 0 where
@@ -128,10 +128,10 @@ pub record InjectionIs (p : Plant) (x : ℕ) : Type 0 where
       → length (upTo (nth (orderOf p (trailOf p) x) i) (ringOf p (trailOf p) x)) < length (upTo (nth (orderOf p (trailOf p) x) j) (ringOf p (trailOf p) x))
   -- "probe m, for 1 ≤ m < E, goes out up to the first crossing of the m-th link and then back over the opposite arcs", under the rules of all arcs
   pub probe : (up : ℕ → Bool) (m : ℕ) → m < liveLinks p
-      → probeRun p (trailOf p) x up m
+      → probeRun p (trailOf p) x (liveLinks p) up m
       ≡ run (inAll p) up (head p) x 0 (upTo (nth (orderOf p (trailOf p) x) m) (ringOf p (trailOf p) x) ++ back (upTo (nth (orderOf p (trailOf p) x) m) (ringOf p (trailOf p) x)))
   -- "the full check, m = E, is the whole ring", under the rule page alone
-  pub full-check : (up : ℕ → Bool) → probeRun p (trailOf p) x up (liveLinks p) ≡ run (inTable p) up (head p) x 0 (ringOf p (trailOf p) x)
+  pub full-check : (up : ℕ → Bool) → probeRun p (trailOf p) x (liveLinks p) up (liveLinks p) ≡ run (inTable p) up (head p) x 0 (ringOf p (trailOf p) x)
 
 pub record Demand2 : Type 0 where
   -- what was read is written as the bytes that were read, and what was written is read as the plant that was written
@@ -174,6 +174,8 @@ pub record RulePage (p : Plant) : Type 0 where
   pub once : Distinct (ruleLabels p)
   pub number : length (rulesOf p) ≡ liveLinks p + bridges p
   pub fewest : (w : List ℕ) → ClosedWalk p w → ((l : ℕ) → T (live p l) → Crosses l w) → length (rulesOf p) ≤ arcsCrossed p w
+  -- so do several closed walks that together cross every link
+  pub together : (ws : List (List ℕ)) → ClosedWalks p ws → ((l : ℕ) → T (live p l) → Crosses l (flatten ws)) → length (rulesOf p) ≤ arcsCrossed p (flatten ws)
 
 -- k is ⌈log2 e⌉: the least number with 2 ^ k at least e
 pub record CeilLog (e k : ℕ) : Type 0 where
@@ -193,7 +195,7 @@ NoneBroken p states = (l : ℕ) → T (live p l) → upBy states l ≡ false →
 module _ (p : Plant) (x : ℕ) (states : List ℕ) where
   -- the outcome (fate) that probe m has by the packet rule: returned (home) if it has ended, and else lost
   unfoldable pub actualOutcome : ℕ → Outcome
-  actualOutcome m = choose (probeRun p (trailOf p) x (upBy states) m .ended) Returned Lost
+  actualOutcome m = choose (probeRun p (trailOf p) x (liveLinks p) (upByLink states) m .ended) Returned Lost
 
   -- every accepted outcome is true: the one that probe m has, the m that a call for a probe answers in the state that the outcome is given to
   abbrev pub AllTrue : List Call → Type 0

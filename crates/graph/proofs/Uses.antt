@@ -1,28 +1,23 @@
 -- Bridges, arcs in use and their numbers, by what the code reads of a visit. Assumes nothing, and a sound plant where a law says so.
 use mathlib.Core.Path.{_≡_, refl, sym, ap, _∙_}
-use mathlib.Core.Logic.{_⊎_, inl, inr}
+use mathlib.Core.Logic.{⊎-elim}
 use mathlib.Core.Bool.{Bool, true, false, not}
 use mathlib.Core.List.{List}
 use Prim.Native.Nat.{ℕ, _+_, _-_, _*_, _/_, _≤_, _<_}
 use native.Mathlib.Omega.{arith}
-use lib.Dec.{T}
 use lib.ListN.{getD}
 use borrow.Author.Tests.{le-ltb}
 use Rattle.lists.proofs.Tests.{below?, true-T, false-T, not-true-false}
-use Rattle.lists.specs.Members.{In}
 use Rattle.lists.proofs.Members.{memb→in}
 use Rattle.plant.specs.declared.Link.{Link}
 use Rattle.plant.specs.declared.Plant.{Plant}
 use Rattle.plant.specs.Links.{first, second, live}
 use Rattle.limits.specs.Limits.{maxSwitches, maxLinks}
 use Rattle.limits.specs.Sound.{Sound}
-use Rattle.walks.specs.Arcs.{tail, head, Valid}
-use Rattle.walks.specs.Visit.{rank}
-use Rattle.walks.specs.Graph.{others, visitFrom, visited, bridge, entered, earlier, used, bridges, arcsUsed}
+use Rattle.walks.specs.Arcs.{tail, head}
+use Rattle.walks.specs.Graph.{others, visitFrom, visitedFrom, chosenFrom, bridge, used, bridges, arcsUsed}
 use Rattle.walks.proofs.Live.{live-below}
-use Rattle.walks.proofs.Labels.{tail-even, tail-odd, head-even, head-odd, even-half, odd-half, even-arc}
-use Rattle.walks.proofs.Visited.{visited-keeps}
-use Rattle.walks.proofs.Tests.{bridge-live}
+use Rattle.walks.proofs.Labels.{tail-even, tail-odd, head-even, head-odd, even-half, odd-half}
 use Rattle.walks.proofs.Counting.{bridge-entered}
 use Rattle.graph.specs.declared.Visited.{Visited}
 use Rattle.graph.specs.Flags.{Flags, countSet}
@@ -73,41 +68,29 @@ module _ (p : Plant) where
 
   -- every place has a switch for its link's first end
   pub first-place : (l : ℕ) → Sound p → first p l < maxSwitches
-  first-place l sound = go (below? l (p .count))
-    where
-      go : (l < p .count) ⊎ (p .count ≤ l) → first p l < maxSwitches
-      go (inl h) = omega (arith, sound .first-in l h, sound .few-switches)
-      go (inr h) = omega (arith, ap (λ (k : Link). k .first) (sound .zeros l h))
+  first-place l sound = ⊎-elim (λ h. omega (arith, sound .first-in l h, sound .few-switches)) (λ h. omega (arith, ap (λ (k : Link). k .first) (sound .zeros l h))) (below? l (p .count))
 
-  -- a link at a visited switch that the visit did not enter is no bridge
-  pub bridge-not-met : (l : ℕ) (v : Visited) → Sound p → Shows v (visited p) → getD (v .entered) l false ≡ false → getD (v .seen) (first p l) false ≡ true → bridge p l ≡ false
-  unfolding entered
-  bridge-not-met l v sound h e f = not-true-false (bridge p l) (λ q. false-T _ (sym (h .enters l) ∙ e) (met (true-T (bridge p l) q)))
-    where
-      ok : Valid p
-      ok = sound-valid p sound
+  -- ---- by the visit from r
 
-      x-in : In (first p l) (visited p .ord)
-      x-in = memb→in (first p l) (visited p .ord) (true-T _ (sym (h .sees (first p l)) ∙ f))
+  module _ (r : ℕ) (v : Visited) (h : Shows v (visitedFrom p r)) where
+    -- a link at a visited switch that the visit did not enter is no bridge
+    pub bridge-not-met : (l : ℕ) → Sound p → r < p .switches → getD (v .entered) l false ≡ false → getD (v .seen) (first p l) false ≡ true → bridge p l ≡ false
+    bridge-not-met l sound r-in e f =
+        not-true-false (bridge p l) (λ q. false-T _ (sym (h .enters l) ∙ e)
+        (bridge-entered p (sound-valid p sound) r r-in l (true-T (bridge p l) q) (memb→in (first p l) (visitedFrom p r .ord) (true-T _ (sym (h .sees (first p l)) ∙ f)))))
 
-      y-in : T (bridge p l) → In (second p l) (visited p .ord)
-      y-in t = rw (head-even p l) at (visited-keeps p ok (2 * l) (even-arc p l (bridge-live p l t)) (rw (tail-even p l) x-in))
+    -- u is what the code finds of arc a of link l, from x to y, where it was told b of the link
+    chosen-at : (a l x y : ℕ) → live p l ≡ true → a / 2 ≡ l → tail p a ≡ x → head p a ≡ y
+        → (u b : Bool) → b ≡ bridge p l → u ≡ inUse b (getD (v .entered) l false) (getD (v .rank) x 0) (getD (v .rank) y 0) → u ≡ chosenFrom p r a
+    unfolding inUse
+    chosen-at a l x y e half t z u b f q = q ∙ rw (half, t, z, e, f, h .enters l, h .ranks x, h .ranks y)
 
-      met : T (bridge p l) → T (entered p l)
-      met t = bridge-entered p ok l t x-in (y-in t)
+    module _ (l : ℕ) (e : live p l ≡ true) (u b : Bool) (f : b ≡ bridge p l) where
+      pub chosen-even : u ≡ inUse b (getD (v .entered) l false) (getD (v .rank) (first p l) 0) (getD (v .rank) (second p l) 0) → u ≡ chosenFrom p r (2 * l)
+      chosen-even = chosen-at (2 * l) l (first p l) (second p l) e (even-half l) (tail-even p l) (head-even p l) u b f
 
-  -- r is what the code finds of arc a of link l, from x to y, where it was told b of the link
-  used-at : (a l x y : ℕ) (v : Visited) → live p l ≡ true → Shows v (visited p) → a / 2 ≡ l → tail p a ≡ x → head p a ≡ y
-      → (r b : Bool) → b ≡ bridge p l → r ≡ inUse b (getD (v .entered) l false) (getD (v .rank) x 0) (getD (v .rank) y 0) → r ≡ used p a
-  unfolding used inUse entered earlier
-  used-at a l x y v e h half t u r b f q = q ∙ rw (half, t, u, e, f, h .enters l, h .ranks x, h .ranks y)
-
-  module _ (l : ℕ) (v : Visited) (e : live p l ≡ true) (h : Shows v (visited p)) (r b : Bool) (f : b ≡ bridge p l) where
-    pub used-even : r ≡ inUse b (getD (v .entered) l false) (getD (v .rank) (first p l) 0) (getD (v .rank) (second p l) 0) → r ≡ used p (2 * l)
-    used-even = used-at (2 * l) l (first p l) (second p l) v e h (even-half l) (tail-even p l) (head-even p l) r b f
-
-    pub used-odd : r ≡ inUse b (getD (v .entered) l false) (getD (v .rank) (second p l) 0) (getD (v .rank) (first p l) 0) → r ≡ used p (2 * l + 1)
-    used-odd = used-at (2 * l + 1) l (second p l) (first p l) v e h (odd-half l) (tail-odd p l) (head-odd p l) r b f
+      pub chosen-odd : u ≡ inUse b (getD (v .entered) l false) (getD (v .rank) (second p l) 0) (getD (v .rank) (first p l) 0) → u ≡ chosenFrom p r (2 * l + 1)
+      chosen-odd = chosen-at (2 * l + 1) l (second p l) (first p l) e (odd-half l) (tail-odd p l) (head-odd p l) u b f
 
   -- ---- how many
 

@@ -1,6 +1,6 @@
 -- A whole visit from a switch: where it begins, and what it ends with. Assumes a sound plant.
 use mathlib.Core.Path.{_≡_, refl, sym, ap, _∙_, subst}
-use mathlib.Core.Logic.{_⊎_, inl, inr}
+use mathlib.Core.Logic.{⊎-elim}
 use mathlib.Core.Bool.{Bool, true, false, not, _||_}
 use mathlib.Core.List.{[], _∷_}
 use Prim.Native.Nat.{ℕ, _+_, _≤_, _<_}
@@ -42,11 +42,7 @@ module _ (n at : ℕ) (at-in : at < n) where
       omega (arith, unvisited-set k (replicate n false) at h fits (getD-same n at false), count-all k (λ x. not (getD (replicate n false) x false)))
 
   first-rank : (x : ℕ) → getD (replicate n 0) x 0 ≡ rank x (at ∷ [])
-  first-rank x = go (eq? x at)
-    where
-      go : (x ≡ at) ⊎ (x ≡ at → ⊥) → getD (replicate n 0) x 0 ≡ rank x (at ∷ [])
-      go (inl e) = getD-same n x 0 ∙ sym (rank-eq x at [] e)
-      go (inr e) = getD-same n x 0 ∙ sym (rank-ne x at [] e)
+  first-rank x = ⊎-elim (λ e. getD-same n x 0 ∙ sym (rank-eq x at [] e)) (λ e. getD-same n x 0 ∙ sym (rank-ne x at [] e)) (eq? x at)
 
 module _ (p : Plant) (at : ℕ) (sound : Sound p) (at-in : at < p .switches) where
   at-place : at < maxSwitches

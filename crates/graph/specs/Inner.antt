@@ -6,7 +6,7 @@ use Prim.Native.Nat.{ℕ, _+_, _/_, _≤_, _<_}
 use lib.Dec.{eqb, ltb}
 use lib.ListN.{length, getD, set, replicate}
 use Rattle.lists.specs.Tests.{choose}
-use Rattle.lists.specs.Members.{In, memb}
+use Rattle.lists.specs.Members.{In}
 use Rattle.lists.specs.Count.{count}
 use Rattle.plant.specs.declared.Link.{Link}
 use Rattle.plant.specs.declared.Plant.{Plant}
@@ -15,7 +15,7 @@ use Rattle.limits.specs.Limits.{maxSwitches, maxLinks}
 use Rattle.walks.specs.Arcs.{tail, head}
 use Rattle.walks.specs.Visit.{St}
 use Rattle.walks.specs.Inner.{Scan, Level}
-use Rattle.walks.specs.Graph.{others, visited, bridge, entered}
+use Rattle.walks.specs.Graph.{others, visitedFrom, reachedFrom, enteredFrom, bridge}
 use Rattle.graph.specs.declared.Visited.{Visited}
 use Rattle.graph.specs.Shows.{Shows}
 
@@ -70,22 +70,23 @@ pub record Went (p : Plant) (skip : ℕ) (v : Visited) (at : ℕ) (r : Visited) 
   pub kept : (x : ℕ) → getD (v .seen) x false ≡ true → getD (r .seen) x false ≡ true
   pub went : (s : St) → Shows v s → (t : St) × Shows r t × Scan (tail p) (head p) (others p skip) at (others p skip) s t
 
--- ---- the tree of the visit from the start, and the links on a cycle
+-- ---- the tree of the visit from r, and the links on a cycle
 
--- there is a place for each switch, and that of a switch which was entered by a link below n has the number of that link
-pub record EntryLinks (p : Plant) (n : ℕ) (up : List ℕ) : Type 0 where
-  pub places : length up ≡ maxSwitches
-  pub tells : (a : ℕ) → In a (visited p .ent) → a / 2 < n → getD up (head p a) 0 ≡ a / 2
+module _ (p : Plant) (r : ℕ) where
+  -- there is a place for each switch, and that of a switch which was entered by a link below n has the number of that link
+  pub record EntryLinks (n : ℕ) (up : List ℕ) : Type 0 where
+    pub places : length up ≡ maxSwitches
+    pub tells : (a : ℕ) → In a (visitedFrom p r .ent) → a / 2 < n → getD up (head p a) 0 ≡ a / 2
 
--- link k closes a cycle with the tree: it takes part in the plant, its ends are visited, and it was not entered
-unfoldable pub closes : Plant → ℕ → Bool
-closes p k = live p k && (not (entered p k) && memb (first p k) (visited p .ord))
+  -- link k closes a cycle with the tree: it takes part in the plant, its ends are visited, and it was not entered
+  unfoldable pub closes : ℕ → Bool
+  closes k = live p k && (not (enteredFrom p r k) && reachedFrom p r (first p k))
 
--- flags of links that are no bridges; where an entered link has none, each link below n that closes a cycle has both ends below it in the tree, or neither
-pub record Covered (p : Plant) (n : ℕ) (flags : List Bool) : Type 0 where
-  pub places : length flags ≡ maxLinks
-  pub sure : (l : ℕ) → getD flags l false ≡ true → bridge p l ≡ false
-  pub all : (a : ℕ) → In a (visited p .ent) → getD flags (a / 2) false ≡ false → (k : ℕ) → k < n → closes p k ≡ true → Level p a (first p k) (second p k)
+  -- flags of links that are no bridges; where an entered link has none, each link below n that closes a cycle has both ends below it in the tree, or neither
+  pub record Covered (n : ℕ) (flags : List Bool) : Type 0 where
+    pub places : length flags ≡ maxLinks
+    pub sure : (l : ℕ) → getD flags l false ≡ true → bridge p l ≡ false
+    pub all : (a : ℕ) → In a (visitedFrom p r .ent) → getD flags (a / 2) false ≡ false → (k : ℕ) → k < n → closes k ≡ true → Level p r a (first p k) (second p k)
 
 -- ---- arcs in use
 

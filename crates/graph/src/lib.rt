@@ -5,7 +5,7 @@ ghost use Prim.Native.Nat.{_+_, _*_, _<_};
 ghost use Rattle.limits.specs.Limits.{maxSwitches, maxLinks};
 ghost use Rattle.limits.specs.Sound.{Sound};
 ghost use Rattle.plant.specs.Links.{live};
-ghost use Rattle.walks.specs.Graph.{others, visitFrom, visited, connected, bridge, used};
+ghost use Rattle.walks.specs.Graph.{others, visitFrom, visitedFrom, connected, bridge, used};
 ghost use Rattle.graph.specs.Flags.{Flags, countSet};
 ghost use Rattle.graph.specs.Shows.{Shows};
 ghost use Rattle.graph.specs.Inner.{EntryLinks, closes, Covered, farEnd, takesPart, enterOf, beginOf, At, Went, inUse};
@@ -114,12 +114,13 @@ pub fn visit(p: Plant, skip: usize, from: u8) -> Visited
     visit_from(p, skip, begin(from), from)
 }
 
-// The visit from the start, with all links: the numbering of the switches.
-pub fn visit_start(p: Plant) -> Visited
+// The visit from a switch, with all links: the numbering of the switches.
+pub fn visit_all(p: Plant, from: u8) -> Visited
     requires { ⌜ Sound p ⌝ }
-    ensures { λ r. ⌜ Shows r (visited p) ⌝ }
+    requires { ⌜ from < p .switches ⌝ }
+    ensures { λ r. ⌜ Shows r (visitedFrom p from) ⌝ }
 {
-    visit(p, Plant::MAX_LINKS, p.start)
+    visit(p, Plant::MAX_LINKS, from)
 }
 
 // Is every switch reached from the start? Refusal 9 is tried by this.
@@ -127,7 +128,7 @@ pub fn is_connected(p: Plant) -> bool
     requires { ⌜ Sound p ⌝ }
     ensures { λ r. ⌜ r ≡ connected p ⌝ }
 {
-    let v = visit_start(p);
+    let v = visit_all(p, p.start);
     let e = p.switches as usize;
     let mut i: usize = 0;
     while i < e {
@@ -157,8 +158,8 @@ pub fn is_bridge(p: Plant, l: usize) -> bool
 // The link by which the visit v from the start entered each switch. Of the two ends of an entered link, the one with the higher number was entered by it.
 fn entry_links(p: Plant, v: Visited) -> [usize; Plant::PLACES]
     requires { ⌜ Sound p ⌝ }
-    requires { ⌜ Shows v (visited p) ⌝ }
-    ensures { λ r. ⌜ EntryLinks p maxLinks r ⌝ }
+    requires { ⌜ Shows v (visitedFrom p (p .start)) ⌝ }
+    ensures { λ r. ⌜ EntryLinks p (p .start) maxLinks r ⌝ }
 {
     let mut up = [0usize; Plant::PLACES];
     let n = p.count as usize;
@@ -182,9 +183,9 @@ fn entry_links(p: Plant, v: Visited) -> [usize; Plant::PLACES]
 // Does link l close a cycle with the links that the visit v from the start entered?
 fn closes_cycle(p: Plant, v: Visited, l: usize) -> bool
     requires { ⌜ Sound p ⌝ }
-    requires { ⌜ Shows v (visited p) ⌝ }
+    requires { ⌜ Shows v (visitedFrom p (p .start)) ⌝ }
     requires { ⌜ l < maxLinks ⌝ }
-    ensures { λ r. ⌜ r ≡ closes p l ⌝ }
+    ensures { λ r. ⌜ r ≡ closes p (p .start) l ⌝ }
 {
     if !is_live(p, l) {
         return false;
@@ -207,12 +208,12 @@ fn climb(
     k: usize,
 ) -> [bool; Plant::MAX_LINKS]
     requires { ⌜ Sound p ⌝ }
-    requires { ⌜ Shows v (visited p) ⌝ }
-    requires { ⌜ EntryLinks p maxLinks up ⌝ }
+    requires { ⌜ Shows v (visitedFrom p (p .start)) ⌝ }
+    requires { ⌜ EntryLinks p (p .start) maxLinks up ⌝ }
     requires { ⌜ k < maxLinks ⌝ }
-    requires { ⌜ Covered p k c0 ⌝ }
-    requires { ⌜ closes p k ≡ true ⌝ }
-    ensures { λ r. ⌜ Covered p (k + 1) r ⌝ }
+    requires { ⌜ Covered p (p .start) k c0 ⌝ }
+    requires { ⌜ closes p (p .start) k ≡ true ⌝ }
+    ensures { λ r. ⌜ Covered p (p .start) (k + 1) r ⌝ }
 {
     let mut c = c0;
     let ends = p.links[k];
@@ -237,9 +238,9 @@ fn climb(
 // A flag for each link: is it entered, and on a cycle that another link closes?
 fn covered_links(p: Plant, v: Visited, up: [usize; Plant::PLACES]) -> [bool; Plant::MAX_LINKS]
     requires { ⌜ Sound p ⌝ }
-    requires { ⌜ Shows v (visited p) ⌝ }
-    requires { ⌜ EntryLinks p maxLinks up ⌝ }
-    ensures { λ r. ⌜ Covered p maxLinks r ⌝ }
+    requires { ⌜ Shows v (visitedFrom p (p .start)) ⌝ }
+    requires { ⌜ EntryLinks p (p .start) maxLinks up ⌝ }
+    ensures { λ r. ⌜ Covered p (p .start) maxLinks r ⌝ }
 {
     let mut c = [false; Plant::MAX_LINKS];
     let n = p.count as usize;
@@ -258,8 +259,8 @@ fn covered_links(p: Plant, v: Visited, up: [usize; Plant::PLACES]) -> [bool; Pla
 // a visited switch is none. A link that the visit did not come to is tested by a visit of its own.
 fn is_bridge_by(p: Plant, v: Visited, c: [bool; Plant::MAX_LINKS], l: usize) -> bool
     requires { ⌜ Sound p ⌝ }
-    requires { ⌜ Shows v (visited p) ⌝ }
-    requires { ⌜ Covered p maxLinks c ⌝ }
+    requires { ⌜ Shows v (visitedFrom p (p .start)) ⌝ }
+    requires { ⌜ Covered p (p .start) maxLinks c ⌝ }
     requires { ⌜ l < maxLinks ⌝ }
     ensures { λ r. ⌜ r ≡ bridge p l ⌝ }
 {
@@ -279,7 +280,7 @@ pub fn bridges(p: Plant) -> [bool; Plant::MAX_LINKS]
     requires { ⌜ Sound p ⌝ }
     ensures { λ r. ⌜ Flags maxLinks (bridge p) r ⌝ }
 {
-    let v = visit_start(p);
+    let v = visit_all(p, p.start);
     let up = entry_links(p, v);
     let c = covered_links(p, v, up);
     let mut b = [false; Plant::MAX_LINKS];
@@ -312,7 +313,7 @@ pub fn arcs_with(p: Plant, b: [bool; Plant::MAX_LINKS]) -> [bool; Plant::LABELS]
     requires { ⌜ Flags maxLinks (bridge p) b ⌝ }
     ensures { λ r. ⌜ Flags (2 * maxLinks) (used p) r ⌝ }
 {
-    let v = visit_start(p);
+    let v = visit_all(p, p.start);
     let mut u = [false; Plant::LABELS];
     let mut l: usize = 0;
     while l < Plant::MAX_LINKS {

@@ -1,6 +1,6 @@
 -- Laws of counting, also for the numbers below 2 n by pairs. Assumes nothing.
 use mathlib.Core.Path.{_≡_, refl, sym, ap, _∙_, subst}
-use mathlib.Core.Logic.{_⊎_, inl, inr}
+use mathlib.Core.Logic.{_⊎_, inl, inr, _↔_}
 use mathlib.Core.Bool.{Bool, true, false}
 use mathlib.Core.List.{List, [], _∷_}
 use Prim.Native.Nat.{ℕ, zero, suc, _+_, _*_, _≤_, _<_}
@@ -30,6 +30,11 @@ pub bit-le-one : (a : Bool) → bit a ≤ 1
 bit-le-one true = omega arith
 bit-le-one false = omega arith
 
+pub bit-one : (a b : Bool) → 1 ≤ bit a + bit b → T a ⊎ T b
+bit-one true b h = inl tt
+bit-one false true h = inr tt
+bit-one false false h = absurd (omega arith)
+
 -- of two different numbers just one is below the other
 pub bit-ltb : (m n : ℕ) → (m ≡ n → ⊥) → bit (ltb m n) + bit (ltb n m) ≡ 1
 bit-ltb m n e = go (below? m n)
@@ -42,6 +47,9 @@ pub count-le : (n : ℕ) (p q : ℕ → Bool) → ((k : ℕ) → k < n → T (p 
 unfolding count
 count-le zero p q f = omega arith
 count-le (suc n) p q f = omega (arith, bit-le (p n) (q n) (f n (omega arith)), count-le n p q (λ k h. f k (omega arith)))
+
+pub count-both : (n : ℕ) (p q : ℕ → Bool) → ((k : ℕ) → k < n → T (p k) ↔ T (q k)) → count n p ≡ count n q
+count-both n p q f = omega (arith, count-le n p q (λ k h. f k h .0), count-le n q p (λ k h. f k h .1))
 
 pub count-all : (n : ℕ) (p : ℕ → Bool) → count n p ≤ n
 unfolding count

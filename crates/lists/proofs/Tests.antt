@@ -48,6 +48,9 @@ same-test true b f g = sym (f refl)
 same-test false true f g = g refl
 same-test false false f g = refl
 
+pub T-same : (a b : Bool) → (T a → T b) → (T b → T a) → a ≡ b
+T-same a b f g = same-test a b (λ e. T-true b (f (true-T a e))) (λ e. T-true a (g (true-T b e)))
+
 -- ---- choices
 
 pub choose-true : {A : Type 0} (b : Bool) (x y : A) → T b → choose b x y ≡ x

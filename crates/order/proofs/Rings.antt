@@ -14,8 +14,6 @@ use Rattle.limits.specs.Limits.{maxLinks}
 use Rattle.limits.specs.Sound.{Sound}
 use Rattle.walks.specs.Arcs.{tail}
 use Rattle.walks.proofs.Live.{live-below}
-use Rattle.walks.proofs.Orientation.{used-arc}
-use Rattle.rings.specs.Trail.{Trail}
 use Rattle.rings.specs.Ring.{readFrom}
 use Rattle.rings.proofs.Ring.{place-most}
 use Rattle.rings.specs.Injection.{placeOf}
@@ -24,10 +22,6 @@ use Rattle.rings.proofs.Parts.{read-length}
 use Rattle.order.specs.Labels.{OverArcs}
 
 -- ---- what the code asks
-
--- a trail of the plant has labels of its arcs alone
-pub trail-arcs : (p : Plant) (w : List ℕ) → Trail p w → OverArcs p w
-trail-arcs p w tr a h = used-arc p a (tr .in-use a h)
 
 -- the links of the labels have places
 pub links-in : (p : Plant) (w : List ℕ) → Sound p → OverArcs p w → (a : ℕ) → In a w → a / 2 < maxLinks

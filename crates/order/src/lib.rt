@@ -132,7 +132,7 @@ pub fn span_of(p: Plant, s: u8, trail: &[u16], m: u16) -> Span
     requires { ⌜ Sound p ⌝ }
     requires { ⌜ OverArcs p (now trail) ⌝ }
     requires { ⌜ 1 ≤ m ⌝ }
-    requires { ⌜ m < p .count ⌝ }
+    requires { ⌜ m ≤ maxLinks ⌝ }
     ensures { λ r. ⌜ r ≡ spanOf p (now (trail .entry)) s m ⌝ }
 {
     let k = place_of(p, s, trail);

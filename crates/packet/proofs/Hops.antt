@@ -15,7 +15,7 @@ use Rattle.walks.specs.Arcs.{tail, head}
 use Rattle.walks.proofs.Labels.{arc-below}
 use Rattle.rings.specs.Packet.{run, runOn, rulesFor}
 use Rattle.rings.specs.Packet as ring
-use Rattle.rings.specs.Rules.{upBy}
+use Rattle.rings.specs.Rules.{upBy, upByLink}
 use Rattle.distance.specs.Distances.{flag}
 use Rattle.packet.specs.Runs.{flagged, goesOn}
 use Rattle.packet.specs.Asked.{ForArcs, way}
@@ -24,11 +24,11 @@ use Rattle.packet.proofs.Ways.{way-length}
 module _ (p : Plant) (rules : List Bool) (states : List ℕ) where
   -- a run from a switch, after so many hops
   abbrev pub runs : ℕ → ℕ → List ℕ → ring.End
-  runs at n w = run (flagged p rules) (upBy states) (head p) at n w
+  runs at n w = run (flagged p rules) (upByLink states) (head p) at n w
 
   -- may a packet at a switch cross by label a?
   unfoldable pub passes : ℕ → ℕ → Bool
-  passes at a = flagged p rules at a && upBy states (a / 2)
+  passes at a = flagged p rules at a && upByLink states a
 
   -- ---- whether it crosses
 

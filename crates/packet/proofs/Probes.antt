@@ -2,17 +2,16 @@
 use mathlib.Core.Path.{_≡_, sym, ap, ap₂, _∙_, subst}
 use mathlib.Core.Bool.{Bool, true, false, _&&_}
 use mathlib.Core.List.{List, [], _∷_, _++_}
-use Prim.Native.Nat.{ℕ, suc, _+_, _-_, _/_, _≤_}
+use Prim.Native.Nat.{ℕ, suc, _+_, _-_, _≤_}
 use native.Mathlib.Omega.{arith}
 use lib.ListN.{length, take, drop, length-drop}
 use lib.Seq.{take-all, length-take-le}
 use Rattle.lists.specs.Tests.{choose}
 use Rattle.plant.specs.declared.Plant.{Plant}
 use Rattle.walks.specs.Arcs.{tail, head}
-use Rattle.walks.proofs.Live.{all-live}
 use Rattle.rings.specs.Packet.{End, run, runOn}
 use Rattle.rings.proofs.Packet.{runOn-append}
-use Rattle.rings.specs.Rules.{upBy, inTable, inAll}
+use Rattle.rings.specs.Rules.{upByLink, inTable, inAll}
 use Rattle.rings.specs.Ring.{readFrom, ring}
 use Rattle.rings.specs.Probe.{back}
 use Rattle.rings.specs.Injection.{placeOf, ringOf, probeRun}
@@ -36,7 +35,7 @@ rest-length w k = length-take-le (length w - k) (drop k w) (omega (arith, length
 module _ (rule : ℕ → ℕ → Bool) (up : ℕ → Bool) (hd : ℕ → ℕ) where
   run-hops : (w : List ℕ) (at n : ℕ) → run rule up hd at n w .hops ≤ n + length w
   run-hops [] at n = omega arith
-  run-hops (a ∷ w) at n = go (rule at a && up (a / 2)) (run-hops w (hd a) (suc n))
+  run-hops (a ∷ w) at n = go (rule at a && up a) (run-hops w (hd a) (suc n))
     where
       go : (b : Bool) → run rule up hd (hd a) (suc n) w .hops ≤ suc n + length w
           → choose b (run rule up hd (hd a) (suc n) w) (record { ended = false; hops = n; last = at }) .hops ≤ n + suc (length w)
@@ -56,12 +55,12 @@ injected-hops i s e = ap (λ (d : End). d .hops) e
 
 module _ (p : Plant) (rules : List Bool) (states : List ℕ) where
   pub after-hops : (e r : End) (w : List ℕ) → r ≡ goesOn p rules states e w → r .hops ≤ e .hops + length w
-  after-hops e r w q = subst (λ (d : End). d .hops ≤ e .hops + length w) (sym q) (on-hops (flagged p rules) (upBy states) (head p) e w)
+  after-hops e r w q = subst (λ (d : End). d .hops ≤ e .hops + length w) (sym q) (on-hops (flagged p rules) (upByLink states) (head p) e w)
 
   -- ---- two runs are one
 
   pub on-two : (e f r : End) (x y : List ℕ) → f ≡ goesOn p rules states e x → r ≡ goesOn p rules states f y → r ≡ goesOn p rules states e (x ++ y)
-  on-two e f r x y a b = b ∙ ap (λ (d : End). goesOn p rules states d y) a ∙ sym (runOn-append (flagged p rules) (upBy states) (head p) e x y)
+  on-two e f r x y a b = b ∙ ap (λ (d : End). goesOn p rules states d y) a ∙ sym (runOn-append (flagged p rules) (upByLink states) (head p) e x y)
 
   -- out over two stretches and back
   pub on-four : (s : ℕ) (i e f g r : End) (x y : List ℕ) → i ≡ injectedAt s → e ≡ goesOn p rules states i x → f ≡ goesOn p rules states e y → g ≡ goesOn p rules states f (back y)
@@ -74,31 +73,31 @@ module _ (p : Plant) (rules : List Bool) (states : List ℕ) where
 
   -- a run from a switch
   pub table-run : ForTable p rules → (s : ℕ) (i r : End) (w : List ℕ) → i ≡ injectedAt s → r ≡ goesOn p rules states i w
-      → r ≡ run (inTable p) (upBy states) (head p) s 0 w
+      → r ≡ run (inTable p) (upByLink states) (head p) s 0 w
   unfolding runOn
   table-run table s i r w new a = a ∙ ap (λ (j : End). goesOn p rules states j w) new ∙ on-table p rules table states (injectedAt s) w
 
   module _ (w : List ℕ) (s : ℕ) where
     -- the full check: the stretch from the place of s, then the front
     pub ring-is : ForTable p rules → (k : ℕ) (i e r : End) → k ≡ placeOf p w s → i ≡ injectedAt s → e ≡ goesOn p rules states i (take (length w - k) (drop k w))
-        → r ≡ goesOn p rules states e (take k w) → r ≡ run (inTable p) (upBy states) (head p) s 0 (ringOf p w s)
+        → r ≡ goesOn p rules states e (take k w) → r ≡ run (inTable p) (upByLink states) (head p) s 0 (ringOf p w s)
     unfolding ringOf ring readFrom
     ring-is table k i e r at new a b =
         let whole : take (length w - k) (drop k w) ≡ drop k w = take-all (length w - k) (drop k w) (omega (arith, length-drop k w)) in
         table-run table s i r (drop k w ++ take k w) new (on-two i e r (drop k w) (take k w) (a ∙ ap (goesOn p rules states i) whole) b)
-        ∙ ap (λ (j : ℕ). run (inTable p) (upBy states) (head p) s 0 (drop j w ++ take j w)) at
+        ∙ ap (λ (j : ℕ). run (inTable p) (upByLink states) (head p) s 0 (drop j w ++ take j w)) at
 
     -- ---- the probes
 
-    pub full-is : (m : ℕ) (r : End) → m ≡ p .count → r ≡ run (inTable p) (upBy states) (head p) s 0 (ringOf p w s) → r ≡ probeRun p w s (upBy states) m
-    full-is m r e q = q ∙ sym (full-run p w s (upBy states)) ∙ ap (probeRun p w s (upBy states)) (all-live p ∙ sym e)
+    pub full-is : (e m : ℕ) (r : End) → m ≡ e → r ≡ run (inTable p) (upByLink states) (head p) s 0 (ringOf p w s) → r ≡ probeRun p w s e (upByLink states) m
+    full-is e m r i q = q ∙ sym (full-run p w s e (upByLink states)) ∙ ap (probeRun p w s e (upByLink states)) (sym i)
 
-    pub back-is : ForAll p rules → (m : ℕ) (b : Span) (x y : List ℕ) (r : End) → (m ≡ p .count → ⊥) → b ≡ spanOf p w s m → x ≡ stretchOf w b → y ≡ frontOf w b
-        → r ≡ goesOn p rules states (injectedAt s) (outAndBack x y) → r ≡ probeRun p w s (upBy states) m
+    pub back-is : ForAll p rules → (e m : ℕ) (b : Span) (x y : List ℕ) (r : End) → (m ≡ e → ⊥) → b ≡ spanOf p w s m → x ≡ stretchOf w b → y ≡ frontOf w b
+        → r ≡ goesOn p rules states (injectedAt s) (outAndBack x y) → r ≡ probeRun p w s e (upByLink states) m
     unfolding ringOf runOn
-    back-is all m b x y r n q f g h =
+    back-is all e m b x y r n q f g h =
         let stretch : x ≡ outStretch (tail p) s w m = f ∙ ap (stretchOf w) q ∙ span-stretch p w s m in
         let front : y ≡ outFront (tail p) s w m = g ∙ ap (frontOf w) q ∙ span-front p w s m in
         h ∙ on-all p rules all states (injectedAt s) (outAndBack x y)
-        ∙ ap (run (inAll p) (upBy states) (head p) s 0) (ap₂ outAndBack stretch front ∙ sym (there-and-back (tail p) s w m))
-        ∙ sym (back-run p w s (upBy states) m (λ e. n (e ∙ all-live p)))
+        ∙ ap (run (inAll p) (upByLink states) (head p) s 0) (ap₂ outAndBack stretch front ∙ sym (there-and-back (tail p) s w m))
+        ∙ sym (back-run p w s e (upByLink states) m n)

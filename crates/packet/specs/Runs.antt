@@ -6,7 +6,7 @@ use Rattle.plant.specs.declared.Plant.{Plant}
 use Rattle.walks.specs.Arcs.{tail, head}
 use Rattle.rings.specs.Packet.{runOn, rulesFor}
 use Rattle.rings.specs.Packet as ring
-use Rattle.rings.specs.Rules.{upBy}
+use Rattle.rings.specs.Rules.{upByLink}
 use Rattle.distance.specs.Distances.{flag}
 use Rattle.packet.specs.declared.End.{End}
 
@@ -22,6 +22,6 @@ injectedAt s = record { ended = true; hops = 0; last = s }
 unfoldable pub flagged : Plant → List Bool → ℕ → ℕ → Bool
 flagged p rules = rulesFor (flag rules) (tail p)
 
--- a packet that came so far goes on under the rules that are flagged, by the states of links
+-- a packet that came so far goes on under the rules that are flagged, by a state byte for each link
 abbrev pub goesOn : Plant → List Bool → List ℕ → ring.End → List ℕ → ring.End
-goesOn p rules states e w = runOn (flagged p rules) (upBy states) (head p) e w
+goesOn p rules states e w = runOn (flagged p rules) (upByLink states) (head p) e w

@@ -4,11 +4,12 @@ ghost use mathlib.Core.Bool.{not, _&&_};
 ghost use Prim.Native.Nat.{_+_, _*_, _%_, _≤_, _<_};
 ghost use lib.Dec.{eqb};
 ghost use lib.ListN.{length, getD};
+ghost use Rattle.limits.specs.Limits.{maxLinks};
 ghost use Rattle.limits.specs.Sound.{Sound};
 ghost use Rattle.plant.specs.Links.{side};
 ghost use Rattle.walks.specs.Arcs.{head};
 ghost use Rattle.rings.specs.Packet.{run};
-ghost use Rattle.rings.specs.Rules.{upBy, inTable};
+ghost use Rattle.rings.specs.Rules.{upByLink, inTable};
 ghost use Rattle.rings.specs.Probe.{back};
 ghost use Rattle.rings.specs.Injection.{ringOf, probeRun};
 ghost use Rattle.packet.specs.Runs.{endOf, injectedAt, goesOn};
@@ -140,14 +141,14 @@ pub fn full_check(
     trail: &[u16],
 ) -> End
     requires { ⌜ CanProbe p table (now states) (now trail) ⌝ }
-    ensures { λ r. ⌜ endOf r ≡ run (inTable p) (upBy (now (states .entry))) (head p) s 0 (ringOf p (now (trail .entry)) s) ⌝ }
+    ensures { λ r. ⌜ endOf r ≡ run (inTable p) (upByLink (now (states .entry))) (head p) s 0 (ringOf p (now (trail .entry)) s) ⌝ }
 {
     let k = place_of(p, s, trail);
     let e = run_on(p, table, states, injected(s), &trail[k..]);
     run_on(p, table, states, e, &trail[..k])
 }
 
-// All rules: those of the forwarding table, and those that opposite arcs have of their own. There are two to each link.
+// All rules: those of the forwarding table, and those that opposite arcs have of their own. There are two to each link that takes part.
 pub fn all_rules(p: Plant) -> [bool; Plant::LABELS]
     requires { ⌜ Sound p ⌝ }
     ensures { λ r. ⌜ ForAll p r ⌝ }
@@ -156,7 +157,7 @@ pub fn all_rules(p: Plant) -> [bool; Plant::LABELS]
     let mut rules = [false; Plant::LABELS];
     let mut a: usize = 0;
     while a < n {
-        rules[a] = true;
+        rules[a] = graph::is_live(p, a / 2);
         a += 1;
     }
     rules
@@ -181,21 +182,22 @@ fn there_and_back(
     run_back(p, rules, states, g, x)
 }
 
-// The run of probe m of switch s: the full check if m is the number of links; else out up to the first crossing of the m-th link of the order, and back.
+// The run of probe m of switch s over so many links: the full check if m is their number; else out up to the first crossing of the m-th link of the order, and back.
 pub fn probe_run(
     p: Plant,
     table: [bool; Plant::LABELS],
     states: &[u8],
     s: u8,
     trail: &[u16],
+    links: u16,
     m: u16,
 ) -> End
     requires { ⌜ CanProbe p table (now states) (now trail) ⌝ }
     requires { ⌜ 1 ≤ m ⌝ }
-    requires { ⌜ m ≤ p .count ⌝ }
-    ensures { λ r. ⌜ endOf r ≡ probeRun p (now (trail .entry)) s (upBy (now (states .entry))) m ⌝ }
+    requires { ⌜ m ≤ maxLinks ⌝ }
+    ensures { λ r. ⌜ endOf r ≡ probeRun p (now (trail .entry)) s links (upByLink (now (states .entry))) m ⌝ }
 {
-    if m == p.count {
+    if m == links {
         return full_check(p, table, states, s, trail);
     }
     let span = span_of(p, s, trail, m);

@@ -1,5 +1,5 @@
 -- The numbers of a plant, by the flags of its bridges and of its arcs in use; and what the trail's code asks. Assumes a sound plant.
-use mathlib.Core.Path.{_≡_, sym, ap, _∙_}
+use mathlib.Core.Path.{_≡_, _∙_}
 use mathlib.Core.Bool.{Bool}
 use mathlib.Core.List.{List}
 use Prim.Native.Nat.{ℕ, _*_, _≤_}
@@ -7,10 +7,10 @@ use native.Mathlib.Omega.{arith}
 use lib.ListN.{length}
 use Rattle.lists.proofs.Count.{count-all}
 use Rattle.plant.specs.declared.Plant.{Plant}
+use Rattle.plant.specs.Links.{live}
 use Rattle.limits.specs.Limits.{maxLinks}
 use Rattle.limits.specs.Sound.{Sound}
-use Rattle.walks.specs.Graph.{Connected, bridge, used, bridges, arcsUsed}
-use Rattle.walks.proofs.Live.{all-live}
+use Rattle.walks.specs.Graph.{Connected, bridge, used, liveLinks, bridges, arcsUsed}
 use Rattle.graph.specs.Flags.{Flags, countSet}
 use Rattle.graph.proofs.Uses.{bridges-counted, arcs-counted}
 use Rattle.routes.specs.Plants.{trailOf}
@@ -20,6 +20,10 @@ use Rattle.planning.specs.Numbers.{numbersOf}
 module _ (p : Plant) (sound : Sound p) where
   pub planned : (us : List Bool) → Connected p → Flags (2 * maxLinks) (used p) us → Planned p us
   planned us con f = record { sound = sound; connected = con; flags = f .tells }
+
+  pub links-few : liveLinks p ≤ maxLinks
+  unfolding liveLinks
+  links-few = omega (arith, count-all (p .count) (live p), sound .few-links)
 
   -- ---- the numbers
 
@@ -32,8 +36,7 @@ module _ (p : Plant) (sound : Sound p) where
     unfolding arcsUsed
     rules-few = omega (arith, arcs-counted p us sound g, count-all (2 * p .count) (used p), sound .few-links)
 
-    pub numbers-are : (x y h : ℕ) → x ≡ countSet bs → y ≡ countSet us → h ≡ length (trailOf p)
-        → record { switches = p .switches; links = p .count; bridges = x; rules = y; hops = h } ≡ numbersOf p
+    pub numbers-are : (n x y h : ℕ) → n ≡ liveLinks p → x ≡ countSet bs → y ≡ countSet us → h ≡ length (trailOf p)
+        → record { switches = p .switches; links = n; bridges = x; rules = y; hops = h } ≡ numbersOf p
     unfolding numbersOf
-    numbers-are x y h e d q =
-        rw (e ∙ bridges-counted p bs sound f, d ∙ arcs-counted p us sound g, q) (ap (λ (n : ℕ). record { switches = p .switches; links = n; bridges = bridges p; rules = arcsUsed p; hops = length (trailOf p) }) (sym (all-live p)))
+    numbers-are n x y h k e d q = rw (k, e ∙ bridges-counted p bs sound f, d ∙ arcs-counted p us sound g, q)

@@ -53,7 +53,7 @@ module _ (s : List ℕ) where
   plan-ready p b e =
       let r = plan-read p e in
       let sound = decode-sound s p b (r .0) in
-      (sound, connected-is p (sound-valid p sound) .0 (true-T (connected p) (r .1)))
+      (sound, connected-is p (sound-valid p sound) (sound .start-in) .0 (true-T (connected p) (r .1)))
 
 -- where the verdict is accepted, the plant is sound and connected
 pub plan-answer : (s : List ℕ) (r : Decoded) → Bytes s → Reads (answer (planning s)) r → Reads (answer (planning s)) r × Ready r

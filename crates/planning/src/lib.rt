@@ -10,7 +10,7 @@ ghost use lib.ListN.{length};
 ghost use Rattle.answers.specs.Checks.{answer};
 ghost use Rattle.limits.specs.Limits.{maxLinks};
 ghost use Rattle.limits.specs.Sound.{Sound};
-ghost use Rattle.walks.specs.Graph.{Connected, bridge, used};
+ghost use Rattle.walks.specs.Graph.{Connected, bridge, used, liveLinks};
 ghost use Rattle.graph.specs.Flags.{Flags};
 ghost use Rattle.routes.specs.Plants.{trailOf};
 ghost use Rattle.listing.specs.Answers.{Reads};
@@ -62,6 +62,13 @@ pub fn plan_at(listing: &[u8], switch: u8) -> Decoded
     }
 }
 
+// E, the number of links that take part: all that are listed.
+pub fn links_in_service(p: Plant) -> u16
+    ensures { λ r. ⌜ r ≡ liveLinks p ⌝ }
+{
+    p.count
+}
+
 // The numbers of a plant, from the flags of its bridges and of its arcs in use and the hops of its trail.
 pub fn numbers_with(
     p: Plant,
@@ -76,9 +83,10 @@ pub fn numbers_with(
 {
     let bridges = graph::count_set(&b);
     let rules = graph::count_set(&u);
+    let links = links_in_service(p);
     Numbers {
         switches: p.switches,
-        links: p.count,
+        links,
         bridges: bridges as u16,
         rules: rules as u16,
         hops,

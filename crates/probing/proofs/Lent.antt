@@ -1,22 +1,23 @@
 -- A lent trail that is the plant's, and what the code asks for it. Assumes a sound plant, and a connected one where it speaks of its trail.
-use mathlib.Core.Path.{_≡_, sym, subst}
-use mathlib.Core.Bool.{Bool, false}
+use mathlib.Core.Path.{_≡_, sym, _∙_, subst}
+use mathlib.Core.Bool.{Bool, true, false, not}
 use mathlib.Core.List.{List, []}
 use Prim.Native.Nat.{ℕ, _*_, _≤_}
+use lib.Dec.{eqb}
 use lib.ListN.{length}
 use borrow.Author.Tests.{ltb-false, not-false}
 use Rattle.plant.specs.declared.Plant.{Plant}
 use Rattle.limits.specs.Limits.{maxLinks}
 use Rattle.limits.specs.Sound.{Sound}
 use Rattle.walks.specs.Graph.{Connected, used}
+use Rattle.walks.proofs.Orientation.{used-arc}
 use Rattle.routes.specs.Plants.{trailOf}
-use Rattle.rings.specs.Trail.{Trail}
 use Rattle.graph.specs.Flags.{Flags}
-use Rattle.trail.specs.Filled.{sameList}
+use Rattle.trail.specs.declared.Compared.the-variants.{Same, Other}
+use Rattle.trail.specs.Filled.{Tells}
 use Rattle.trail.proofs.Filled.{same-is}
 use Rattle.trail.proofs.Trails.{trail-is}
 use Rattle.order.specs.Labels.{OverArcs}
-use Rattle.order.proofs.Rings.{trail-arcs}
 use Rattle.packet.specs.Asked.{CanRun, CanProbe}
 use Rattle.packet.proofs.Rules.{probe-runs}
 use Rattle.answers.specs.declared.Verdict.{Verdict}
@@ -30,20 +31,23 @@ pub states-enough : (e : ℕ) (states : List ℕ) → statesShort e states ≡ f
 unfolding statesShort
 states-enough e states f = ltb-false (length states) e f
 
+-- refusal 12: the lent trail begins with other hops than the plant's, or has another length
+pub hops-differ : (p : Plant) (w : List ℕ) → Tells w (trailOf p) Other → true ≡ trailDiffers p w
+unfolding trailDiffers
+hops-differ p w e = rw e
+
+pub length-differs : (p : Plant) (w : List ℕ) (hops : ℕ) (r : Bool) → Tells w (trailOf p) (Same hops) → r ≡ not (eqb (length w) hops) → r ≡ trailDiffers p w
+unfolding trailDiffers
+length-differs p w hops r e f = f ∙ rw (e .0, e .1)
+
 -- no refusal 12: the lent trail is the plant's
 pub trail-same : (p : Plant) (w : List ℕ) → trailDiffers p w ≡ false → w ≡ trailOf p
 unfolding trailDiffers
-trail-same p w f = same-is w (trailOf p) .0 (not-false (sameList w (trailOf p)) f)
+trail-same p w f = same-is w (trailOf p) .0 (not-false _ f)
 
 module _ (p : Plant) (ok : Sound p) where
-  -- the trail of a plant is one that the theory of rings speaks of
-  pub trail-of : Connected p → Trail p (trailOf p)
-  trail-of con =
-      let t = trail-is p ok con in
-      record { closed = t .closed; in-use = λ a i. t .exactly a .0 i; all-used = λ a u. t .exactly a .1 u }
-
   pub lent-arcs : (w : List ℕ) → Connected p → w ≡ trailOf p → OverArcs p w
-  lent-arcs w con e = trail-arcs p w (subst (Trail p) (sym e) (trail-of con))
+  lent-arcs w con e = subst (OverArcs p) (sym e) (λ a h. used-arc p a (trail-is p ok con .exactly a .0 h))
 
   module _ (us : List Bool) (states : List ℕ) (f : Flags (2 * maxLinks) (used p) us) (enough : p .count ≤ length states) where
     pub can-probe : (w : List ℕ) → OverArcs p w → CanProbe p us states w

@@ -15,11 +15,10 @@ use Rattle.answers.specs.Checks.{answer}
 use Rattle.limits.specs.Sound.{Sound}
 use Rattle.answers.proofs.Checks.{given-exactly}
 use Rattle.walks.specs.Graph.{Connected, liveLinks}
-use Rattle.walks.proofs.Valid.{sound-valid}
 use Rattle.routes.specs.Plants.{trailOf}
 use Rattle.rings.specs.Order.{nth}
 use Rattle.rings.specs.Injection.{orderOf}
-use Rattle.rings.proofs.Injection.{order-once, order-links, order-length}
+use Rattle.rings.proofs.Injection.{order-once}
 use Rattle.order.specs.declared.Order.{Order}
 use Rattle.order.specs.Order.{listed}
 use Rattle.order.proofs.Gathering.{listed-links}
@@ -31,7 +30,7 @@ use Rattle.search.specs.Sound.{SaysIn}
 use Rattle.search.proofs.Sound.{says-in}
 use Rattle.probing.specs.Conditions.{trailDiffers, searchUnsound}
 use Rattle.probing.specs.Calls.{orderIn, Name, link, none, unknown, namedIn, nameIn}
-use Rattle.probing.proofs.Lent.{trail-of}
+use Rattle.probing.proofs.Injection.{order-links, order-length}
 use Rattle.probing.proofs.Searching.{good-here}
 
 -- each link of the plant once, and no other
@@ -56,9 +55,9 @@ module _ (p : Plant) (ok : Sound p) (con : Connected p) (x : ℕ) (x-in : x < p 
 
       each : EachOnce p (listed ls)
       each = record {
-        counted = order-length p (sound-valid p ok) con (trailOf p) (trail-of p ok con) x x-in;
+        counted = order-length p ok con x x-in;
         once = subst Distinct (sym (listed-links ls)) (order-once p (trailOf p) x);
-        every = λ l. subst (λ (v : List ℕ). In l v ↔ T (live p l)) (sym (listed-links ls)) (order-links p (sound-valid p ok) con (trailOf p) (trail-of p ok con) x x-in l);
+        every = λ l. subst (λ (v : List ℕ). In l v ↔ T (live p l)) (sym (listed-links ls)) (order-links p ok con x x-in l);
       }
 
   -- a link that is named is a link of the plant
@@ -75,5 +74,5 @@ module _ (p : Plant) (ok : Sound p) (con : Connected p) (x : ℕ) (x-in : x < p 
       go Open g = tt
       go AllUp g = tt
       go (Down k) g =
-          let inside : k - 1 < length ls = omega (arith, g, order-length p (sound-valid p ok) con (trailOf p) (trail-of p ok con) x x-in) in
-          order-links p (sound-valid p ok) con (trailOf p) (trail-of p ok con) x x-in (nth ls k) .0 (getD-in ls (k - 1) inside)
+          let inside : k - 1 < length ls = omega (arith, g, order-length p ok con x x-in) in
+          order-links p ok con x x-in (nth ls k) .0 (getD-in ls (k - 1) inside)

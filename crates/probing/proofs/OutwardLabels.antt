@@ -13,7 +13,7 @@ use Rattle.answers.proofs.Checks.{refuse-given, given-exactly, came-from, resul
 use Rattle.walks.specs.Graph.{liveLinks}
 use Rattle.routes.specs.Plants.{trailOf}
 use Rattle.rings.specs.Packet.{End}
-use Rattle.rings.specs.Rules.{upBy}
+use Rattle.rings.specs.Rules.{upByLink}
 use Rattle.rings.specs.Probe.{back, outward, probe}
 use Rattle.rings.specs.Injection.{ringOf, probeOf, probeRun}
 use Rattle.rings.proofs.Injection.{full-run}
@@ -39,7 +39,7 @@ module _ (p : Plant) (x m : ℕ) where
       go false = span-outward p (trailOf p) x m
 
   -- the labels of the probe are these and then the way back, which the full check does not go
-  pub probe-labels : probeOf p (trailOf p) x m ≡ outLabels p x m ++ choose (eqb m (liveLinks p)) [] (back (outLabels p x m))
+  pub probe-labels : probeOf p (trailOf p) x (liveLinks p) m ≡ outLabels p x m ++ choose (eqb m (liveLinks p)) [] (back (outLabels p x m))
   unfolding probeOf probe outLabels
   probe-labels = go (eqb m (liveLinks p)) (ringOf p (trailOf p) x) (outward m (ringOf p (trailOf p) x))
     where
@@ -66,6 +66,6 @@ outward-parts s x w q a f b e =
 
 -- ---- the full check is probe E
 
-pub check-probe : (p : Plant) (x : ℕ) (w states : List ℕ) → checkIn x w states p ≡ check (lentChecks p w states) (outcomeOf (probeRun p (trailOf p) x (upBy states) (liveLinks p)))
+pub check-probe : (p : Plant) (x : ℕ) (w states : List ℕ) → checkIn x w states p ≡ check (lentChecks p w states) (outcomeOf (probeRun p (trailOf p) x (liveLinks p) (upByLink states) (liveLinks p)))
 unfolding checkIn
-check-probe p x w states = ap (λ (e : End). check (lentChecks p w states) (outcomeOf e)) (sym (full-run p (trailOf p) x (upBy states)))
+check-probe p x w states = ap (λ (e : End). check (lentChecks p w states) (outcomeOf e)) (sym (full-run p (trailOf p) x (liveLinks p) (upByLink states)))

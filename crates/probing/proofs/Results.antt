@@ -1,5 +1,5 @@
 -- What each call answers in a plant where nothing is refused, from what the code computes of a lent trail that is the plant's. Assumes nothing.
-use mathlib.Core.Path.{_≡_, refl, sym, ap, _∙_}
+use mathlib.Core.Path.{_≡_, refl, sym, ap, ap₂, _∙_}
 use mathlib.Core.Bool.{Bool, false}
 use mathlib.Core.List.{List}
 use Prim.Native.Nat.{ℕ, _-_, _*_}
@@ -10,12 +10,11 @@ use Rattle.answers.specs.Answers.{given}
 use Rattle.answers.specs.Checks.{answer}
 use Rattle.limits.specs.Limits.{maxLinks}
 use Rattle.walks.specs.Arcs.{head}
-use Rattle.walks.specs.Graph.{used}
-use Rattle.walks.proofs.Live.{all-live}
+use Rattle.walks.specs.Graph.{used, liveLinks}
 use Rattle.routes.specs.Plants.{trailOf}
 use Rattle.rings.specs.Packet.{run}
 use Rattle.rings.specs.Packet as ring
-use Rattle.rings.specs.Rules.{upBy, inTable}
+use Rattle.rings.specs.Rules.{upByLink, inTable}
 use Rattle.rings.specs.Order.{nth}
 use Rattle.rings.specs.Injection.{ringOf, orderOf, probeRun}
 use Rattle.answers.specs.declared.Verdict.the-variants as verdict
@@ -42,7 +41,7 @@ use Rattle.probing.proofs.Lent.{trail-same}
 
 module _ (p : Plant) (us : List Bool) (states labels : List ℕ) (x : ℕ) (f : Flags (2 * maxLinks) (used p) us) where
   pub ran-as : (i e : End) (b : Bool) → endOf i ≡ injectedAt x → endOf e ≡ goesOn p us states (endOf i) labels → e .ended ≡ b
-      → given b ≡ given (run (inTable p) (upBy states) (head p) x 0 labels .ended)
+      → given b ≡ given (run (inTable p) (upByLink states) (head p) x 0 labels .ended)
   ran-as i e b new goes q = ap given (sym q ∙ ap (λ (d : ring.End). d .ended) (table-run p us states (f .tells) x (endOf i) (endOf e) labels new goes))
 
 -- ---- over a lent trail that is the plant's
@@ -53,17 +52,17 @@ module _ (p : Plant) (w : List ℕ) (x : ℕ) (same : w ≡ trailOf p) where
   checked up e o f g =
       ap given (f ∙ ap outcomeOf (g ∙ ap (λ (v : List ℕ). run (inTable p) up (head p) x 0 (ringOf p v x)) same))
 
-  pub probed : (up : ℕ → Bool) (m : ℕ) (e : ring.End) (o : Outcome) → o ≡ outcomeOf e → e ≡ probeRun p w x up m
-      → o ≡ outcomeOf (probeRun p (trailOf p) x up m)
-  probed up m e o f g = f ∙ ap outcomeOf (g ∙ ap (λ (v : List ℕ). probeRun p v x up m) same)
+  pub probed : (n : ℕ) (up : ℕ → Bool) (m : ℕ) (e : ring.End) (o : Outcome) → n ≡ liveLinks p → o ≡ outcomeOf e → e ≡ probeRun p w x n up m
+      → o ≡ outcomeOf (probeRun p (trailOf p) x (liveLinks p) up m)
+  probed n up m e o i f g = f ∙ ap outcomeOf (g ∙ ap₂ (λ (v : List ℕ) (k : ℕ). probeRun p v x k up m) same i)
 
-  pub out-ring : (m : ℕ) (b : Span) → m ≡ p .count → b ≡ ringSpan p w x → b ≡ outSpan p x m
+  pub out-ring : (m : ℕ) (b : Span) → m ≡ liveLinks p → b ≡ ringSpan p w x → b ≡ outSpan p x m
   unfolding outSpan
-  out-ring m b e f = rw (eq-eqb _ _ (e ∙ sym (all-live p))) (f ∙ ap (λ (v : List ℕ). ringSpan p v x) same)
+  out-ring m b e f = rw (eq-eqb _ _ e) (f ∙ ap (λ (v : List ℕ). ringSpan p v x) same)
 
-  pub out-part : (m : ℕ) (b : Span) → (m ≡ p .count → ⊥) → b ≡ spanOf p w x m → b ≡ outSpan p x m
+  pub out-part : (m : ℕ) (b : Span) → (m ≡ liveLinks p → ⊥) → b ≡ spanOf p w x m → b ≡ outSpan p x m
   unfolding outSpan
-  out-part m b n f = rw (ne-eqb _ _ (λ e. n (e ∙ all-live p))) (f ∙ ap (λ (v : List ℕ). spanOf p v x m) same)
+  out-part m b n f = rw (ne-eqb _ _ n) (f ∙ ap (λ (v : List ℕ). spanOf p v x m) same)
 
   -- the link at a place in the order
   pub named-link : (o : Order) (d : Said) (k : ℕ) → o ≡ listed (orderOf p w x) → d ≡ Down k

@@ -18,7 +18,7 @@ use Rattle.walks.specs.Arcs.{head}
 use Rattle.walks.specs.Graph.{liveLinks}
 use Rattle.routes.specs.Plants.{trailOf}
 use Rattle.rings.specs.Packet.{End, run}
-use Rattle.rings.specs.Rules.{upBy, inTable}
+use Rattle.rings.specs.Rules.{upByLink, inTable}
 use Rattle.rings.proofs.Rules.{table-arc, bytes-past}
 use Rattle.rings.specs.Injection.{ringOf}
 use Rattle.rings.proofs.Injection as injection
@@ -42,7 +42,7 @@ module _ (p : Plant) (x : ℕ) (states : List ℕ) where
   abbrev first-bytes : List ℕ
   first-bytes = take (p .count) states
 
-  table-bytes : (labels : List ℕ) → run (inTable p) (upBy states) (head p) x 0 labels ≡ run (inTable p) (upBy first-bytes) (head p) x 0 labels
+  table-bytes : (labels : List ℕ) → run (inTable p) (upByLink states) (head p) x 0 labels ≡ run (inTable p) (upByLink first-bytes) (head p) x 0 labels
   table-bytes labels = bytes-past p (inTable p) (table-arc p) states (head p) labels x 0
 
   pub run-bytes : (labels : List ℕ) → runIn x labels states p ≡ runIn x labels first-bytes p
@@ -58,7 +58,7 @@ module _ (p : Plant) (x : ℕ) (states : List ℕ) where
   unfolding probeIn
   probe-bytes w q =
       ap₂ (λ (t : Bool) (e : End). check ((12, trailDiffers p w) ∷ (13, t) ∷ wantedChecks (liveLinks p) q) (outcomeOf e))
-      (short-first (p .count) states) (injection.probe-bytes p (trailOf p) x states (wanted q))
+      (short-first (p .count) states) (injection.probe-bytes p (trailOf p) x (liveLinks p) states (wanted q))
 
 -- so two lists of bytes that begin alike, as far as there are links, have the same answer from each of these calls
 module _ (s : List ℕ) (x : ℕ) (states states′ : List ℕ) (alike : (p : Plant) → answer (planningAt s x) ≡ given p → take (p .count) states ≡ take (p .count) states′) where

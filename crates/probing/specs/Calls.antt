@@ -13,7 +13,7 @@ use Rattle.walks.specs.Arcs.{head}
 use Rattle.walks.specs.Graph.{liveLinks}
 use Rattle.routes.specs.Plants.{trailOf}
 use Rattle.rings.specs.Packet.{End, run}
-use Rattle.rings.specs.Rules.{upBy, inTable}
+use Rattle.rings.specs.Rules.{upByLink, inTable}
 use Rattle.rings.specs.Order.{nth}
 use Rattle.rings.specs.Probe.{outward}
 use Rattle.rings.specs.Injection.{ringOf, orderOf, probeRun}
@@ -36,7 +36,7 @@ use Rattle.probing.specs.Conditions.{trailDiffers, statesShort, searchUn
 
 -- it runs under the forwarding table alone. Has it ended?
 unfoldable pub runIn : ℕ → List ℕ → List ℕ → Plant → Checked Bool
-runIn x labels states p = check ((13, statesShort (p .count) states) ∷ []) (run (inTable p) (upBy states) (head p) x 0 labels .ended)
+runIn x labels states p = check ((13, statesShort (p .count) states) ∷ []) (run (inTable p) (upByLink states) (head p) x 0 labels .ended)
 
 unfoldable pub running : List ℕ → ℕ → List ℕ → List ℕ → Checked Bool
 running s x labels states = planningAt s x then runIn x labels states
@@ -49,7 +49,7 @@ outcomeOf e = choose (e .ended) Returned Lost
 
 -- the whole ring under the forwarding table
 unfoldable pub checkIn : ℕ → List ℕ → List ℕ → Plant → Checked Outcome
-checkIn x w states p = check (lentChecks p w states) (outcomeOf (run (inTable p) (upBy states) (head p) x 0 (ringOf p (trailOf p) x)))
+checkIn x w states p = check (lentChecks p w states) (outcomeOf (run (inTable p) (upByLink states) (head p) x 0 (ringOf p (trailOf p) x)))
 
 unfoldable pub checking : List ℕ → ℕ → List ℕ → List ℕ → Checked Outcome
 checking s x w states = planningAt s x then checkIn x w states
@@ -86,11 +86,11 @@ OutwardParts s x w q a = (b : Span) → a ≡ given b → stretchOf w b ++ front
 
 -- 14 and 15, then how it comes out
 abbrev pub probeOver : Plant → ℕ → List ℕ → Search → Checked Outcome
-probeOver p x states q = check (wantedChecks (liveLinks p) q) (outcomeOf (probeRun p (trailOf p) x (upBy states) (wanted q)))
+probeOver p x states q = check (wantedChecks (liveLinks p) q) (outcomeOf (probeRun p (trailOf p) x (liveLinks p) (upByLink states) (wanted q)))
 
 -- 12 and 13 before
 unfoldable pub probeIn : ℕ → List ℕ → List ℕ → Search → Plant → Checked Outcome
-probeIn x w states q p = check (lentChecks p w states ++ wantedChecks (liveLinks p) q) (outcomeOf (probeRun p (trailOf p) x (upBy states) (wanted q)))
+probeIn x w states q p = check (lentChecks p w states ++ wantedChecks (liveLinks p) q) (outcomeOf (probeRun p (trailOf p) x (liveLinks p) (upByLink states) (wanted q)))
 
 unfoldable pub probing : List ℕ → ℕ → List ℕ → List ℕ → Search → Checked Outcome
 probing s x w states q = planningAt s x then probeIn x w states q

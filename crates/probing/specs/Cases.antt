@@ -24,7 +24,7 @@ use Rattle.rings.specs.Injection.{probeRules, ringOf, orderOf, probeOf, probeRu
 use Rattle.rings.specs.Parts.{out, outStretch, outFront}
 use Rattle.codec.specs.Part.{taken, valueOf, redundant, mapMissing, mapUndefined, fieldMissing, fieldRedundant, fieldValues, afterPart, part}
 use Rattle.listing.specs.Listing as listing
-use Rattle.trail.specs.Filled.{sameList}
+use Rattle.trail.specs.Filled.{beginsWith}
 use Rattle.order.specs.Order.{listed}
 use Rattle.order.specs.Span.{ringSpan, spanOf}
 use Rattle.search.specs.declared.Search.{Search}
@@ -145,5 +145,5 @@ table =
     ∷ []
 
 as-said : (answer (planning triangle) >>= λ p. given (map (λ r. r .got p) table)) ≡ given (map (λ r. r .said) table)
-unfolding runIn checkIn orderIn outwardIn outSpan probeIn nameIn switchOutOfRange trailDiffers statesShort searchUnsound planningAt notConnected planning ringSpan spanOf listed sameList plantWith taken valueOf redundant mapMissing mapUndefined fieldMissing fieldRedundant fieldValues afterPart part listing.valueOutOfRange listing.endOutOfRange listing.selfLink listing.bytesRemain listing.soundLink listing.header listing.link listing.links listing.withLinks listing.linked listing.ended listing.reading out outStretch outFront probeRules ringOf orderOf probeOf probeRun probe outward orders.order readFrom place ring upBy inTable inAll rulesFor trail legs nearest near route hops hop dist within sources arcs others visitFrom visited connected bridge entered earlier used liveLinks opposite tail head scan visit live leastFrom count every
+unfolding runIn checkIn orderIn outwardIn outSpan probeIn nameIn switchOutOfRange trailDiffers statesShort searchUnsound planningAt notConnected planning ringSpan spanOf listed beginsWith plantWith taken valueOf redundant mapMissing mapUndefined fieldMissing fieldRedundant fieldValues afterPart part listing.valueOutOfRange listing.endOutOfRange listing.selfLink listing.bytesRemain listing.soundLink listing.header listing.link listing.links listing.withLinks listing.linked listing.ended listing.reading out outStretch outFront probeRules ringOf orderOf probeOf probeRun probe outward orders.order readFrom place ring upBy inTable inAll rulesFor trail legs nearest near route hops hop dist within sources arcs others visitFrom visited connected bridge entered earlier used liveLinks opposite tail head scan visit live leastFrom count every
 as-said = refl

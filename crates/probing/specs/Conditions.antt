@@ -2,18 +2,18 @@
 use mathlib.Core.Bool.{Bool, not, _&&_}
 use mathlib.Core.List.{List, [], _∷_}
 use Prim.Native.Nat.{ℕ}
-use lib.Dec.{ltb}
+use lib.Dec.{eqb, ltb}
 use lib.ListN.{length}
 use Rattle.plant.specs.declared.Plant.{Plant}
 use Rattle.answers.specs.Checks.{Conditions, Checked, check}
 use Rattle.routes.specs.Plants.{trailOf}
-use Rattle.trail.specs.Filled.{sameList}
+use Rattle.trail.specs.Filled.{beginsWith}
 use Rattle.search.specs.declared.Search.{Search}
 use Rattle.search.specs.Search.{sound, soundFor, ended, wanted}
 
--- 12: the lent trail, in its whole length, differs from the listing's trail
+-- 12: the lent trail, in its whole length, differs from the listing's trail: it does not begin with the trail's hops, or has another length
 unfoldable pub trailDiffers : Plant → List ℕ → Bool
-trailDiffers p w = not (sameList w (trailOf p))
+trailDiffers p w = not (beginsWith w (trailOf p) && eqb (length w) (length (trailOf p)))
 
 -- 13: there are fewer link-state bytes than e, the links of the listing
 unfoldable pub statesShort : ℕ → List ℕ → Bool

@@ -12,12 +12,16 @@ use search::Progress;
 use search::Said;
 use search::Search;
 use search::Told;
+use trail::Compared;
 ghost use mathlib.Core.Path.{_≡_};
+ghost use mathlib.Core.Bool.{not};
 ghost use Prim.Native.Nat.{_≤_};
+ghost use lib.Dec.{eqb};
+ghost use lib.ListN.{length};
 ghost use Rattle.answers.specs.Answers.{given, refused, numberOf};
 ghost use Rattle.answers.specs.Checks.{Judges, answer};
 ghost use Rattle.limits.specs.Sound.{Sound};
-ghost use Rattle.walks.specs.Graph.{Connected};
+ghost use Rattle.walks.specs.Graph.{Connected, liveLinks};
 ghost use Rattle.routes.specs.Plants.{trailOf};
 ghost use Rattle.rings.specs.Injection.{orderOf};
 ghost use Rattle.trail.specs.Steps.{Planned};
@@ -78,15 +82,24 @@ pub enum Performed {
 
 // ---- the refusals
 
-// Refusal 12: is the lent trail, in its whole length, another than the plant's?
+// Has the lent trail another length than these hops?
+fn other_length(trail: &[u16], hops: usize) -> bool
+    ensures { λ r. ⌜ r ≡ not (eqb (length (now (trail .entry))) hops) ⌝ }
+{
+    trail.len() != hops
+}
+
+// Refusal 12: does the lent trail begin with other hops than the plant's, or has it another length?
 fn differs(p: Plant, used: [bool; Plant::LABELS], trail: &[u16]) -> bool
     requires { ⌜ Planned p used ⌝ }
     ensures { λ r. ⌜ r ≡ trailDiffers p (now (trail .entry)) ⌝ }
 {
     let t = distance::distances(p, used);
     let via = trail::first_hops(p, used, t);
-    let same = trail::same_trail(p, used, t, &via, trail);
-    !same
+    match trail::compare(p, used, t, &via, trail) {
+        Compared::Same(hops) => other_length(trail, hops),
+        Compared::Other => true,
+    }
 }
 
 // Refusal 13: are there fewer state bytes than links?
@@ -112,21 +125,22 @@ fn judge_lent(p: Plant, used: [bool; Plant::LABELS], trail: &[u16], states: &[u8
     Verdict::Accepted
 }
 
-// Refusal 14, in a call with a listing of so many links.
-fn unsound(search: Search, links: u16) -> bool
-    ensures { λ r. ⌜ r ≡ searchUnsound links search ⌝ }
+// Refusal 14, in a call with a listing: a search is over the links that take part.
+fn unsound(p: Plant, search: Search) -> bool
+    ensures { λ r. ⌜ r ≡ searchUnsound (liveLinks p) search ⌝ }
 {
     if !search.sound() {
         return true;
     }
+    let links = planning::links_in_service(p);
     !search.sound_for(links)
 }
 
-// The probe that a search wants over so many links: refusals 14 and 15.
-fn probe_wanted(search: Search, links: u16) -> Asked
-    ensures { λ r. ⌜ askedOf r ≡ answer (probeWanted links search) ⌝ }
+// The probe that a search wants over the links of a plant: refusals 14 and 15.
+fn probe_wanted(p: Plant, search: Search) -> Asked
+    ensures { λ r. ⌜ askedOf r ≡ answer (probeWanted (liveLinks p) search) ⌝ }
 {
-    if unsound(search, links) {
+    if unsound(p, search) {
         return Asked::Refused(Refusal::SearchUnsound);
     }
     search.ask()
@@ -254,10 +268,11 @@ fn span_in(p: Plant, switch: u8, trail: &[u16], m: u16) -> Span
     requires { ⌜ Sound p × Connected p ⌝ }
     requires { ⌜ now trail ≡ trailOf p ⌝ }
     requires { ⌜ 1 ≤ m ⌝ }
-    requires { ⌜ m ≤ p .count ⌝ }
+    requires { ⌜ m ≤ liveLinks p ⌝ }
     ensures { λ r. ⌜ r ≡ outSpan p switch m ⌝ }
 {
-    if m == p.count {
+    let links = planning::links_in_service(p);
+    if m == links {
         return order::ring_span(p, switch, trail);
     }
     order::span_of(p, switch, trail, m)
@@ -271,7 +286,7 @@ fn outward_in(p: Plant, switch: u8, trail: &[u16], search: Search) -> Outward
     if differs(p, graph::arcs_in_use(p), trail) {
         return Outward::Refused(Refusal::TrailDiffers);
     }
-    match probe_wanted(search, p.count) {
+    match probe_wanted(p, search) {
         Asked::Probe(m) => Outward::Parts(span_in(p, switch, trail, m)),
         Asked::Refused(k) => Outward::Refused(k),
     }
@@ -322,9 +337,10 @@ fn probe_over(
     requires { ⌜ now trail ≡ trailOf p ⌝ }
     ensures { λ r. ⌜ probedAnswer r ≡ answer (probeOver p switch (now (states .entry)) search) ⌝ }
 {
-    match probe_wanted(search, p.count) {
+    match probe_wanted(p, search) {
         Asked::Probe(m) => {
-            let e = packet::probe_run(p, used, states, switch, trail, m);
+            let links = planning::links_in_service(p);
+            let e = packet::probe_run(p, used, states, switch, trail, links, m);
             Probed::Outcome(outcome_of(e))
         }
         Asked::Refused(k) => Probed::Refused(k),
@@ -364,7 +380,7 @@ pub fn run_probe(listing: &[u8], switch: u8, trail: &[u16], states: &[u8], searc
 fn name_of(p: Plant, switch: u8, trail: &[u16], said: Said) -> Named
     requires { ⌜ Sound p × Connected p ⌝ }
     requires { ⌜ now trail ≡ trailOf p ⌝ }
-    requires { ⌜ SaysIn (p .count) said ⌝ }
+    requires { ⌜ SaysIn (liveLinks p) said ⌝ }
     ensures { λ r. ⌜ namedAnswer r ≡ given (namedIn (orderOf p (trailOf p) switch) said) ⌝ }
 {
     match said {
@@ -386,7 +402,7 @@ fn name_in(p: Plant, switch: u8, trail: &[u16], search: Search) -> Named
     if differs(p, graph::arcs_in_use(p), trail) {
         return Named::Refused(Refusal::TrailDiffers);
     }
-    if unsound(search, p.count) {
+    if unsound(p, search) {
         return Named::Refused(Refusal::SearchUnsound);
     }
     name_of(p, switch, trail, search.says())
@@ -416,7 +432,10 @@ pub fn new_search(listing: &[u8], switch: u8) -> Begun
     let d = planning::plan_at(listing, switch);
     let v = d.verdict;
     match v {
-        Verdict::Accepted => Begun::State(Search::new(d.plant.count)),
+        Verdict::Accepted => {
+            let links = planning::links_in_service(d.plant);
+            Begun::State(Search::new(links))
+        }
         Verdict::Refused(k) => Begun::Refused(k),
     }
 }
@@ -443,7 +462,10 @@ pub fn perform(listing: &[u8], switch: u8, calls: &[u8]) -> Performed
     let d = planning::plan_at(listing, switch);
     let v = d.verdict;
     match v {
-        Verdict::Accepted => Performed::Done(search::perform(d.plant.count, calls)),
+        Verdict::Accepted => {
+            let links = planning::links_in_service(d.plant);
+            Performed::Done(search::perform(links, calls))
+        }
         Verdict::Refused(k) => Performed::Refused(k),
     }
 }

@@ -1,11 +1,10 @@
--- The order has each link that is crossed and no other, each once, and grows at its end. Assumes nothing.
-use mathlib.Core.Path.{_≡_, refl, sym, ap, _∙_, subst}
+-- The order has each link that is crossed and no other, each once. Assumes nothing.
+use mathlib.Core.Path.{_≡_, refl, sym, ap, subst}
 use mathlib.Core.Logic.{_⊎_, inl, inr}
-use mathlib.Core.Bool.{Bool, true, false, _||_, or-comm, or-assoc}
-use mathlib.Core.List.{List, [], _∷_, _++_}
+use mathlib.Core.Bool.{Bool, true, false}
+use mathlib.Core.List.{List, [], _∷_}
 use Prim.Native.Nat.{ℕ, _/_}
-use lib.Dec.{T, eqb}
-use Rattle.lists.specs.Tests.{choose}
+use lib.Dec.{T}
 use Rattle.lists.specs.Members.{In, memb, Distinct}
 use Rattle.lists.proofs.Members.{memb→in, in→memb}
 use Rattle.rings.specs.Order.{firsts, order}
@@ -77,42 +76,14 @@ module _ (r : List ℕ) where
   unfolding order
   order-label l h = crossed (orders [] r) l h
 
--- ---- one label more
+-- ---- by the first label: its link was seen before, or is new
 
-or-turn : (x y z : Bool) → (x || y) || z ≡ y || (x || z)
-or-turn x y z = ap (λ (b : Bool). b || z) (or-comm x y) ∙ or-assoc y x z
+module _ (seen w : List ℕ) (a : ℕ) where
+  by-first : (t : Bool) → memb (a / 2) seen ≡ t → firsts seen (a ∷ w) ≡ (elim t as (λ _. List ℕ) [ true ↦ firsts seen w | false ↦ (a / 2) ∷ firsts ((a / 2) ∷ seen) w ])
+  by-first t = ap (λ (b : Bool). elim b as (λ _. List ℕ) [ true ↦ firsts seen w | false ↦ (a / 2) ∷ firsts ((a / 2) ∷ seen) w ])
 
-firsts-snoc : (seen w : List ℕ) (a : ℕ)
-    → firsts seen (w ++ (a ∷ [])) ≡ choose (memb (a / 2) seen || memb (a / 2) (firsts seen w)) (firsts seen w) (firsts seen w ++ ((a / 2) ∷ []))
-firsts-snoc seen [] a = go (memb (a / 2) seen)
-  where
-    go : (t : Bool) → (elim t as (λ _. List ℕ) [ true ↦ [] | false ↦ (a / 2) ∷ [] ]) ≡ choose (t || false) [] ((a / 2) ∷ [])
-    go true = refl
-    go false = refl
-firsts-snoc seen (b ∷ w) a = go (memb (b / 2) seen) (firsts-snoc seen w a) (firsts-snoc ((b / 2) ∷ seen) w a)
-  where
-    l : ℕ
-    l = a / 2
+  pub firsts-old : memb (a / 2) seen ≡ true → firsts seen (a ∷ w) ≡ firsts seen w
+  firsts-old = by-first true
 
-    o : List ℕ
-    o = firsts ((b / 2) ∷ seen) w
-
-    put : (t : Bool) → (b / 2) ∷ choose t o (o ++ (l ∷ [])) ≡ choose t ((b / 2) ∷ o) ((b / 2) ∷ (o ++ (l ∷ [])))
-    put true = refl
-    put false = refl
-
-    all : (t : Bool) → List ℕ
-    all t = elim t as (λ _. List ℕ) [ true ↦ firsts seen w | false ↦ (b / 2) ∷ o ]
-
-    go : (t : Bool) → firsts seen (w ++ (a ∷ [])) ≡ choose (memb l seen || memb l (firsts seen w)) (firsts seen w) (firsts seen w ++ (l ∷ []))
-        → firsts ((b / 2) ∷ seen) (w ++ (a ∷ [])) ≡ choose ((eqb l (b / 2) || memb l seen) || memb l o) o (o ++ (l ∷ []))
-        → (elim t as (λ _. List ℕ) [ true ↦ firsts seen (w ++ (a ∷ [])) | false ↦ (b / 2) ∷ firsts ((b / 2) ∷ seen) (w ++ (a ∷ [])) ])
-        ≡ choose (memb l seen || memb l (all t)) (all t) (all t ++ (l ∷ []))
-    go true e f = e
-    go false e f = ap (λ (k : List ℕ). (b / 2) ∷ k) f ∙ put ((eqb l (b / 2) || memb l seen) || memb l o)
-        ∙ ap (λ (t : Bool). choose t ((b / 2) ∷ o) ((b / 2) ∷ (o ++ (l ∷ [])))) (or-turn (eqb l (b / 2)) (memb l seen) (memb l o))
-
--- the order with one label more: its link is put last, unless it is there
-pub order-snoc : (w : List ℕ) (a : ℕ) → order (w ++ (a ∷ [])) ≡ choose (memb (a / 2) (order w)) (order w) (order w ++ ((a / 2) ∷ []))
-unfolding order
-order-snoc w a = firsts-snoc [] w a
+  pub firsts-new : memb (a / 2) seen ≡ false → firsts seen (a ∷ w) ≡ (a / 2) ∷ firsts ((a / 2) ∷ seen) w
+  firsts-new = by-first false

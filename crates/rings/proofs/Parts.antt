@@ -1,18 +1,15 @@
 -- The outward labels are the two stretches of the trail, one after the other, and the way back is over the same two. Assumes nothing.
-use mathlib.Core.Path.{_≡_, refl, sym, ap, _∙_}
-use mathlib.Core.Bool.{Bool, true, false}
+use mathlib.Core.Path.{_≡_, sym, ap, _∙_}
 use mathlib.Core.List.{List, [], _∷_, _++_, append-assoc, append-nil}
-use Prim.Native.Nat.{ℕ, _-_, _/_, _≤_}
+use Prim.Native.Nat.{ℕ, _-_, _≤_}
 use native.Mathlib.Omega.{arith}
-use lib.Dec.{eqb}
 use lib.ListN.{length, take, drop, length-append, length-drop}
-use lib.Seq.{take-take, length-take-le}
-use Rattle.lists.specs.Tests.{choose}
+use lib.Seq.{take-take, length-take-le, take-append-seam}
 use Rattle.walks.specs.Arcs.{opposite}
 use Rattle.rings.specs.Ring.{readFrom, place, ring}
-use Rattle.rings.specs.Order.{order, nth}
-use Rattle.rings.specs.Probe.{upTo, back, outward}
+use Rattle.rings.specs.Probe.{back, outward}
 use Rattle.rings.proofs.Ring.{place-most}
+use Rattle.rings.proofs.Probe.{outward-front}
 use Rattle.lists.proofs.Parts.{take-append}
 use Rattle.rings.specs.Parts.{out, outStretch, outFront}
 
@@ -31,29 +28,13 @@ read-take n k w h i =
 
 -- ---- the outward labels are the first of the ring
 
-upTo-take : (l : ℕ) (w : List ℕ) → upTo l w ≡ take (length (upTo l w)) w
-upTo-take l [] = refl
-upTo-take l (a ∷ w) = ap (λ (v : List ℕ). a ∷ v) (go (eqb (a / 2) l) (upTo-take l w))
-  where
-    go : (b : Bool) → upTo l w ≡ take (length (upTo l w)) w → choose b [] (upTo l w) ≡ take (length (choose b [] (upTo l w))) w
-    go true e = refl
-    go false e = e
+outward-take : (m : ℕ) (r : List ℕ) → outward m r ≡ take (length (outward m r)) r
+outward-take m r =
+    let v = outward-front m r in
+    sym (ap (take (length (outward m r))) (sym (v .1)) ∙ take-append-seam (outward m r) (v .0))
 
-upTo-most : (l : ℕ) (w : List ℕ) → length (upTo l w) ≤ length w
-upTo-most l [] = omega arith
-upTo-most l (a ∷ w) = go (eqb (a / 2) l) (upTo-most l w)
-  where
-    go : (b : Bool) → length (upTo l w) ≤ length w → length (a ∷ choose b [] (upTo l w)) ≤ length (a ∷ w)
-    go true h = omega arith
-    go false h = omega arith
-
-pub outward-take : (m : ℕ) (r : List ℕ) → outward m r ≡ take (length (outward m r)) r
-unfolding outward
-outward-take m r = upTo-take (nth (order r) m) r
-
-pub outward-most : (m : ℕ) (r : List ℕ) → length (outward m r) ≤ length r
-unfolding outward
-outward-most m r = upTo-most (nth (order r) m) r
+outward-most : (m : ℕ) (r : List ℕ) → length (outward m r) ≤ length r
+outward-most m r = let v = outward-front m r in omega (arith, length-append (outward m r) (v .0), ap length (v .1))
 
 -- ---- the two stretches
 

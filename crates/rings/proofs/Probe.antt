@@ -1,7 +1,7 @@
 -- The outward labels: they cross the links of the order one after the other. The labels of a probe: which arcs they are, a walk, and when all their links are up.
 -- Assumes nothing.
 use mathlib.Core.Path.{_≡_, refl, sym, ap, ap₂, _∙_, subst}
-use mathlib.Core.Logic.{_⊎_, inl, inr}
+use mathlib.Core.Logic.{_⊎_, inl, inr, ⊎-elim}
 use mathlib.Core.Bool.{Bool, true, false, _&&_, and-self}
 use mathlib.Core.List.{List, [], _∷_, _++_}
 use Prim.Native.Nat.{ℕ, zero, suc, _-_, _/_, _≤_, _<_}
@@ -13,14 +13,15 @@ use borrow.Author.Tests.{eqb-true, eq-eqb, ne-eqb}
 use Rattle.lists.specs.Tests.{choose}
 use Rattle.lists.proofs.Tests.{bool?, same-test, and-comm, and-when}
 use Rattle.lists.specs.Members.{In, all}
-use Rattle.lists.proofs.Members.{in-append, getD-in, all-at, at-all, all-append}
+use Rattle.lists.proofs.Members.{in-append, in-append-left, getD-in, all-at, at-all, all-append}
 use Rattle.walks.specs.Walk.{Walk}
 use Rattle.walks.proofs.Walk.{walk-append}
 use Rattle.walks.specs.Arcs.{opposite}
 use Rattle.walks.proofs.Labels.{opposite-half}
-use Rattle.rings.proofs.Packet.{clear}
+use Rattle.rings.specs.Packet.{byLink}
 use Rattle.rings.specs.Order.{order, nth}
 use Rattle.rings.specs.Probe.{upTo, back, outward, probe}
+use Rattle.rings.proofs.Ring.{walk-split}
 use Rattle.rings.proofs.Order.{Firsts, none, old, new, orders, unseen, label-order, order-label}
 
 -- a link of the order is another than one seen before
@@ -53,7 +54,7 @@ order-rises r i j h k m = rising (orders [] r) (i - 1) (j - 1) (omega arith) (om
 -- ---- when the links of a probe's labels are up
 
 module _ (up : ℕ → Bool) where
-  upTo-clear : {seen w o : List ℕ} → Firsts seen w o → (m : ℕ) → all up seen ≡ true → m < length o → clear up (upTo (getD o m 0) w) ≡ all up (take (suc m) o)
+  upTo-clear : {seen w o : List ℕ} → Firsts seen w o → (m : ℕ) → all up seen ≡ true → m < length o → all (byLink up) (upTo (getD o m 0) w) ≡ all up (take (suc m) o)
   upTo-clear none m s h = absurd (omega arith)
   upTo-clear (old {seen} {w} {o} {a} j r) m s h =
       rw (other r a (getD o m 0) j (getD-in o m h), all-at up seen s (a / 2) j) (upTo-clear r m s h)
@@ -63,89 +64,87 @@ module _ (up : ℕ → Bool) where
       (and-when (up (a / 2)) (λ e. upTo-clear r m (rw e s) (omega arith)))
 
   -- up to the first crossing of the m-th link all links are up exactly if the first m of the order are
-  pub outward-clear : (r : List ℕ) (m : ℕ) → 1 ≤ m → m ≤ length (order r) → clear up (outward m r) ≡ all up (take m (order r))
+  pub outward-clear : (r : List ℕ) (m : ℕ) → 1 ≤ m → m ≤ length (order r) → all (byLink up) (outward m r) ≡ all up (take m (order r))
   unfolding outward order
   outward-clear r zero h i = absurd (omega arith)
   outward-clear r (suc m) h i = let e : suc m - 1 ≡ m = omega arith in rw e (upTo-clear (orders [] r) m refl (omega arith))
 
-  pub back-clear : (w : List ℕ) → clear up (back w) ≡ clear up w
+  pub back-clear : (w : List ℕ) → all (byLink up) (back w) ≡ all (byLink up) w
   back-clear [] = refl
   back-clear (a ∷ w) =
       all-append (λ b. up (b / 2)) (back w) (opposite a ∷ [])
       ∙ ap₂ (λ (x y : Bool). x && y) (back-clear w) (ap (λ (k : ℕ). up k && true) (opposite-half a) ∙ and-comm (up (a / 2)) true)
-      ∙ and-comm (clear up w) (up (a / 2))
+      ∙ and-comm (all (byLink up) w) (up (a / 2))
 
   -- in a whole ring all links are up exactly if those of its order are
-  pub ring-clear : (r : List ℕ) → clear up r ≡ all up (order r)
+  pub ring-clear : (r : List ℕ) → all (byLink up) r ≡ all up (order r)
   ring-clear r =
-      same-test (clear up r) (all up (order r))
-      (λ e. at-all up (order r) (λ l h. let c = order-label r l h in ap up (sym (c .2)) ∙ all-at (λ a. up (a / 2)) r e (c .0) (c .1)))
-      (λ e. at-all (λ a. up (a / 2)) r (λ a h. all-at up (order r) e (a / 2) (label-order r a h)))
+      same-test (all (byLink up) r) (all up (order r))
+      (λ e. at-all up (order r) (λ l h. let c = order-label r l h in ap up (sym (c .2)) ∙ all-at (byLink up) r e (c .0) (c .1)))
+      (λ e. at-all (byLink up) r (λ a h. all-at up (order r) e (a / 2) (label-order r a h)))
 
   -- so in a probe: all links of its labels are up exactly if the first m of the order are
-  pub probe-clear : (r : List ℕ) (e m : ℕ) → length (order r) ≡ e → 1 ≤ m → m ≤ e → clear up (probe e m r) ≡ all up (take m (order r))
+  pub probe-clear : (r : List ℕ) (e m : ℕ) → length (order r) ≡ e → 1 ≤ m → m ≤ e → all (byLink up) (probe e m r) ≡ all up (take m (order r))
   unfolding probe
   probe-clear r e m q h i = go (bool? (eqb m e))
     where
-      go : (eqb m e ≡ true) ⊎ (eqb m e ≡ false) → clear up (choose (eqb m e) r (outward m r ++ back (outward m r))) ≡ all up (take m (order r))
+      go : (eqb m e ≡ true) ⊎ (eqb m e ≡ false) → all (byLink up) (choose (eqb m e) r (outward m r ++ back (outward m r))) ≡ all up (take m (order r))
       go (inl t) = rw t (ring-clear r ∙ ap (all up) (sym (take-all m (order r) (omega (arith, eqb-true m e t)))))
       go (inr t) =
           rw t
-          (all-append (λ a. up (a / 2)) (outward m r) (back (outward m r)) ∙ ap (λ (b : Bool). clear up (outward m r) && b) (back-clear (outward m r))
-          ∙ and-self (clear up (outward m r)) ∙ outward-clear r m h (omega arith))
+          (all-append (byLink up) (outward m r) (back (outward m r)) ∙ ap (λ (b : Bool). all (byLink up) (outward m r) && b) (back-clear (outward m r))
+          ∙ and-self (all (byLink up) (outward m r)) ∙ outward-clear r m h (omega arith))
 
--- ---- the arcs of a probe's labels: those of the ring, and opposite ones
+-- ---- the outward labels are the first of the ring
 
-upTo-in : (l : ℕ) (w : List ℕ) (a : ℕ) → In a (upTo l w) → In a w
-upTo-in l [] a h = h
-upTo-in l (b ∷ w) a (inl e) = inl e
-upTo-in l (b ∷ w) a (inr h) = go (eqb (b / 2) l) h (upTo-in l w a)
+upTo-front : (l : ℕ) (w : List ℕ) → (v : List ℕ) × (upTo l w ++ v ≡ w)
+upTo-front l [] = ([], refl)
+upTo-front l (a ∷ w) = go (eqb (a / 2) l) (upTo-front l w)
   where
-    go : (t : Bool) → In a (choose t [] (upTo l w)) → (In a (upTo l w) → In a w) → In a (b ∷ w)
-    go true h rec = absurd h
-    go false h rec = inr (rec h)
+    go : (b : Bool) → (v : List ℕ) × (upTo l w ++ v ≡ w) → (v : List ℕ) × ((a ∷ choose b [] (upTo l w)) ++ v ≡ a ∷ w)
+    go true r = (w, refl)
+    go false r = (r .0, ap (λ (u : List ℕ). a ∷ u) (r .1))
 
-back-in : (w : List ℕ) (a : ℕ) → In a (back w) → (b : ℕ) × In b w × (a ≡ opposite b)
-back-in [] a h = absurd h
-back-in (b ∷ w) a h = go (in-append a (back w) (opposite b ∷ []) h) (back-in w a)
-  where
-    go : In a (back w) ⊎ In a (opposite b ∷ []) → (In a (back w) → (c : ℕ) × In c w × (a ≡ opposite c)) → (c : ℕ) × In c (b ∷ w) × (a ≡ opposite c)
-    go (inl i) rec = let r = rec i in (r .0, inr (r .1), r .2)
-    go (inr (inl e)) rec = (b, inl refl, e)
-    go (inr (inr z)) rec = absurd z
+pub outward-front : (m : ℕ) (r : List ℕ) → (v : List ℕ) × (outward m r ++ v ≡ r)
+unfolding outward
+outward-front m r = upTo-front (nth (order r) m) r
 
-pub probe-in : (e m : ℕ) (r : List ℕ) (a : ℕ) → In a (probe e m r) → In a r ⊎ ((b : ℕ) × In b r × (a ≡ opposite b))
-unfolding probe outward
-probe-in e m r a h = go (bool? (eqb m e))
-  where
-    two : In a (outward m r) ⊎ In a (back (outward m r)) → In a r ⊎ ((b : ℕ) × In b r × (a ≡ opposite b))
-    two (inl i) = inl (upTo-in (nth (order r) m) r a i)
-    two (inr i) = let c = back-in (outward m r) a i in inr (c .0, upTo-in (nth (order r) m) r (c .0) (c .1), c .2)
+-- ---- what holds of the labels of a ring, and of a label if it does of the opposite one, holds of a probe's labels
 
-    go : (eqb m e ≡ true) ⊎ (eqb m e ≡ false) → In a r ⊎ ((b : ℕ) × In b r × (a ≡ opposite b))
-    go (inl t) = inl (rw t at h)
-    go (inr t) = two (in-append a (outward m r) (back (outward m r)) (rw t at h))
+module _ (ok : ℕ → Type 0) (turn : (a : ℕ) → ok a → ok (opposite a)) where
+  back-all : (w : List ℕ) → ((a : ℕ) → In a w → ok a) → (a : ℕ) → In a (back w) → ok a
+  back-all [] f a h = absurd h
+  back-all (b ∷ w) f a h =
+      ⊎-elim (back-all w (λ c i. f c (inr i)) a) (λ i. ⊎-elim (λ e. subst ok (sym e) (turn b (f b (inl refl)))) (λ z. absurd z) i) (in-append a (back w) (opposite b ∷ []) h)
+
+  pub probe-all : (e m : ℕ) (r : List ℕ) → ((a : ℕ) → In a r → ok a) → (a : ℕ) → In a (probe e m r) → ok a
+  unfolding probe
+  probe-all e m r f a h = go (bool? (eqb m e))
+    where
+      out : (b : ℕ) → In b (outward m r) → ok b
+      out b i = let v = outward-front m r in f b (subst (λ (l : List ℕ). In b l) (v .1) (in-append-left b (outward m r) (v .0) i))
+
+      go : (eqb m e ≡ true) ⊎ (eqb m e ≡ false) → ok a
+      go (inl t) = f a (rw t at h)
+      go (inr t) = ⊎-elim (out a) (back-all (outward m r) out a) (in-append a (outward m r) (back (outward m r)) (rw t at h))
 
 -- ---- a probe is a closed walk
 
-module _ (tl hd : ℕ → ℕ) where
-  upTo-walk : (l : ℕ) (w : List ℕ) (x y : ℕ) → Walk tl hd w x y → (z : ℕ) × Walk tl hd (upTo l w) x z
-  upTo-walk l [] x y q = (y, q)
-  upTo-walk l (a ∷ w) x y q = go (bool? (eqb (a / 2) l)) (upTo-walk l w (hd a) y (q .1))
+module _ (tl hd : ℕ → ℕ) (tl-opposite : (a : ℕ) → tl (opposite a) ≡ hd a) (hd-opposite : (a : ℕ) → hd (opposite a) ≡ tl a) where
+  back-walk : (w : List ℕ) (x y : ℕ) → Walk tl hd w x y → Walk tl hd (back w) y x
+  back-walk [] x y e = sym e
+  back-walk (a ∷ w) x y q = walk-append tl hd (back w) (opposite a ∷ []) y (hd a) x (back-walk w (hd a) y (q .1)) (tl-opposite a, hd-opposite a ∙ q .0)
+
+  pub probe-walk : (e m : ℕ) (r : List ℕ) (s : ℕ) → Walk tl hd r s s → Walk tl hd (probe e m r) s s
+  unfolding probe
+  probe-walk e m r s q = go (bool? (eqb m e))
     where
-      go : (eqb (a / 2) l ≡ true) ⊎ (eqb (a / 2) l ≡ false) → (z : ℕ) × Walk tl hd (upTo l w) (hd a) z → (z : ℕ) × Walk tl hd (a ∷ choose (eqb (a / 2) l) [] (upTo l w)) x z
-      go (inl e) r = (hd a, (q .0, rw e refl))
-      go (inr e) r = (r .0, (q .0, rw e (r .1)))
+      v : (v : List ℕ) × (outward m r ++ v ≡ r)
+      v = outward-front m r
 
-  module _ (tl-opposite : (a : ℕ) → tl (opposite a) ≡ hd a) (hd-opposite : (a : ℕ) → hd (opposite a) ≡ tl a) where
-    back-walk : (w : List ℕ) (x y : ℕ) → Walk tl hd w x y → Walk tl hd (back w) y x
-    back-walk [] x y e = sym e
-    back-walk (a ∷ w) x y q = walk-append tl hd (back w) (opposite a ∷ []) y (hd a) x (back-walk w (hd a) y (q .1)) (tl-opposite a, hd-opposite a ∙ q .0)
+      c : (z : ℕ) × Walk tl hd (outward m r) s z × Walk tl hd (v .0) z s
+      c = walk-split tl hd (outward m r) (v .0) s s (subst (λ (l : List ℕ). Walk tl hd l s s) (sym (v .1)) q)
 
-    pub probe-walk : (e m : ℕ) (r : List ℕ) (s : ℕ) → Walk tl hd r s s → Walk tl hd (probe e m r) s s
-    unfolding probe outward
-    probe-walk e m r s q = go (bool? (eqb m e)) (upTo-walk (nth (order r) m) r s s q)
-      where
-        go : (eqb m e ≡ true) ⊎ (eqb m e ≡ false) → (z : ℕ) × Walk tl hd (outward m r) s z → Walk tl hd (choose (eqb m e) r (outward m r ++ back (outward m r))) s s
-        go (inl t) c = rw t q
-        go (inr t) c = rw t (walk-append tl hd (outward m r) (back (outward m r)) s (c .0) s (c .1) (back-walk (outward m r) s (c .0) (c .1)))
+      go : (eqb m e ≡ true) ⊎ (eqb m e ≡ false) → Walk tl hd (choose (eqb m e) r (outward m r ++ back (outward m r))) s s
+      go (inl t) = rw t q
+      go (inr t) = rw t (walk-append tl hd (outward m r) (back (outward m r)) s (c .0) s (c .1) (back-walk (outward m r) s (c .0) (c .1)))

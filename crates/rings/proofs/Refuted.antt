@@ -38,7 +38,7 @@ unfolding liveLinks count live
 by-hops = (omega arith, omega arith)
 
 -- all links are up, and probe 1 is lost on its way back for want of a rule
-back-by-table : run (inTable (ringWithTail .plant)) (λ l. true) (head (ringWithTail .plant)) 0 0 (probeOf (ringWithTail .plant) (ringWithTail .trail) 0 1)
+back-by-table : run (inTable (ringWithTail .plant)) (λ l. true) (head (ringWithTail .plant)) 0 0 (probeOf (ringWithTail .plant) (ringWithTail .trail) 0 (liveLinks (ringWithTail .plant)) 1)
     ≡ record { ended = false; hops = 1; last = 1 }
 unfolding probeOf ringOf probe outward orders.order rings.ring rings.readFrom rings.place leastFrom rulesFor inTable opposite tail head live liveLinks count used bridge entered earlier visited visitFrom arcs others visit scan
 back-by-table = refl

@@ -72,7 +72,7 @@ read-labels k w a = (
 
 module _ (tl hd : ℕ → ℕ) where
   -- a walk cut in two
-  walk-split : (x y : List ℕ) (u v : ℕ) → Walk tl hd (x ++ y) u v → (z : ℕ) × Walk tl hd x u z × Walk tl hd y z v
+  pub walk-split : (x y : List ℕ) (u v : ℕ) → Walk tl hd (x ++ y) u v → (z : ℕ) × Walk tl hd x u z × Walk tl hd y z v
   walk-split [] y u v q = (u, refl, q)
   walk-split (a ∷ x) y u v q = let r = walk-split x y (hd a) v (q .1) in (r .0, (q .0, r .1), r .2)
 

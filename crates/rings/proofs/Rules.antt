@@ -22,7 +22,7 @@ use Rattle.walks.proofs.Orientation.{used-arc}
 use Rattle.walks.proofs.Counting.{one-used}
 use Rattle.rings.specs.Packet.{run, rulesFor}
 use Rattle.rings.proofs.Packet.{run-same}
-use Rattle.rings.specs.Rules.{upBy, inTable, inAll, allRules}
+use Rattle.rings.specs.Rules.{upBy, upByLink, inTable, inAll, allRules}
 
 -- a rule is for an arc of its kind
 rule-kind : (kind : ℕ → Bool) (tl : ℕ → ℕ) (x a : ℕ) → rulesFor kind tl x a ≡ true → T (kind a)
@@ -57,8 +57,8 @@ module _ (p : Plant) where
 
   -- whatever rules a packet runs under, if they are for arcs of the plant: bytes past those of its links are not looked at
   pub bytes-past : (rule : ℕ → ℕ → Bool) → ((x a : ℕ) → rule x a ≡ true → Arc p a) → (states : List ℕ) (hd : ℕ → ℕ) (w : List ℕ) (at n : ℕ)
-      → run rule (upBy states) hd at n w ≡ run rule (upBy (take (p .count) states)) hd at n w
+      → run rule (upByLink states) hd at n w ≡ run rule (upByLink (take (p .count) states)) hd at n w
   unfolding upBy
   bytes-past rule arc states hd w at n =
-      run-same rule rule (upBy states) (upBy (take (p .count) states)) hd w at n (λ x a h. refl)
+      run-same rule rule (upByLink states) (upByLink (take (p .count) states)) hd w at n (λ x a h. refl)
       (λ x a h e. ap (λ (k : ℕ). not (eqb k 0)) (sym (getD-take (p .count) states (a / 2) 0 (live-below p (a / 2) (arc x a e)))))

@@ -13,7 +13,7 @@ use Rattle.walks.specs.Visit.{scan, visit}
 use Rattle.walks.specs.Arcs.{opposite, tail, head}
 use Rattle.walks.specs.Graph.{arcs, others, visitFrom, visited, bridge, entered, earlier, used, liveLinks}
 use Rattle.walks.specs.Cases as plants
-use Rattle.rings.specs.Packet.{rulesFor}
+use Rattle.rings.specs.Packet.{byLink, rulesFor}
 use Rattle.rings.specs.Rules.{inTable, inAll}
 use Rattle.rings.specs.Ring as rings
 use Rattle.rings.specs.Order as orders
@@ -42,8 +42,8 @@ switchOf p w s = record {
   place = rings.place (tail p) s w;
   ring = ringOf p w s;
   order = orderOf p w s;
-  probes = map (probeOf p w s) (range 1 (liveLinks p));
-  returned = map (λ down. keep (λ m. probeRun p w s (λ l. not (eqb l down)) m .ended) (range 1 (liveLinks p))) (keep (live p) (range 0 (p .count)));
+  probes = map (probeOf p w s (liveLinks p)) (range 1 (liveLinks p));
+  returned = map (λ down. keep (λ m. probeRun p w s (liveLinks p) (byLink (λ l. not (eqb l down))) m .ended) (range 1 (liveLinks p))) (keep (live p) (range 0 (p .count)));
 }
 
 abbrev pub rowOf : Plant → List ℕ → Row

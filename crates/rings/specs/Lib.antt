@@ -1,6 +1,5 @@
 pub mod Packet
 pub mod Rules
-pub mod Trail
 pub mod Ring
 pub mod Order
 pub mod Probe

@@ -11,13 +11,17 @@ pub record End : Type 0 where
   pub hops : ℕ
   pub last : ℕ
 
--- rules as a test on switch and label, the links that are up as a test on links, and the switch that a label's arc leads to
+-- a test on links as one on labels: that of a label's link
+abbrev pub byLink : (ℕ → Bool) → ℕ → Bool
+byLink t a = t (a / 2)
+
+-- rules as a test on switch and label, what is up as a test on labels, and the switch that a label's arc leads to. A label is up if its link can be crossed that way
 module _ (rule : ℕ → ℕ → Bool) (up : ℕ → Bool) (hd : ℕ → ℕ) where
   -- a packet at a switch, after n hops, with the labels that it carries. With none left it has ended there. At a switch with a rule for the next label, and that
-  -- label's link up, it crosses; otherwise it is lost. The state of the link is looked at only where there is a rule
+  -- label up, it crosses; otherwise it is lost. The rule is looked for before the state
   abbrev pub run : ℕ → ℕ → List ℕ → End
   run at n [] = record { ended = true; hops = n; last = at }
-  run at n (a ∷ w) = choose (rule at a && up (a / 2)) (run (hd a) (suc n) w) (record { ended = false; hops = n; last = at })
+  run at n (a ∷ w) = choose (rule at a && up a) (run (hd a) (suc n) w) (record { ended = false; hops = n; last = at })
 
   -- a packet that came so far goes on with these labels, unless it is lost
   unfoldable pub runOn : End → List ℕ → End

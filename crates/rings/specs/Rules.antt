@@ -9,11 +9,15 @@ use Rattle.plant.specs.declared.Plant.{Plant}
 use Rattle.plant.specs.Links.{live}
 use Rattle.walks.specs.Arcs.{tail}
 use Rattle.walks.specs.Graph.{used}
-use Rattle.rings.specs.Packet.{rulesFor}
+use Rattle.rings.specs.Packet.{byLink, rulesFor}
 
 -- is link l up, by one byte for each link? 0 is down, any other value up
 unfoldable pub upBy : List ℕ → ℕ → Bool
 upBy states l = not (eqb (getD states l 0) 0)
+
+-- then either label of a link is up if the link is
+abbrev pub upByLink : List ℕ → ℕ → Bool
+upByLink states = byLink (upBy states)
 
 module _ (p : Plant) where
   -- the forwarding table (rule page) has a rule for each arc in use

@@ -14,7 +14,7 @@ use Rattle.routes.specs.Steps.{goal, next}
 use Rattle.routes.proofs.Distances.{Hop, dist-self}
 use Rattle.routes.proofs.Marks.{mark-before, remaining, mark-fewer, marks-less}
 use Rattle.routes.proofs.Nearest.{Nearest, Finished, nearest-none, nearest-is, nearest?}
-use Rattle.routes.proofs.Steps.{Strong, goal-some, goal-finished, next-at, next-on, stays, next-towards}
+use Rattle.routes.proofs.Steps.{Strong, goal-some, goal-finished, next-at, next-on, stays, nearest-in, next-towards}
 
 module _ (S n : ℕ) (tl hd : ℕ → ℕ) (ok : ℕ → Bool) (start : ℕ) where
   abbrev N : (ℕ → Bool) → ℕ → ℕ → Type 0
@@ -93,7 +93,7 @@ module _ (S n : ℕ) (tl hd : ℕ → ℕ) (ok : ℕ → Bool) (start : ℕ) whe
     a = next S n tl hd ok start m u
 
     abbrev By : ℕ → Type 0
-    By b = (b < n) × (from f m u ≡ b ∷ from f (mark b m) (hd b))
+    By b = (b < n) × T (part (hd b)) × (from f m u ≡ b ∷ from f (mark b m) (hd b))
 
     -- the trail goes on by the next hop, or has ended
     pub next-hop : By a ⊎ ((n ≤ a) × (from f m u ≡ []))
@@ -108,6 +108,7 @@ module _ (S n : ℕ) (tl hd : ℕ → ℕ) (ok : ℕ → Bool) (start : ℕ) whe
         go : (u ≡ to) ⊎ (u ≡ to → ⊥) → N m u (best m u) ⊎ None m → By a ⊎ ((n ≤ a) × (from f m u ≡ []))
         go (inl e) (inl q) = inl (subst By (sym (next-at S n tl hd ok start m u e)) (
           q .is-arc,
+          nearest-in S n tl hd ok start part st m u (best m u) q .1,
           leg f m u (best m u) left q ∙ ap (λ (w : List ℕ). legThen f m w (best m u)) (way-none u (tl (best m u)) (e ∙ goal-some S n tl hd ok start m u (q .is-arc))),
         ))
         go (inl e) (inr g) =
@@ -118,7 +119,7 @@ module _ (S n : ℕ) (tl hd : ℕ → ℕ) (ok : ℕ → Bool) (start : ℕ) whe
             let r = first (tl b) e k in
             let q′ = stays S n tl hd ok start m u b a q (r .0) (λ z. k (sym (e ∙ ap tl z ∙ r .0 .leaves))) in
             let less : remaining ok n (mark a m) ≤ f = omega (arith, mark-fewer ok n m a, left) in
-            inl (r .0 .is-arc, leg f m u b left q ∙ ap (λ (w : List ℕ). legThen f m w b) (r .1) ∙ ap (λ (w : List ℕ). a ∷ w) (sym (leg f (mark a m) (hd a) b less q′)))
+            inl (r .0 .is-arc, st .heads a (r .0 .is-arc) (r .0 .in-use), leg f m u b left q ∙ ap (λ (w : List ℕ). legThen f m w b) (r .1) ∙ ap (λ (w : List ℕ). a ∷ w) (sym (leg f (mark a m) (hd a) b less q′)))
         go (inr k) (inr g) =
             let r = first start (goal-finished S n tl hd ok start m u g) k in
-            inl (r .0 .is-arc, last-leg f m u g ∙ r .1 ∙ ap (λ (w : List ℕ). a ∷ w) (sym (last-leg f (mark a m) (hd a) (λ b i t. g b i (mark-before ok m a b t)))))
+            inl (r .0 .is-arc, st .heads a (r .0 .is-arc) (r .0 .in-use), last-leg f m u g ∙ r .1 ∙ ap (λ (w : List ℕ). a ∷ w) (sym (last-leg f (mark a m) (hd a) (λ b i t. g b i (mark-before ok m a b t)))))

@@ -1,6 +1,6 @@
 -- One hop of the trail: where it goes to, and that the nearest arc stays the nearest on the way. The second half assumes that the part is strongly connected.
 use mathlib.Core.Path.{_≡_, refl, sym, _∙_, subst}
-use mathlib.Core.Logic.{_⊎_, inl, inr}
+use mathlib.Core.Logic.{⊎-elim}
 use mathlib.Core.Bool.{Bool, not}
 use Prim.Native.Nat.{ℕ, zero, suc, _≤_, _<_}
 use native.Mathlib.Omega.{arith}
@@ -86,11 +86,9 @@ module _ (S n : ℕ) (tl hd : ℕ → ℕ) (ok : ℕ → Bool) (start : ℕ) whe
     nearest-in m u a p = let t = and-left (ok a) (not (m a)) (p .is-left) in (st .tails a (p .is-arc) t, st .heads a (p .is-arc) t)
 
     goal-in : (m : ℕ → Bool) (u : ℕ) → T (part (to m u))
-    goal-in m u = go (nearest? S n tl hd ok m u)
-      where
-        go : Nearest S n tl hd ok m u (best m u) ⊎ Finished S n tl hd ok m → T (part (to m u))
-        go (inl p) = subst (λ (x : ℕ). T (part x)) (sym (goal-some m u (p .is-arc))) (nearest-in m u (best m u) p .0)
-        go (inr f) = subst (λ (x : ℕ). T (part x)) (sym (goal-finished m u f)) (st .starts)
+    goal-in m u =
+        ⊎-elim (λ p. subst (λ (x : ℕ). T (part x)) (sym (goal-some m u (p .is-arc))) (nearest-in m u (best m u) p .0))
+        (λ f. subst (λ (x : ℕ). T (part x)) (sym (goal-finished m u f)) (st .starts)) (nearest? S n tl hd ok m u)
 
     module _ (m : ℕ → Bool) (u : ℕ) (h : T (part u)) where
       -- away from the goal, the next hop is one towards it
@@ -99,11 +97,8 @@ module _ (S n : ℕ) (tl hd : ℕ → ℕ) (ok : ℕ → Bool) (start : ℕ) whe
 
       -- a next hop that does not cross the nearest arc leaves it the nearest
       pub aim-stays : (then m u ≡ best m u → ⊥) → best (mark (then m u) m) (hd (then m u)) ≡ best m u
-      aim-stays on = go (nearest? S n tl hd ok m u)
-        where
-          go : Nearest S n tl hd ok m u (best m u) ⊎ Finished S n tl hd ok m → best (mark (then m u) m) (hd (then m u)) ≡ best m u
-          go (inl q) =
-              let t = subst (λ (v : ℕ). Hop S n tl hd ok u v (then m u)) (goal-some m u (q .is-arc)) (next-towards (λ e. on (next-at m u e))) in
-              nearest-is S n tl hd ok (mark (then m u) m) (hd (then m u)) (best m u) (stays m u (best m u) (then m u) q t (λ e. on (sym e)))
-          go (inr f) =
-              nearest-none S n tl hd ok (mark (then m u) m) (hd (then m u)) (λ b i t. f b i (mark-before ok m (then m u) b t)) ∙ sym (nearest-none S n tl hd ok m u f)
+      aim-stays on =
+          ⊎-elim (λ q.
+          let t = subst (λ (v : ℕ). Hop S n tl hd ok u v (then m u)) (goal-some m u (q .is-arc)) (next-towards (λ e. on (next-at m u e))) in
+          nearest-is S n tl hd ok (mark (then m u) m) (hd (then m u)) (best m u) (stays m u (best m u) (then m u) q t (λ e. on (sym e))))
+          (λ f. nearest-none S n tl hd ok (mark (then m u) m) (hd (then m u)) (λ b i t. f b i (mark-before ok m (then m u) b t)) ∙ sym (nearest-none S n tl hd ok m u f)) (nearest? S n tl hd ok m u)

@@ -8,13 +8,13 @@ use mathlib.Core.List.{List, _∷_, _++_}
 use Prim.Native.Nat.{ℕ, zero, suc, _+_, _-_, _*_, _≤_, _<_}
 use native.Mathlib.Omega.{arith}
 use native.Mathlib.Nat.{mul-le-mul-left}
-use lib.Dec.{T, ltb, lt→ltb}
+use lib.Dec.{T}
 use lib.ListN.{length, length-append}
 use Rattle.lists.proofs.Tests.{eq?, and-left, and-both}
 use Rattle.lists.specs.Members.{In}
 use Rattle.lists.proofs.Members.{in?, in-append, in-append-left, in-append-right}
 use Rattle.lists.specs.Count.{count}
-use Rattle.lists.proofs.Count.{count-le, count-all, count-every}
+use Rattle.lists.proofs.Count.{count-le, count-all}
 use Rattle.walks.specs.Walk.{Walk}
 use Rattle.walks.proofs.Walk.{walk-append}
 use Rattle.routes.specs.Distance.{route}
@@ -102,7 +102,7 @@ module _ (S n : ℕ) (tl hd : ℕ → ℕ) (ok : ℕ → Bool) (start : ℕ) (pa
           subst (Finish m u) (sym (one-leg S n tl hd ok start f m u a p)) (leg m u a _ h p r)
       go (inr g) rec = subst (Finish m u) (sym (last-leg S n tl hd ok start (suc f) m u g)) (last m u h g)
 
-  trail-tour : Tour n tl hd ok start (K * count n ok + (K - 1)) (trail S n tl hd ok start)
+  pub trail-tour : Tour n tl hd ok start (K * count n ok + (K - 1)) (trail S n tl hd ok start)
   unfolding trail
   trail-tour =
       let few = count-le n (uncrossed ok unmarked) ok (λ a h t. and-left (ok a) true t) in
@@ -113,14 +113,3 @@ module _ (S n : ℕ) (tl hd : ℕ → ℕ) (ok : ℕ → Bool) (start : ℕ) (pa
         crosses = λ a h. w .covers a (h .0) (and-both (ok a) true (h .1) tt);
         short = omega (arith, w .short, mul-le-mul-left K few);
       }
-
--- ---- the whole plant as the part
-
-abbrev pub whole : ℕ → ℕ → Bool
-whole S x = ltb x S
-
-pub theorem-D : (S n : ℕ) (tl hd : ℕ → ℕ) (ok : ℕ → Bool) (start : ℕ) → Strong S n tl hd ok start (whole S)
-    → Tour n tl hd ok start (S * count n ok + (S - 1)) (trail S n tl hd ok start)
-theorem-D S n tl hd ok start st =
-    subst (λ (k : ℕ). Tour n tl hd ok start (k * count n ok + (k - 1)) (trail S n tl hd ok start)) (count-every S (whole S) (λ x h. lt→ltb x S h))
-    (trail-tour S n tl hd ok start (whole S) st)

@@ -51,10 +51,10 @@ module _ (p : Plant) where
   module _ (sound : Sound p) (con : Connected p) where
     -- links plus bridges
     pub rules-number : length (rulesOf p) ≡ p .count + bridges p
-    rules-number = rules-count ∙ arcs-in-use-all p (sound-valid p sound) con
+    rules-number = rules-count ∙ arcs-in-use-all p (sound-valid p sound) (sound .start-in) con
 
     pub few-rules : length (rulesOf p) ≤ maxRules
-    few-rules = omega (arith, rules-number, few-bridges p (sound-valid p sound) con, sound .few-links, sound .few-switches)
+    few-rules = omega (arith, rules-number, few-bridges p (sound-valid p sound) (sound .start-in) con, sound .few-links, sound .few-switches)
 
     module _ (a : ℕ) (h : a < 2 * p .count) (e : used p a ≡ true) where
       -- there is a place for the next rule

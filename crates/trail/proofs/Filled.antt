@@ -1,6 +1,6 @@
--- A buffer that is filled and a list that is compared, place by place; lists that are the same are equal. Assumes nothing.
+-- A buffer that is filled and a list that is compared, place by place; a list that begins with another of its length is that. Assumes nothing.
 use mathlib.Core.Path.{_≡_, refl, sym, ap, ap₂, _∙_, subst}
-use mathlib.Core.Logic.{⊎-elim, _↔_}
+use mathlib.Core.Logic.{_↔_}
 use mathlib.Core.Bool.{Bool, true, false, _&&_}
 use mathlib.Core.List.{List, [], _∷_}
 use Prim.Native.Nat.{ℕ, _+_, _≤_, _<_}
@@ -10,55 +10,54 @@ use borrow.Author.Tests.{eqb-true, eq-eqb, ne-eqb}
 use lib.Dec.{eqb}
 use lib.ListN.{length, getD, set, drop, drop-of-length-le}
 use lib.Seq.{sets, drop-cons}
-use Rattle.lists.proofs.Tests.{not-both, and-true, eq?}
-use Rattle.trail.specs.Filled.{sameList}
+use Rattle.lists.proofs.Tests.{and-true}
+use Rattle.trail.specs.Filled.{beginsWith}
 
 -- a list stored from place i on: its first, then the others
 pub store-one : (b w v : List ℕ) (i a : ℕ) → w ≡ a ∷ v → sets b i w ≡ sets (set b i a) (i + 1) v
 store-one b w v i a e = ap (sets b i) e ∙ ap (λ (k : ℕ). sets (set b i a) k v) (sym (add-one i))
 
--- ---- a list compared from place i on
+-- ---- a lent list compared from place i on
 
 module _ (l w v : List ℕ) (i a : ℕ) (e : w ≡ a ∷ v) where
-  pub same-short : length l ≤ i → false ≡ sameList (drop i l) w
-  unfolding sameList
-  same-short h = sym (ap₂ sameList (drop-of-length-le l h) e)
+  pub begins-short : length l ≤ i → beginsWith (drop i l) w ≡ false
+  unfolding beginsWith
+  begins-short h = ap₂ beginsWith (drop-of-length-le l h) e
 
   module _ (h : i < length l) where
     -- by what the first comparison says
-    first : (b : Bool) → eqb (getD l i 0) a ≡ b → sameList (drop i l) w ≡ b && sameList (drop (i + 1) l) v
-    unfolding sameList
-    first b q = ap₂ sameList (drop-cons l i 0 h) e ∙ ap₂ (λ (c : Bool) (k : ℕ). c && sameList (drop k l) v) q (sym (add-one i))
+    first : (b : Bool) → eqb (getD l i 0) a ≡ b → beginsWith (drop i l) w ≡ b && beginsWith (drop (i + 1) l) v
+    unfolding beginsWith
+    first b q = ap₂ beginsWith (drop-cons l i 0 h) e ∙ ap₂ (λ (c : Bool) (k : ℕ). c && beginsWith (drop k l) v) q (sym (add-one i))
 
-    pub same-differs : (getD l i 0 ≡ a → ⊥) → false ≡ sameList (drop i l) w
-    same-differs f = sym (first false (ne-eqb (getD l i 0) a f))
+    pub begins-differs : (getD l i 0 ≡ a → ⊥) → beginsWith (drop i l) w ≡ false
+    begins-differs f = first false (ne-eqb (getD l i 0) a f)
 
-    pub same-one : getD l i 0 ≡ a → sameList (drop i l) w ≡ sameList (drop (i + 1) l) v
-    same-one f = first true (eq-eqb (getD l i 0) a f)
+    pub begins-one : getD l i 0 ≡ a → beginsWith (drop i l) w ≡ beginsWith (drop (i + 1) l) v
+    begins-one f = first true (eq-eqb (getD l i 0) a f)
 
-pub same-end : (l w : List ℕ) (i : ℕ) → i ≤ length l → w ≡ [] → eqb i (length l) ≡ sameList (drop i l) w
-unfolding sameList
-same-end l w i h e = ⊎-elim
-    (λ q. let k : length l ≤ i = omega arith in eq-eqb i (length l) q ∙ sym (ap₂ sameList (drop-of-length-le l k) e))
-    (λ f. ne-eqb i (length l) f ∙ sym (ap₂ sameList (drop-cons l i 0 (omega (arith, f))) e))
-    (eq? i (length l))
+pub begins-none : (l w : List ℕ) → w ≡ [] → beginsWith l w ≡ true
+unfolding beginsWith
+begins-none l w e = rw e
 
--- ---- two lists that are the same in their whole length are equal
+-- ---- a list that begins with another and has its length is the other, and so is no other list
 
-same-there : (xs ys : List ℕ) → sameList xs ys ≡ true → xs ≡ ys
-unfolding sameList
-same-there [] [] e = refl
-same-there [] (y ∷ ys) e = absurd (not-both false e refl)
-same-there (x ∷ xs) [] e = absurd (not-both false e refl)
-same-there (x ∷ xs) (y ∷ ys) e =
-    let h = and-true (eqb x y) (sameList xs ys) e in
-    ap₂ (λ (z : ℕ) (zs : List ℕ). z ∷ zs) (eqb-true x y (h .0)) (same-there xs ys (h .1))
+whole : (l w : List ℕ) → beginsWith l w ≡ true → length l ≡ length w → l ≡ w
+unfolding beginsWith
+whole [] [] e q = refl
+whole (x ∷ l) [] e q = absurd (omega arith)
+whole [] (a ∷ w) e q = absurd (omega arith)
+whole (x ∷ l) (a ∷ w) e q =
+    let h = and-true (eqb x a) (beginsWith l w) e in
+    ap₂ (λ (z : ℕ) (zs : List ℕ). z ∷ zs) (eqb-true x a (h .0)) (whole l w (h .1) (omega arith))
 
-same-itself : (xs : List ℕ) → sameList xs xs ≡ true
-unfolding sameList
-same-itself [] = refl
-same-itself (x ∷ xs) = ap (λ (b : Bool). b && sameList xs xs) (eq-eqb x x refl) ∙ same-itself xs
+itself : (w : List ℕ) → beginsWith w w ≡ true
+unfolding beginsWith
+itself [] = refl
+itself (a ∷ w) = rw (eq-eqb a a refl) (itself w)
 
--- it is equality
-pub same-is : (xs ys : List ℕ) → (sameList xs ys ≡ true) ↔ (xs ≡ ys)
-same-is xs ys = (same-there xs ys, λ e. subst (λ (zs : List ℕ). sameList xs zs ≡ true) e (same-itself xs))
+pub same-is : (l w : List ℕ) → (beginsWith l w && eqb (length l) (length w) ≡ true) ↔ (l ≡ w)
+same-is l w = (
+  λ e. let h = and-true (beginsWith l w) (eqb (length l) (length w)) e in whole l w (h .0) (eqb-true (length l) (length w) (h .1)),
+  λ e. subst (λ (v : List ℕ). beginsWith l v && eqb (length l) (length v) ≡ true) e (rw (itself l, eq-eqb (length l) (length l) refl)),
+)

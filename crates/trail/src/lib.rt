@@ -10,12 +10,12 @@ ghost use Rattle.lists.specs.Tests.{choose};
 ghost use Rattle.limits.specs.Limits.{maxSwitches, maxLinks};
 ghost use Rattle.limits.specs.Sound.{Sound};
 ghost use Rattle.walks.specs.Arcs.{head};
-ghost use Rattle.routes.specs.Plants.{trailOf};
+ghost use Rattle.routes.specs.Plants.{trailFrom, trailOf};
 ghost use Rattle.distance.specs.Table.{cell};
 ghost use Rattle.distance.specs.Distances.{distancesIn};
 ghost use Rattle.trail.specs.Rows.{Lowered};
-ghost use Rattle.trail.specs.Steps.{Planned, firstHopsIn, nearestIn, walkerAt, Stands};
-ghost use Rattle.trail.specs.Filled.{filledWith, sameList};
+ghost use Rattle.trail.specs.Steps.{Rooted, Planned, firstHopsIn, nearestIn, walkerAt, Stands};
+ghost use Rattle.trail.specs.Filled.{filledWith, Tells};
 use plant::Plant;
 use plant::head_of;
 use plant::tail_of;
@@ -28,6 +28,12 @@ pub struct Walker {
     pub aim: u16,
     pub next: u16,
     pub crossed: [bool; Plant::LABELS],
+}
+
+// A lent slice that begins with the trail, of so many hops, or another.
+pub enum Compared {
+    Same(usize),
+    Other,
 }
 
 // A row of first hops, with label a in each place where the distance from the arc's head, `near`, is less than that from its tail, `far`.
@@ -126,23 +132,25 @@ fn next(via: &[[u16; Plant::PLACES]; Plant::PLACES], u: u8, to: u8, aim: u16) ->
     via[x][y]
 }
 
-// A walker at u that looks for the nearest arc anew. With none left it goes to the start.
+// A walker at u that looks for the nearest arc anew. With none left it goes to the root.
 fn aimed(
     p: Plant,
     used: [bool; Plant::LABELS],
     t: [[u8; Plant::PLACES]; Plant::PLACES],
     via: &[[u16; Plant::PLACES]; Plant::PLACES],
+    root: u8,
     crossed: [bool; Plant::LABELS],
     u: u8,
 ) -> Walker
     requires { ⌜ Sound p ⌝ }
     requires { ⌜ t ≡ distancesIn p used ⌝ }
     requires { ⌜ now via ≡ firstHopsIn p used ⌝ }
+    requires { ⌜ root < p .switches ⌝ }
     requires { ⌜ u < p .switches ⌝ }
-    ensures { λ r. ⌜ r ≡ walkerAt p used crossed u ⌝ }
+    ensures { λ r. ⌜ r ≡ walkerAt p used root crossed u ⌝ }
 {
     let a = nearest(p, used, t, crossed, u);
-    let mut to = p.start;
+    let mut to = root;
     if a < 2 * p.count {
         let i = a as usize;
         to = tail_of(p.links[i / 2], i);
@@ -162,43 +170,124 @@ fn step(
     used: [bool; Plant::LABELS],
     t: [[u8; Plant::PLACES]; Plant::PLACES],
     via: &[[u16; Plant::PLACES]; Plant::PLACES],
+    root: u8,
     w: Walker,
 ) -> Walker
-    requires { ⌜ Planned p used ⌝ }
+    requires { ⌜ Rooted p root used ⌝ }
     requires { ⌜ t ≡ distancesIn p used ⌝ }
     requires { ⌜ now via ≡ firstHopsIn p used ⌝ }
-    requires { ⌜ Stands p used w ⌝ }
+    requires { ⌜ Stands p used root w ⌝ }
     requires { ⌜ w .next < 2 * p .count ⌝ }
-    ensures { λ r. ⌜ r ≡ walkerAt p used (set (w .crossed) (w .next) true) (head p (w .next)) ⌝ }
+    ensures { λ r. ⌜ r ≡ walkerAt p used root (set (w .crossed) (w .next) true) (head p (w .next)) ⌝ }
 {
     let a = w.next as usize;
     let at = head_of(p.links[a / 2], a);
     let mut v = w;
     v.crossed[a] = true;
     if v.next == v.aim {
-        return aimed(p, used, t, via, v.crossed, at);
+        return aimed(p, used, t, via, root, v.crossed, at);
     }
     v.at = at;
     v.next = next(via, at, v.to, v.aim);
     v
 }
 
-// The walker at the start, with no arc crossed.
+// The walker at the root, with no arc crossed.
 fn begin(
     p: Plant,
     used: [bool; Plant::LABELS],
     t: [[u8; Plant::PLACES]; Plant::PLACES],
     via: &[[u16; Plant::PLACES]; Plant::PLACES],
+    root: u8,
 ) -> Walker
     requires { ⌜ Sound p ⌝ }
     requires { ⌜ t ≡ distancesIn p used ⌝ }
     requires { ⌜ now via ≡ firstHopsIn p used ⌝ }
-    ensures { λ r. ⌜ r ≡ walkerAt p used (replicate (2 * maxLinks) false) (p .start) ⌝ }
+    requires { ⌜ root < p .switches ⌝ }
+    ensures { λ r. ⌜ r ≡ walkerAt p used root (replicate (2 * maxLinks) false) root ⌝ }
 {
-    aimed(p, used, t, via, [false; Plant::LABELS], p.start)
+    aimed(p, used, t, via, root, [false; Plant::LABELS], root)
 }
 
-// The number of hops of the trail.
+// The number of hops of the trail from the root.
+pub fn hops_from(
+    p: Plant,
+    used: [bool; Plant::LABELS],
+    t: [[u8; Plant::PLACES]; Plant::PLACES],
+    via: &[[u16; Plant::PLACES]; Plant::PLACES],
+    root: u8,
+) -> u16
+    requires { ⌜ Rooted p root used ⌝ }
+    requires { ⌜ t ≡ distancesIn p used ⌝ }
+    requires { ⌜ now via ≡ firstHopsIn p used ⌝ }
+    ensures { λ r. ⌜ r ≡ length (trailFrom p root) ⌝ }
+{
+    let n = 2 * p.count;
+    let mut w = begin(p, used, t, via, root);
+    let mut count: u16 = 0;
+    while w.next < n {
+        w = step(p, used, t, via, root, w);
+        count += 1;
+    }
+    count
+}
+
+// The trail from the root into the front of a lent buffer that has room for it; the places after it keep their contents.
+pub fn fill_from(
+    p: Plant,
+    used: [bool; Plant::LABELS],
+    t: [[u8; Plant::PLACES]; Plant::PLACES],
+    via: &[[u16; Plant::PLACES]; Plant::PLACES],
+    root: u8,
+    buf: &mut [u16],
+)
+    requires { ⌜ Rooted p root used ⌝ }
+    requires { ⌜ t ≡ distancesIn p used ⌝ }
+    requires { ⌜ now via ≡ firstHopsIn p used ⌝ }
+    requires { ⌜ length (trailFrom p root) ≤ length (now buf) ⌝ }
+    ensures { λ _. ⌜ now (buf .exit) ≡ filledWith (trailFrom p root) (now (buf .entry)) ⌝ }
+{
+    let end = 2 * p.count;
+    let mut w = begin(p, used, t, via, root);
+    let mut i: usize = 0;
+    while w.next < end {
+        buf[i] = w.next;
+        w = step(p, used, t, via, root, w);
+        i += 1;
+    }
+}
+
+// Does the lent slice begin with the hops of the trail from the root? Places past them are not looked at.
+pub fn compare_from(
+    p: Plant,
+    used: [bool; Plant::LABELS],
+    t: [[u8; Plant::PLACES]; Plant::PLACES],
+    via: &[[u16; Plant::PLACES]; Plant::PLACES],
+    root: u8,
+    lent: &[u16],
+) -> Compared
+    requires { ⌜ Rooted p root used ⌝ }
+    requires { ⌜ t ≡ distancesIn p used ⌝ }
+    requires { ⌜ now via ≡ firstHopsIn p used ⌝ }
+    ensures { λ r. ⌜ Tells (now (lent .entry)) (trailFrom p root) r ⌝ }
+{
+    let n = 2 * p.count;
+    let mut w = begin(p, used, t, via, root);
+    let mut k: usize = 0;
+    while w.next < n {
+        if lent.len() <= k {
+            return Compared::Other;
+        }
+        if lent[k] != w.next {
+            return Compared::Other;
+        }
+        w = step(p, used, t, via, root, w);
+        k += 1;
+    }
+    Compared::Same(k)
+}
+
+// The number of hops of the trail of a connected plant.
 pub fn hops(
     p: Plant,
     used: [bool; Plant::LABELS],
@@ -210,17 +299,10 @@ pub fn hops(
     requires { ⌜ now via ≡ firstHopsIn p used ⌝ }
     ensures { λ r. ⌜ r ≡ length (trailOf p) ⌝ }
 {
-    let n = 2 * p.count;
-    let mut w = begin(p, used, t, via);
-    let mut count: u16 = 0;
-    while w.next < n {
-        w = step(p, used, t, via, w);
-        count += 1;
-    }
-    count
+    hops_from(p, used, t, via, p.start)
 }
 
-// The trail into the front of a lent buffer that has room for it; the places after it keep their contents.
+// The trail of a connected plant into the front of a lent buffer that has room for it.
 pub fn fill(
     p: Plant,
     used: [bool; Plant::LABELS],
@@ -234,41 +316,21 @@ pub fn fill(
     requires { ⌜ length (trailOf p) ≤ length (now buf) ⌝ }
     ensures { λ _. ⌜ now (buf .exit) ≡ filledWith (trailOf p) (now (buf .entry)) ⌝ }
 {
-    let end = 2 * p.count;
-    let mut w = begin(p, used, t, via);
-    let mut i: usize = 0;
-    while w.next < end {
-        buf[i] = w.next;
-        w = step(p, used, t, via, w);
-        i += 1;
-    }
+    fill_from(p, used, t, via, p.start, buf);
 }
 
-// Is the lent trail, in its whole length, the plant's? Refusal 12 is tried by this.
-pub fn same_trail(
+// Does the lent slice begin with the hops of the trail of a connected plant?
+pub fn compare(
     p: Plant,
     used: [bool; Plant::LABELS],
     t: [[u8; Plant::PLACES]; Plant::PLACES],
     via: &[[u16; Plant::PLACES]; Plant::PLACES],
     lent: &[u16],
-) -> bool
+) -> Compared
     requires { ⌜ Planned p used ⌝ }
     requires { ⌜ t ≡ distancesIn p used ⌝ }
     requires { ⌜ now via ≡ firstHopsIn p used ⌝ }
-    ensures { λ r. ⌜ r ≡ sameList (now (lent .entry)) (trailOf p) ⌝ }
+    ensures { λ r. ⌜ Tells (now (lent .entry)) (trailOf p) r ⌝ }
 {
-    let n = 2 * p.count;
-    let mut w = begin(p, used, t, via);
-    let mut k: usize = 0;
-    while w.next < n {
-        if lent.len() <= k {
-            return false;
-        }
-        if lent[k] != w.next {
-            return false;
-        }
-        w = step(p, used, t, via, w);
-        k += 1;
-    }
-    k == lent.len()
+    compare_from(p, used, t, via, p.start, lent)
 }

@@ -13,7 +13,7 @@ use Rattle.plant.specs.declared.Plant.{Plant}
 use Rattle.plant.specs.Links.{first, second, live}
 use Rattle.walks.specs.Visit.{St, scan, visit}
 use Rattle.walks.specs.Arcs.{labels, tail, head, Valid}
-use Rattle.walks.specs.Graph.{arcs, visitFrom, visited}
+use Rattle.walks.specs.Graph.{arcs, visitFrom, visitedFrom}
 use Rattle.walks.proofs.Labels.{labels-in, tail-even, head-even, tail-odd, head-odd}
 use Rattle.walks.proofs.Visited.{begin, enough}
 use Rattle.walks.specs.ByLinks.{try, tryLink, scanLinks, visitLinks}
@@ -78,8 +78,7 @@ module _ (p : Plant) (ok : Valid p) where
     pub from-by-links : (f v : ℕ) → p .switches ≤ f → v < p .switches → visitLinks p ls f v (begin v) ≡ visitFrom p v (labels ls)
     from-by-links f v h i = sym (by-links f v (begin v)) ∙ enough p ok (labels ls) (λ b j. part (b / 2) (labels-in b ls j)) v i f h
 
-  -- the visit of the plant tries the links that take part by rising number
-  pub visited-by-links : (f : ℕ) → p .switches ≤ f → visitLinks p (keep (live p) (range 0 (p .count))) f (p .start) (begin (p .start)) ≡ visited p
-  unfolding visited arcs
-  visited-by-links f h =
-      from-by-links (keep (live p) (range 0 (p .count))) (λ l i. keep-in (live p) l (range 0 (p .count)) i .1) f (p .start) h (ok .start-in)
+  -- the visit of the plant from r tries the links that take part by rising number
+  pub visited-by-links : (r f : ℕ) → r < p .switches → p .switches ≤ f → visitLinks p (keep (live p) (range 0 (p .count))) f r (begin r) ≡ visitedFrom p r
+  unfolding arcs
+  visited-by-links r f r-in h = from-by-links (keep (live p) (range 0 (p .count))) (λ l i. keep-in (live p) l (range 0 (p .count)) i .1) f r h r-in

@@ -1,14 +1,14 @@
--- Theorem C: a closed walk that crosses every link uses at least as many different arcs as there are links and bridges. Assumes a valid plant.
+-- Theorem C: closed walks that together cross every link use at least as many different arcs as there are links and bridges. Assumes a valid plant.
 use mathlib.Core.Path.{_≡_, sym, ap, _∙_, subst}
-use mathlib.Core.Logic.{_⊎_, inl, inr}
+use mathlib.Core.Logic.{_⊎_, inl, inr, ⊎-elim}
 use mathlib.Core.Bool.{Bool}
-use mathlib.Core.List.{List}
+use mathlib.Core.List.{List, [], _∷_, flatten, append-nil}
 use Prim.Native.Nat.{ℕ, _+_, _*_, _/_, _≤_}
 use native.Mathlib.Omega.{arith}
 use lib.Dec.{T}
-use Rattle.lists.proofs.Tests.{eq?, T-or}
+use Rattle.lists.proofs.Tests.{eq?, T-or, or-cases}
 use Rattle.lists.specs.Members.{In, memb}
-use Rattle.lists.proofs.Members.{memb→in, in→memb, in?}
+use Rattle.lists.proofs.Members.{memb→in, in→memb, in?, in-append, in-append-left, in-append-right}
 use Rattle.lists.specs.Count.{bit, count}
 use Rattle.lists.proofs.Count.{bit-true, bit-false, bit-le-one, pairs, counts-le}
 use Rattle.plant.specs.declared.Plant.{Plant}
@@ -16,8 +16,8 @@ use Rattle.plant.specs.Links.{live}
 use Rattle.walks.specs.Walk.{here, step}
 use Rattle.walks.proofs.Walk.{trans, through}
 use Rattle.walks.specs.Arcs.{opposite, tail, head, Avoid, Valid}
-use Rattle.walks.specs.Graph.{Crosses, To, ClosedWalk, bridge, liveLinks, bridges}
-use Rattle.walks.proofs.Labels.{even-half, odd-half, opposite-even, opposite-odd, same-link}
+use Rattle.walks.specs.Graph.{Crosses, To, ClosedWalk, ClosedWalks, bridge, liveLinks, bridges}
+use Rattle.walks.proofs.Labels.{crossed-is, even-half, odd-half, opposite-even, opposite-odd, same-link}
 use Rattle.walks.proofs.Tests.{bridge-live, bridge-arc}
 
 module _ (p : Plant) (ok : Valid p) where
@@ -42,11 +42,7 @@ module _ (p : Plant) (ok : Valid p) where
     round a i = let t = through {ok = λ b. In b w} w (c .from) (c .from) a (c .walk) (λ b j. j) i in trans (t .1) (t .0)
 
     pub both-ways : (a : ℕ) → T (bridge p (a / 2)) → In a w → In (opposite a) w
-    both-ways a t i = go (in? (opposite a) w)
-      where
-        go : In (opposite a) w ⊎ (In (opposite a) w → ⊥) → In (opposite a) w
-        go (inl j) = j
-        go (inr n) = absurd (bridge-arc p ok a (c .arcs-alone a i) t (cut a n (round a i)))
+    both-ways a t i = ⊎-elim (λ j. j) (λ n. absurd (bridge-arc p ok a (c .arcs-alone a i) t (cut a n (round a i)))) (in? (opposite a) w)
 
   -- ---- theorem C
 
@@ -74,10 +70,24 @@ module _ (p : Plant) (ok : Valid p) where
       unfolding liveLinks bridges
       at-least = omega (arith, pairs (p .count) crossed, counts-le (p .count) (live p) (bridge p) (λ l. crossed (2 * l)) (λ l. crossed (2 * l + 1)) (λ l h. pair l))
 
+  -- so it is with closed walks that together cross every link: each crosses a bridge both ways or not at all
+  both-together : (ws : List (List ℕ)) → ClosedWalks p ws → (a : ℕ) → T (bridge p (a / 2)) → In a (flatten ws) → In (opposite a) (flatten ws)
+  unfolding flatten
+  both-together [] c a t i = i
+  both-together (w ∷ ws) c a t i =
+      ⊎-elim (λ j. in-append-left (opposite a) w (flatten ws) (both-ways w (c .0) a t j)) (λ j. in-append-right (opposite a) w (flatten ws) (both-together ws (c .1) a t j))
+      (in-append a w (flatten ws) i)
+
   -- theorem C
+  pub fewest-together : (ws : List (List ℕ)) → ClosedWalks p ws → ((l : ℕ) → T (live p l) → Crosses l (flatten ws))
+      → liveLinks p + bridges p ≤ count (2 * p .count) (λ a. memb a (flatten ws))
+  fewest-together ws c whole =
+      at-least (λ a. memb a (flatten ws)) (λ l t. or-cases (memb (2 * l) (flatten ws)) (memb (2 * l + 1) (flatten ws)) (crossed-is l (flatten ws) .1 (whole l t)))
+      (λ a t i. in→memb (opposite a) (flatten ws) (both-together ws c a t (memb→in a (flatten ws) i)))
+
+  -- for one closed walk
   pub fewest : (w : List ℕ) → ClosedWalk p w → ((l : ℕ) → T (live p l) → Crosses l w) → liveLinks p + bridges p ≤ count (2 * p .count) (λ a. memb a w)
-  fewest w c whole = at-least (λ a. memb a w) (λ l t. go l (whole l t)) (λ a t i. in→memb (opposite a) w (both-ways w c a t (memb→in a w i)))
-    where
-      go : (l : ℕ) → Crosses l w → T (memb (2 * l) w) ⊎ T (memb (2 * l + 1) w)
-      go l (inl h) = inl (in→memb (2 * l) w h)
-      go l (inr h) = inr (in→memb (2 * l + 1) w h)
+  unfolding flatten
+  fewest w c whole =
+      subst (λ (v : List ℕ). liveLinks p + bridges p ≤ count (2 * p .count) (λ a. memb a v)) (append-nil w)
+      (fewest-together (w ∷ []) (c, tt) (λ l t. subst (Crosses l) (sym (append-nil w)) (whole l t)))

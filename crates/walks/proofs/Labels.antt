@@ -1,14 +1,14 @@
 -- Laws of labels: halves, the opposite arc, the lists of labels, links that a walk crosses, the ends of an arc. Assumes nothing, and a valid plant where the ends are switches.
 use mathlib.Core.Path.{_≡_, sym, ap, _∙_, subst}
-use mathlib.Core.Logic.{_⊎_, inl, inr, _↔_}
-use mathlib.Core.Bool.{Bool, not, _&&_}
+use mathlib.Core.Logic.{_⊎_, inl, inr, ⊎-elim, _↔_}
+use mathlib.Core.Bool.{Bool, not, _&&_, _||_}
 use mathlib.Core.List.{List, [], _∷_}
 use Prim.Native.Nat.{ℕ, zero, suc, _+_, _-_, _*_, _/_, _%_, _<_}
 use native.Mathlib.Omega.{arith}
 use lib.Dec.{T, T-not, not-T, eqb, eqb→eq}
-use Rattle.lists.proofs.Tests.{eq?, eq→eqb, and-left, and-right, and-both}
-use Rattle.lists.specs.Members.{In}
-use Rattle.lists.proofs.Members.{in?}
+use Rattle.lists.proofs.Tests.{eq?, eq→eqb, and-left, and-right, and-both, or-left, or-right, or-cases}
+use Rattle.lists.specs.Members.{In, memb}
+use Rattle.lists.proofs.Members.{in?, memb→in, in→memb}
 use Rattle.lists.specs.Numbers.{range, keep}
 use Rattle.lists.proofs.Numbers.{in-range, keep-in, in-keep}
 use Rattle.plant.specs.declared.Plant.{Plant}
@@ -27,11 +27,7 @@ pub odd-half : (l : ℕ) → (2 * l + 1) / 2 ≡ l
 odd-half l = omega arith
 
 pub even-or-odd : (a : ℕ) → (a ≡ 2 * (a / 2)) ⊎ (a ≡ 2 * (a / 2) + 1)
-even-or-odd a = go (eq? (a % 2) 0)
-  where
-    go : (a % 2 ≡ 0) ⊎ (a % 2 ≡ 0 → ⊥) → (a ≡ 2 * (a / 2)) ⊎ (a ≡ 2 * (a / 2) + 1)
-    go (inl e) = inl (omega arith)
-    go (inr e) = inr (omega (arith, e))
+even-or-odd a = ⊎-elim (λ e. inl (omega arith)) (λ e. inr (omega (arith, e))) (eq? (a % 2) 0)
 
 -- ---- the opposite arc
 
@@ -58,19 +54,11 @@ opposite-twice a = omega arith
 -- two labels of one link are the same or opposite
 pub same-link : (a b : ℕ) → a / 2 ≡ b / 2 → (a ≡ b) ⊎ (a ≡ opposite b)
 unfolding opposite
-same-link a b e = go (eq? a b)
-  where
-    go : (a ≡ b) ⊎ (a ≡ b → ⊥) → (a ≡ b) ⊎ (a ≡ opposite b)
-    go (inl q) = inl q
-    go (inr q) = inr (omega (arith, q))
+same-link a b e = ⊎-elim (λ q. inl q) (λ q. inr (omega (arith, q))) (eq? a b)
 
 -- what holds of a label of the link of b holds of b, or of the opposite one
 pub of-link : (P : ℕ → Type 0) (a b : ℕ) → a / 2 ≡ b / 2 → P a → P b ⊎ P (opposite b)
-of-link P a b e h = go (same-link a b e)
-  where
-    go : (a ≡ b) ⊎ (a ≡ opposite b) → P b ⊎ P (opposite b)
-    go (inl q) = inl (subst P q h)
-    go (inr q) = inr (subst P q h)
+of-link P a b e h = ⊎-elim (λ q. inl (subst P q h)) (λ q. inr (subst P q h)) (same-link a b e)
 
 -- ---- the labels of a list of links
 
@@ -82,22 +70,14 @@ labels-in a (l ∷ ls) (inr (inr h)) = inr (labels-in a ls h)
 
 pub in-labels : (a : ℕ) (ls : List ℕ) → In (a / 2) ls → In a (labels ls)
 in-labels a [] h = h
-in-labels a (l ∷ ls) (inl e) = go (even-or-odd a)
-  where
-    go : (a ≡ 2 * (a / 2)) ⊎ (a ≡ 2 * (a / 2) + 1) → In a (labels (l ∷ ls))
-    go (inl q) = inl (omega arith)
-    go (inr q) = inr (inl (omega arith))
+in-labels a (l ∷ ls) (inl e) = ⊎-elim (λ q. inl (omega arith)) (λ q. inr (inl (omega arith))) (even-or-odd a)
 in-labels a (l ∷ ls) (inr h) = inr (inr (in-labels a ls h))
 
 -- ---- links that a walk crosses
 
 -- a walk that has an arc of link l crosses it
 pub crosses : (a l : ℕ) (w : List ℕ) → In a w → a / 2 ≡ l → Crosses l w
-crosses a l w h e = go (even-or-odd a)
-  where
-    go : (a ≡ 2 * (a / 2)) ⊎ (a ≡ 2 * (a / 2) + 1) → Crosses l w
-    go (inl q) = inl (subst (λ (k : ℕ). In k w) (q ∙ ap (λ (k : ℕ). 2 * k) e) h)
-    go (inr q) = inr (subst (λ (k : ℕ). In k w) (q ∙ ap (λ (k : ℕ). 2 * k + 1) e) h)
+crosses a l w h e = ⊎-elim (λ q. inl (subst (λ (k : ℕ). In k w) (q ∙ ap (λ (k : ℕ). 2 * k) e) h)) (λ q. inr (subst (λ (k : ℕ). In k w) (q ∙ ap (λ (k : ℕ). 2 * k + 1) e) h)) (even-or-odd a)
 
 pub crosses? : (l : ℕ) (w : List ℕ) → Crosses l w ⊎ (Crosses l w → ⊥)
 crosses? l w = go (in? (2 * l) w) (in? (2 * l + 1) w)
@@ -106,6 +86,17 @@ crosses? l w = go (in? (2 * l) w) (in? (2 * l + 1) w)
     go (inl h) k = inl (inl h)
     go (inr n) (inl h) = inl (inr h)
     go (inr n) (inr m) = inr (λ c. elim c [ inl h ↦ n h | inr h ↦ m h ])
+
+pub crossed-is : (l : ℕ) (w : List ℕ) → T (memb (2 * l) w || memb (2 * l + 1) w) ↔ Crosses l w
+crossed-is l w = (λ t. there (or-cases (memb (2 * l) w) (memb (2 * l + 1) w) t), again)
+  where
+    there : T (memb (2 * l) w) ⊎ T (memb (2 * l + 1) w) → Crosses l w
+    there (inl t) = inl (memb→in (2 * l) w t)
+    there (inr t) = inr (memb→in (2 * l + 1) w t)
+
+    again : Crosses l w → T (memb (2 * l) w || memb (2 * l + 1) w)
+    again (inl h) = or-left (memb (2 * l) w) (memb (2 * l + 1) w) (in→memb (2 * l) w h)
+    again (inr h) = or-right (memb (2 * l) w) (memb (2 * l + 1) w) (in→memb (2 * l + 1) w h)
 
 -- it has the arc, or the opposite one
 pub crosses-arc : (a : ℕ) (w : List ℕ) → Crosses (a / 2) w → In a w ⊎ In (opposite a) w
@@ -146,11 +137,7 @@ module _ (p : Plant) where
 
   -- an arc leads from the first end of its link to the second, or back
   pub ends : (a : ℕ) → ((tail p a ≡ first p (a / 2)) × (head p a ≡ second p (a / 2))) ⊎ ((tail p a ≡ second p (a / 2)) × (head p a ≡ first p (a / 2)))
-  ends a = go (even-or-odd a)
-    where
-      go : (a ≡ 2 * (a / 2)) ⊎ (a ≡ 2 * (a / 2) + 1) → ((tail p a ≡ first p (a / 2)) × (head p a ≡ second p (a / 2))) ⊎ ((tail p a ≡ second p (a / 2)) × (head p a ≡ first p (a / 2)))
-      go (inl e) = inl (ap (tail p) e ∙ tail-even (a / 2), ap (head p) e ∙ head-even (a / 2))
-      go (inr e) = inr (ap (tail p) e ∙ tail-odd (a / 2), ap (head p) e ∙ head-odd (a / 2))
+  ends a = ⊎-elim (λ e. inl (ap (tail p) e ∙ tail-even (a / 2), ap (head p) e ∙ head-even (a / 2))) (λ e. inr (ap (tail p) e ∙ tail-odd (a / 2), ap (head p) e ∙ head-odd (a / 2))) (even-or-odd a)
 
   -- ---- arcs
 
@@ -195,18 +182,10 @@ module _ (p : Plant) where
 
   module _ (ok : Valid p) where
     pub head-in : (a : ℕ) → Arc p a → head p a < p .switches
-    head-in a h = go (ends a)
-      where
-        go : ((tail p a ≡ first p (a / 2)) × (head p a ≡ second p (a / 2))) ⊎ ((tail p a ≡ second p (a / 2)) × (head p a ≡ first p (a / 2))) → head p a < p .switches
-        go (inl e) = omega (arith, e .1, ok .second-in (a / 2) h)
-        go (inr e) = omega (arith, e .1, ok .first-in (a / 2) h)
+    head-in a h = ⊎-elim (λ e. omega (arith, e .1, ok .second-in (a / 2) h)) (λ e. omega (arith, e .1, ok .first-in (a / 2) h)) (ends a)
 
     pub tail-in : (a : ℕ) → Arc p a → tail p a < p .switches
     tail-in a h = omega (arith, head-opposite a, head-in (opposite a) (opposite-arc a h))
 
     pub ends-apart : (a : ℕ) → Arc p a → tail p a ≡ head p a → ⊥
-    ends-apart a h q = go (ends a)
-      where
-        go : ((tail p a ≡ first p (a / 2)) × (head p a ≡ second p (a / 2))) ⊎ ((tail p a ≡ second p (a / 2)) × (head p a ≡ first p (a / 2))) → ⊥
-        go (inl e) = ok .apart (a / 2) h (sym (e .0) ∙ q ∙ e .1)
-        go (inr e) = ok .apart (a / 2) h (sym (e .1) ∙ sym q ∙ e .0)
+    ends-apart a h q = ⊎-elim (λ e. ok .apart (a / 2) h (sym (e .0) ∙ q ∙ e .1)) (λ e. ok .apart (a / 2) h (sym (e .1) ∙ sym q ∙ e .0)) (ends a)

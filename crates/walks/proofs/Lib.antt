@@ -7,8 +7,8 @@ pub mod Visited
 pub mod Tests
 pub mod Orientation
 pub mod Counting
+pub mod FirstMet
 pub mod Cycles
 pub mod Fewest
-pub mod Attained
 pub mod ByLinks
 pub mod Valid

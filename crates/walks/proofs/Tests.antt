@@ -1,10 +1,10 @@
 -- Each test against its meaning: visited or not, connected or not, a bridge or not, in terms of what is reached and of walks as lists of labels.
 -- Assumes a valid plant.
 use mathlib.Core.Path.{_≡_, sym, _∙_}
-use mathlib.Core.Logic.{_⊎_, inl, inr, _↔_}
+use mathlib.Core.Logic.{_⊎_, inl, inr, ⊎-elim, _↔_}
 use mathlib.Core.Bool.{not}
 use mathlib.Core.List.{List}
-use Prim.Native.Nat.{ℕ, _+_, _*_, _/_}
+use Prim.Native.Nat.{ℕ, _+_, _*_, _/_, _<_}
 use lib.Dec.{T, T-not, not-T}
 use Rattle.lists.proofs.Tests.{T-or, and-left, and-right, and-both}
 use Rattle.lists.specs.Members.{In, memb}
@@ -14,7 +14,7 @@ use Rattle.plant.specs.Links.{first, second, live}
 use Rattle.walks.specs.Walk.{Walk}
 use Rattle.walks.proofs.Walk.{weaken, one, back, walk→reach, reach→walk}
 use Rattle.walks.specs.Arcs.{opposite, tail, head, Arc, Avoid, Valid}
-use Rattle.walks.specs.Graph.{Crosses, To, Connected, Bridge, others, visitFrom, visited, connected, bridge}
+use Rattle.walks.specs.Graph.{Crosses, To, Connected, Bridge, others, visitFrom, reachedFrom, connected, bridge}
 use Rattle.walks.proofs.Labels.{even-half, odd-half, crosses, crosses?, tail-even, head-even, tail-odd, head-odd, tail-opposite, head-opposite, ends, even-arc, odd-arc, opposite-avoid, others-are}
 use Rattle.walks.proofs.Visited.{finds, visited-finds}
 
@@ -37,11 +37,11 @@ module _ (p : Plant) where
 module _ (p : Plant) (ok : Valid p) where
   -- ---- connected
 
-  pub connected-is : T (connected p) ↔ Connected p
+  pub connected-is : p .start < p .switches → T (connected p) ↔ Connected p
   unfolding connected
-  connected-is = (
-    λ t x h. visited-finds p ok x .0 (every-at (p .switches) (λ y. memb y (visited p .ord)) t x h),
-    λ con. at-every (p .switches) (λ y. memb y (visited p .ord)) (λ x h. visited-finds p ok x .1 (con x h)),
+  connected-is start-in = (
+    λ t x h. visited-finds p ok (p .start) start-in x .0 (every-at (p .switches) (reachedFrom p (p .start)) t x h),
+    λ con. at-every (p .switches) (reachedFrom p (p .start)) (λ x h. visited-finds p ok (p .start) start-in x .1 (con x h)),
   )
 
   -- ---- a bridge
@@ -66,11 +66,7 @@ module _ (p : Plant) (ok : Valid p) where
 
     -- no bridge: its ends are joined without it
     pub no-bridge : (T (bridge p l) → ⊥) → To p (Avoid p l) (first p l) (second p l)
-    no-bridge f = go (T-or (memb (second p l) found))
-      where
-        go : T (memb (second p l) found) ⊎ (T (memb (second p l) found) → ⊥) → To p (Avoid p l) (first p l) (second p l)
-        go (inl t) = without .0 t
-        go (inr n) = absurd (f (bridge-is .1 (λ r. n (without .1 r))))
+    no-bridge f = ⊎-elim (λ t. without .0 t) (λ n. absurd (f (bridge-is .1 (λ r. n (without .1 r))))) (T-or (memb (second p l) found))
 
     -- a bridge: every walk between its ends crosses it
     pub bridge-walks : T (bridge p l) ↔ ((w : List ℕ) → Walk (tail p) (head p) w (first p l) (second p l) → ((a : ℕ) → In a w → Arc p a) → Crosses l w)
@@ -82,11 +78,7 @@ module _ (p : Plant) (ok : Valid p) where
 
         around : ((w : List ℕ) → Walk (tail p) (head p) w (first p l) (second p l) → ((a : ℕ) → In a w → Arc p a) → Crosses l w)
             → (w : List ℕ) × Walk (tail p) (head p) w (first p l) (second p l) × ((a : ℕ) → In a w → Avoid p l a) → ⊥
-        around f r = go (f (r .0) (r .1) (λ a h. r .2 a h .0))
-          where
-            go : Crosses l (r .0) → ⊥
-            go (inl h) = r .2 (2 * l) h .1 (even-half l)
-            go (inr h) = r .2 (2 * l + 1) h .1 (odd-half l)
+        around f r = ⊎-elim (λ h. r .2 (2 * l) h .1 (even-half l)) (λ h. r .2 (2 * l + 1) h .1 (odd-half l)) (f (r .0) (r .1) (λ a h. r .2 a h .0))
 
     -- a link that has a parallel one is no bridge
     pub parallel : (k : ℕ) → T (live p k) → (k ≡ l → ⊥)
@@ -102,12 +94,9 @@ module _ (p : Plant) (ok : Valid p) where
   module _ (a : ℕ) (arc : Arc p a) where
     -- between the two ends of the link of a, either way
     turn : To p (Avoid p (a / 2)) (first p (a / 2)) (second p (a / 2)) ↔ To p (Avoid p (a / 2)) (head p a) (tail p a)
-    turn = go (ends p a)
-      where
-        go : ((tail p a ≡ first p (a / 2)) × (head p a ≡ second p (a / 2))) ⊎ ((tail p a ≡ second p (a / 2)) × (head p a ≡ first p (a / 2)))
-            → To p (Avoid p (a / 2)) (first p (a / 2)) (second p (a / 2)) ↔ To p (Avoid p (a / 2)) (head p a) (tail p a)
-        go (inl e) = (λ r. rw (e .0, e .1) (walk-back p (opposite-avoid p (a / 2)) r), λ r. walk-back p (opposite-avoid p (a / 2)) (rw (e .0, e .1) at r))
-        go (inr e) = (λ r. rw (e .0, e .1) r, λ r. rw (e .0, e .1) at r)
+    turn =
+        ⊎-elim (λ e. (λ r. rw (e .0, e .1) (walk-back p (opposite-avoid p (a / 2)) r), λ r. walk-back p (opposite-avoid p (a / 2)) (rw (e .0, e .1) at r)))
+        (λ e. (λ r. rw (e .0, e .1) r, λ r. rw (e .0, e .1) at r)) (ends p a)
 
     pub bridge-arc : T (bridge p (a / 2)) → To p (Avoid p (a / 2)) (head p a) (tail p a) → ⊥
     bridge-arc t r = bridge-is (a / 2) arc .0 t (turn .1 r)

@@ -6,7 +6,6 @@ use Rattle.walks.proofs.Live.{live-below}
 
 pub sound-valid : (p : Plant) → Sound p → Valid p
 sound-valid p ok = record {
-  start-in = ok .start-in;
   first-in = λ l t. ok .first-in l (live-below p l t);
   second-in = λ l t. ok .second-in l (live-below p l t);
   apart = λ l t. ok .apart l (live-below p l t);

@@ -1,13 +1,12 @@
 -- Laws of the depth-first visit over a list of arcs: ranks, what a visit extends, what it closes, and that it leads back over arcs in use. Assumes nothing.
 use mathlib.Core.Path.{_≡_, refl, sym, ap, _∙_, subst}
-use mathlib.Core.Logic.{_⊎_, inl, inr}
-use mathlib.Core.Bool.{Bool, true, false}
+use mathlib.Core.Logic.{_⊎_, inl, inr, ⊎-elim}
 use mathlib.Core.List.{List, [], _∷_}
 use Prim.Native.Nat.{ℕ, suc, _≤_, _<_}
 use native.Mathlib.Omega.{arith}
-use lib.Dec.{T, eqb, eqb→eq}
+use lib.Dec.{eqb, eqb→eq}
 use lib.ListN.{length}
-use Rattle.lists.proofs.Tests.{eq?, eq→eqb}
+use Rattle.lists.proofs.Tests.{if-true, if-false, eq?, eq→eqb}
 use Rattle.lists.specs.Members.{In}
 use Rattle.lists.proofs.Members.{in?}
 use Rattle.walks.specs.Walk.{Reach, here, step}
@@ -16,18 +15,10 @@ use Rattle.walks.specs.Visit.{St, push, rank}
 use Rattle.walks.specs.Inner.{Scan, done, skip, enter}
 
 pub rank-eq : (x y : ℕ) (l : List ℕ) → x ≡ y → rank x (y ∷ l) ≡ length l
-rank-eq x y l e = go (eqb x y) (eq→eqb e)
-  where
-    go : (b : Bool) → T b → (elim b as (λ _. ℕ) [ true ↦ length l | false ↦ rank x l ]) ≡ length l
-    go true t = refl
-    go false t = absurd t
+rank-eq x y l e = if-true (eqb x y) (length l) (rank x l) (eq→eqb e)
 
 pub rank-ne : (x y : ℕ) (l : List ℕ) → (x ≡ y → ⊥) → rank x (y ∷ l) ≡ rank x l
-rank-ne x y l n = go (eqb x y) (λ t. n (eqb→eq x y t))
-  where
-    go : (b : Bool) → (T b → ⊥) → (elim b as (λ _. ℕ) [ true ↦ length l | false ↦ rank x l ]) ≡ rank x l
-    go true t = absurd (t tt)
-    go false t = refl
+rank-ne x y l n = if-false (eqb x y) (length l) (rank x l) (λ t. n (eqb→eq x y t))
 
 pub rank-lt : (x : ℕ) (l : List ℕ) → In x l → rank x l < length l
 rank-lt x [] h = absurd h
@@ -97,12 +88,7 @@ module _ (tl hd : ℕ → ℕ) where
     Tried v bs s = (b : ℕ) → In b arcs → tl b ≡ v → In b bs ⊎ In (hd b) (s .ord)
 
     tried-skip : (v a : ℕ) (bs : List ℕ) {s m : St} → Ext s m → (tl a ≡ v → In (hd a) (m .ord)) → Tried v (a ∷ bs) s → Tried v bs m
-    tried-skip v a bs {s} {m} x k h b i e = go (h b i e)
-      where
-        go : In b (a ∷ bs) ⊎ In (hd b) (s .ord) → In b bs ⊎ In (hd b) (m .ord)
-        go (inl (inl q)) = inr (subst (λ (c : ℕ). In (hd c) (m .ord)) (sym q) (k (ap tl (sym q) ∙ e)))
-        go (inl (inr q)) = inl q
-        go (inr q) = inr (x .ords (hd b) q)
+    tried-skip v a bs {s} {m} x k h b i e = ⊎-elim (⊎-elim (λ q. inr (subst (λ (c : ℕ). In (hd c) (m .ord)) (sym q) (k (ap tl (sym q) ∙ e)))) (λ q. inl q)) (λ q. inr (x .ords (hd b) q)) (h b i e)
 
     -- v is finished at the end, and so is each switch that was visited on the way
     pub record Closed (v : ℕ) (s t : St) : Type 0 where
@@ -257,11 +243,7 @@ module _ (tl hd : ℕ → ℕ) where
 
     above-push : (v a : ℕ) (s : St) → tl a ≡ v → (In (hd a) (s .ord) → ⊥) → Above v s → Above (hd a) (push tl hd a s)
     above-push v a s e n h y (inl q) = inr (here q)
-    above-push v a s e n h y (inr i) = go (h y i)
-      where
-        go : Fin s y ⊎ Reach tl hd (λ b. In b (s .ent)) v y → Fin (push tl hd a s) y ⊎ Reach tl hd (λ b. In b (a ∷ s .ent)) (hd a) y
-        go (inl f) = inl (fin-ext (ext-push a s n) f)
-        go (inr r) = inr (trans (weaken (λ b j. inr j) r) (one a (inl refl) e refl))
+    above-push v a s e n h y (inr i) = ⊎-elim (λ f. inl (fin-ext (ext-push a s n) f)) (λ r. inr (trans (weaken (λ b j. inr j) r) (one a (inl refl) e refl))) (h y i)
 
     above-next : (v a : ℕ) (s m : St) → (In (hd a) (s .ord) → ⊥) → Ext (push tl hd a s) m → Closed (hd a) (push tl hd a s) m → Above v s → Above v m
     above-next v a s m n x c h y i = go (c .rest y i)
@@ -278,7 +260,7 @@ module _ (tl hd : ℕ → ℕ) where
     module _ (rev lk : ℕ → ℕ) (tl-rev : (a : ℕ) → tl (rev a) ≡ hd a) (hd-rev : (a : ℕ) → hd (rev a) ≡ tl a) (lk-rev : (a : ℕ) → lk (rev a) ≡ lk a)
         (rev-in : (a : ℕ) → In a arcs → In (rev a) arcs) (F : St) (good-F : Good F) (Use : ℕ → Type 0)
         (use-ent : (b : ℕ) → In b (F .ent) → Use b)
-        (use-back : (b : ℕ) → In b arcs → rank (hd b) (F .ord) < rank (tl b) (F .ord) → (In (rev b) (F .ent) → ⊥) → Use b)
+        (use-back : (b : ℕ) → In b arcs → In (tl b) (F .ord) → rank (hd b) (F .ord) < rank (tl b) (F .ord) → (In (rev b) (F .ent) → ⊥) → Use b)
       where
         -- if the link of b is no bridge, then b's head leads back to its tail over arcs in use
         abbrev pub Ret : ℕ → Type 0
@@ -310,38 +292,20 @@ module _ (tl hd : ℕ → ℕ) where
             module _ (b : ℕ) (b-in : In b arcs) (b-ne : lk b ≡ lk a → ⊥) (p : Inside (tl b)) (q : Inside (hd b) → ⊥) where
               fin : Fin m (tl b)
               unfolding Inside
-              fin = go (c .rest (tl b) (p .0))
-                where
-                  go : In (tl b) (push tl hd a s .ord) ⊎ Fin m (tl b) → Fin m (tl b)
-                  go (inl (inl e)) = λ k j z. c .this k j (z ∙ e)
-                  go (inl (inr j)) = absurd (p .1 j)
-                  go (inr f) = f
+              fin = ⊎-elim (⊎-elim (λ e. λ k j z. c .this k j (z ∙ e)) (λ j. absurd (p .1 j))) (λ f. f) (c .rest (tl b) (p .0))
 
               old : In (hd b) (s .ord)
               unfolding Inside
-              old = go (in? (hd b) (s .ord))
-                where
-                  go : In (hd b) (s .ord) ⊎ (In (hd b) (s .ord) → ⊥) → In (hd b) (s .ord)
-                  go (inl j) = j
-                  go (inr j) = absurd (q (fin b b-in refl, j))
+              old = ⊎-elim (λ j. j) (λ j. absurd (q (fin b b-in refl, j))) (in? (hd b) (s .ord))
 
               down : Reach tl hd (λ k. In k (s .ent)) (tl a) (hd b)
               unfolding Inside
-              down = go (h (hd b) old)
-                where
-                  go : Fin s (hd b) ⊎ Reach tl hd (λ k. In k (s .ent)) (tl a) (hd b) → Reach tl hd (λ k. In k (s .ent)) (tl a) (hd b)
-                  go (inl f) = absurd (p .1 (subst (λ (k : ℕ). In k (s .ord)) (hd-rev b) (f (rev b) (rev-in b b-in) (tl-rev b))))
-                  go (inr r) = r
+              down = ⊎-elim (λ f. absurd (p .1 (subst (λ (k : ℕ). In k (s .ord)) (hd-rev b) (f (rev b) (rev-in b b-in) (tl-rev b))))) (λ r. r) (h (hd b) old)
 
               -- where the tail of b comes from
               origin : (tl b ≡ hd a) ⊎ New (hd a) (push tl hd a s) m (tl b)
               unfolding Inside
-              origin = go (born d (tl b) (p .0))
-                where
-                  go : In (tl b) (push tl hd a s .ord) ⊎ New (hd a) (push tl hd a s) m (tl b) → (tl b ≡ hd a) ⊎ New (hd a) (push tl hd a s) m (tl b)
-                  go (inl (inl e)) = inl e
-                  go (inl (inr j)) = absurd (p .1 j)
-                  go (inr w) = inr w
+              origin = ⊎-elim (⊎-elim (λ e. inl e) (λ j. absurd (p .1 j))) (λ w. inr w) (born d (tl b) (p .0))
 
               lower : rank (hd b) (F .ord) < rank (tl b) (F .ord)
               unfolding Inside
@@ -349,11 +313,9 @@ module _ (tl hd : ℕ → ℕ) where
                 where
                   gap : (tl b ≡ hd a) ⊎ New (hd a) (push tl hd a s) m (tl b) → length (s .ord) ≤ rank (tl b) (m .ord)
                   gap (inl e) = omega (arith, ext d .ranks (tl b) (inl e), rank-eq (tl b) (hd a) (s .ord) e)
-                  gap (inr w) = go (eq? (tl b) (hd a))
-                    where
-                      go : (tl b ≡ hd a) ⊎ (tl b ≡ hd a → ⊥) → length (s .ord) ≤ rank (tl b) (m .ord)
-                      go (inl e) = omega (arith, ext d .ranks (tl b) (inl e), rank-eq (tl b) (hd a) (s .ord) e)
-                      go (inr f) = omega (arith, later d (tl b) (λ z. elim z [ inl k ↦ f k | inr k ↦ p .1 k ]) (p .0))
+                  gap (inr w) =
+                      ⊎-elim (λ e. omega (arith, ext d .ranks (tl b) (inl e), rank-eq (tl b) (hd a) (s .ord) e))
+                      (λ f. omega (arith, later d (tl b) (λ z. elim z [ inl k ↦ f k | inr k ↦ p .1 k ]) (p .0))) (eq? (tl b) (hd a))
 
               not-back : In (rev b) (F .ent) → ⊥
               not-back r = go origin
@@ -376,9 +338,10 @@ module _ (tl hd : ℕ → ℕ) where
               down-to (inr w) = weaken (λ k j. use-ent k (x .ents k j)) (w .path)
 
               round : Reach tl hd Use (tl a) (hd a)
+              unfolding Inside
               round =
                   trans (down-to origin)
-                  (step b (use-back b b-in lower not-back) refl (weaken (λ k j. use-ent k (x .ents k (x₀ .ents k j))) down))
+                  (step b (use-back b b-in (x .ords _ (p .0)) lower not-back) refl (weaken (λ k j. use-ent k (x .ents k (x₀ .ents k j))) down))
 
             ret : Ret a
             unfolding Inside

@@ -1,7 +1,7 @@
 -- The depth-first visit of a plant. From any switch over any list of arcs: it is complete, at most S deep, and finds just the switches that are reached.
--- From the start over all arcs: of a connected plant it visits each switch once. Assumes a valid plant.
+-- From a root over all arcs: it visits each switch that is reached once. Assumes a valid plant and a root that is a switch of it.
 use mathlib.Core.Path.{_≡_, refl, sym}
-use mathlib.Core.Logic.{_⊎_, inl, inr, _↔_}
+use mathlib.Core.Logic.{_⊎_, inl, inr, ⊎-elim, _↔_}
 use mathlib.Core.List.{List, [], _∷_}
 use Prim.Native.Nat.{ℕ, suc, _≤_, _<_}
 use native.Mathlib.Omega.{arith}
@@ -9,15 +9,15 @@ use lib.Dec.{T}
 use lib.ListN.{length}
 use Rattle.lists.specs.Members.{In, memb, Distinct}
 use Rattle.lists.proofs.Members.{memb→in, in→memb}
-use Rattle.lists.proofs.Count.{count-all, distinct-count}
+use Rattle.lists.proofs.Count.{count-every, distinct-count}
 use Rattle.plant.specs.declared.Plant.{Plant}
 use Rattle.walks.specs.Walk.{here}
 use Rattle.walks.proofs.Walk.{weaken, keeps}
 use Rattle.walks.specs.Visit.{St, visit}
 use Rattle.walks.specs.Inner.{Scan}
-use Rattle.walks.proofs.Visit.{ext, Closed, closed, New, born, Good, good}
+use Rattle.walks.proofs.Visit.{ext, Closed, closed, born, Good, good}
 use Rattle.walks.specs.Arcs.{tail, head, Arc, Valid}
-use Rattle.walks.specs.Graph.{To, Connected, arcs, visitFrom, visited}
+use Rattle.walks.specs.Graph.{To, AllFrom, arcs, visitFrom, visitedFrom, reachedFrom, switchesFrom}
 use Rattle.walks.proofs.Labels.{arcs-are, head-in}
 use Rattle.walks.proofs.Fuel.{unseen-first, distinct, inside, depth, deep, visits, any-fuel}
 
@@ -54,12 +54,7 @@ module _ (p : Plant) (ok : Valid p) where
 
     -- each arc of the list leads from a visited switch to a visited switch
     pub run-keeps : (b : ℕ) → In b bs → In (tail p b) (visitFrom p v bs .ord) → In (head p b) (visitFrom p v bs .ord)
-    run-keeps b h i = go (run-closed .rest (tail p b) i)
-      where
-        go : In (tail p b) (v ∷ []) ⊎ ((c : ℕ) → In c bs → tail p c ≡ tail p b → In (head p c) (visitFrom p v bs .ord)) → In (head p b) (visitFrom p v bs .ord)
-        go (inl (inl e)) = run-closed .this b h e
-        go (inl (inr z)) = absurd z
-        go (inr f) = f b h refl
+    run-keeps b h i = ⊎-elim (⊎-elim (λ e. run-closed .this b h e) (λ z. absurd z)) (λ f. f b h refl) (run-closed .rest (tail p b) i)
 
     pub run-good : Good (tail p) (head p) bs (visitFrom p v bs)
     run-good = good (tail p) (head p) bs run (λ b h. h) (inl refl) none
@@ -76,12 +71,7 @@ module _ (p : Plant) (ok : Valid p) where
 
     -- a visited switch is reached by entered arcs
     pub run-reach : (x : ℕ) → In x (visitFrom p v bs .ord) → To p (λ b. In b (visitFrom p v bs .ent)) v x
-    run-reach x i = go (born (tail p) (head p) bs run x i)
-      where
-        go : In x (v ∷ []) ⊎ New (tail p) (head p) bs v (begin v) (visitFrom p v bs) x → To p (λ b. In b (visitFrom p v bs .ent)) v x
-        go (inl (inl e)) = here (sym e)
-        go (inl (inr z)) = absurd z
-        go (inr w) = w .path
+    run-reach x i = ⊎-elim (⊎-elim (λ e. here (sym e)) (λ z. absurd z)) (λ w. w .path) (born (tail p) (head p) bs run x i)
 
     -- the visited switches are those that the arcs of the list reach
     pub finds : (x : ℕ) → T (memb x (visitFrom p v bs .ord)) ↔ To p (λ b. In b bs) v x
@@ -100,55 +90,50 @@ module _ (p : Plant) (ok : Valid p) where
     pub run-distinct : Distinct (visitFrom p v bs .ord)
     run-distinct = distinct (tail p) (head p) bs run ((λ z. z), tt)
 
-    -- so there are at most S of them
-    pub run-few : length (visitFrom p v bs .ord) ≤ p .switches
-    run-few = omega (arith, distinct-count (p .switches) (visitFrom p v bs .ord) run-distinct run-inside, count-all (p .switches) (λ k. memb k (visitFrom p v bs .ord)))
-
-  -- ---- from the start, over all arcs
+  -- ---- from a root r, over all arcs
 
   arcs-real : (b : ℕ) → In b (arcs p) → Arc p b
   arcs-real b h = arcs-are p b .0 h
 
-  pub visited-run : Scan (tail p) (head p) (arcs p) (p .start) (arcs p) (begin (p .start)) (visited p)
-  unfolding visited
-  visited-run = run (arcs p) arcs-real (p .start) (ok .start-in)
+  module _ (r : ℕ) (r-in : r < p .switches) where
+    pub visited-run : Scan (tail p) (head p) (arcs p) r (arcs p) (begin r) (visitedFrom p r)
+    visited-run = run (arcs p) arcs-real r r-in
 
-  pub visited-good : Good (tail p) (head p) (arcs p) (visited p)
-  unfolding visited
-  visited-good = run-good (arcs p) arcs-real (p .start) (ok .start-in)
+    pub visited-good : Good (tail p) (head p) (arcs p) (visitedFrom p r)
+    visited-good = run-good (arcs p) arcs-real r r-in
 
-  -- an entered arc is an arc
-  pub entered-arc : (a : ℕ) → In a (visited p .ent) → Arc p a
-  entered-arc a h = arcs-real a (visited-good .real a h)
+    -- an entered arc is an arc
+    pub entered-arc : (a : ℕ) → In a (visitedFrom p r .ent) → Arc p a
+    entered-arc a h = arcs-real a (visited-good .real a h)
 
-  pub visited-reach : (x : ℕ) → In x (visited p .ord) → To p (λ b. In b (visited p .ent)) (p .start) x
-  unfolding visited
-  visited-reach = run-reach (arcs p) arcs-real (p .start) (ok .start-in)
+    pub visited-root : In r (visitedFrom p r .ord)
+    visited-root = run-start (arcs p) arcs-real r r-in
 
-  pub visited-keeps : (a : ℕ) → Arc p a → In (tail p a) (visited p .ord) → In (head p a) (visited p .ord)
-  unfolding visited
-  visited-keeps a h i = run-keeps (arcs p) arcs-real (p .start) (ok .start-in) a (arcs-are p a .1 h) i
+    pub visited-reach : (x : ℕ) → In x (visitedFrom p r .ord) → To p (λ b. In b (visitedFrom p r .ent)) r x
+    visited-reach = run-reach (arcs p) arcs-real r r-in
 
-  pub visited-finds : (x : ℕ) → T (memb x (visited p .ord)) ↔ To p (Arc p) (p .start) x
-  unfolding visited
-  visited-finds x = (λ t. weaken arcs-real (both .0 t), λ r. both .1 (weaken (λ b h. arcs-are p b .1 h) r))
-    where
-      both : T (memb x (visitFrom p (p .start) (arcs p) .ord)) ↔ To p (λ b. In b (arcs p)) (p .start) x
-      both = finds (arcs p) arcs-real (p .start) (ok .start-in) x
+    pub visited-keeps : (a : ℕ) → Arc p a → In (tail p a) (visitedFrom p r .ord) → In (head p a) (visitedFrom p r .ord)
+    visited-keeps a h i = run-keeps (arcs p) arcs-real r r-in a (arcs-are p a .1 h) i
 
-  pub visited-inside : (x : ℕ) → In x (visited p .ord) → x < p .switches
-  unfolding visited
-  visited-inside = run-inside (arcs p) arcs-real (p .start) (ok .start-in)
+    pub visited-finds : (x : ℕ) → T (reachedFrom p r x) ↔ To p (Arc p) r x
+    visited-finds x = let f = finds (arcs p) arcs-real r r-in x in (λ t. weaken arcs-real (f .0 t), λ w. f .1 (weaken (λ b h. arcs-are p b .1 h) w))
 
-  pub visited-distinct : Distinct (visited p .ord)
-  unfolding visited
-  visited-distinct = run-distinct (arcs p) arcs-real (p .start) (ok .start-in)
+    pub visited-inside : (x : ℕ) → In x (visitedFrom p r .ord) → x < p .switches
+    visited-inside = run-inside (arcs p) arcs-real r r-in
 
-  pub visited-few : length (visited p .ord) ≤ p .switches
-  unfolding visited
-  visited-few = run-few (arcs p) arcs-real (p .start) (ok .start-in)
+    pub visited-distinct : Distinct (visitedFrom p r .ord)
+    visited-distinct = run-distinct (arcs p) arcs-real r r-in
 
-  -- ---- each switch of a connected plant is visited once
+    -- each reached switch is visited once
+    pub visited-number : length (visitedFrom p r .ord) ≡ switchesFrom p r
+    unfolding switchesFrom
+    visited-number = distinct-count (p .switches) (visitedFrom p r .ord) visited-distinct visited-inside
 
-  pub visited-all : Connected p → (x : ℕ) → x < p .switches → In x (visited p .ord)
-  visited-all con x h = memb→in x (visited p .ord) (visited-finds x .1 (con x h))
+    -- ---- where every switch is reached
+    module _ (all : AllFrom p r) where
+      pub visited-all : (x : ℕ) → x < p .switches → In x (visitedFrom p r .ord)
+      visited-all x h = memb→in x (visitedFrom p r .ord) (visited-finds x .1 (all x h))
+
+      pub switches-all : switchesFrom p r ≡ p .switches
+      unfolding switchesFrom
+      switches-all = count-every (p .switches) (reachedFrom p r) (λ x h. visited-finds x .1 (all x h))

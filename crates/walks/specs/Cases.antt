@@ -10,7 +10,7 @@ use Rattle.plant.specs.declared.Plant.{Plant}
 use Rattle.plant.specs.Links.{live}
 use Rattle.walks.specs.Visit.{scan, visit}
 use Rattle.walks.specs.Arcs.{tail, head}
-use Rattle.walks.specs.Graph.{arcs, others, visitFrom, visited, connected, bridge, entered, earlier, used}
+use Rattle.walks.specs.Graph.{arcs, others, visitFrom, visited, connected, bridge, used}
 
 -- the ends of the links, first and second
 abbrev pub plantOf : ℕ → ℕ → List (ℕ × ℕ) → Plant
@@ -116,5 +116,5 @@ abbrev pub table : List Row
 table = triangle ∷ oneLink ∷ threeParallel ∷ alone ∷ path ∷ ringWithTail ∷ tableOne ∷ apart ∷ []
 
 pub as-expected : map (λ r. rowOf (r .plant)) table ≡ table
-unfolding rowOf connected bridge used entered earlier visited visitFrom arcs others visit scan tail head live every
+unfolding rowOf connected bridge used visited visitFrom arcs others visit scan tail head live every
 as-expected = refl

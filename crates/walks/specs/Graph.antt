@@ -30,9 +30,17 @@ module _ (p : Plant) where
     pub walk : Walk (tail p) (head p) w from from
     pub arcs-alone : (a : ℕ) → In a w → Arc p a
 
+  abbrev pub ClosedWalks : List (List ℕ) → Type 0
+  ClosedWalks [] = Unit
+  ClosedWalks (w ∷ ws) = ClosedWalk w × ClosedWalks ws
+
+  -- every switch is reached from r
+  abbrev pub AllFrom : ℕ → Type 0
+  AllFrom r = (x : ℕ) → x < p .switches → To (Arc p) r x
+
   -- every switch is reached from the start
   abbrev pub Connected : Type 0
-  Connected = (x : ℕ) → x < p .switches → To (Arc p) (p .start) x
+  Connected = AllFrom (p .start)
 
   -- without link l its two ends are not joined
   abbrev pub Bridge : ℕ → Type 0
@@ -50,27 +58,68 @@ module _ (p : Plant) where
   unfoldable pub visitFrom : ℕ → List ℕ → St
   visitFrom v bs = visit (tail p) (head p) bs (p .switches) v (record { ord = v ∷ []; ent = [] })
 
-  -- the visit from the start: the numbering of the switches and the entered arcs
-  unfoldable pub visited : St
-  visited = visitFrom (p .start) arcs
-
-  unfoldable pub connected : Bool
-  connected = every (p .switches) (λ x. memb x (visited .ord))
-
+  -- without link l its ends are not joined
   unfoldable pub bridge : ℕ → Bool
   bridge l = live p l && not (memb (second p l) (visitFrom (first p l) (others l) .ord))
 
-  -- the visit entered link l, the one way or the other
+  -- ---- the part of the plant that is reached from the switch r, its root
+
+  module _ (r : ℕ) where
+    -- the visit from r: the numbering of the switches and the entered arcs
+    abbrev pub visitedFrom : St
+    visitedFrom = visitFrom r arcs
+
+    -- switch x is reached
+    abbrev pub reachedFrom : ℕ → Bool
+    reachedFrom x = memb x (visitedFrom .ord)
+
+    -- the visit entered link l, the one way or the other
+    abbrev pub enteredFrom : ℕ → Bool
+    enteredFrom l = memb (2 * l) (visitedFrom .ent) || memb (2 * l + 1) (visitedFrom .ent)
+
+    -- x was visited before y
+    abbrev pub earlierFrom : ℕ → ℕ → Bool
+    earlierFrom x y = ltb (rank x (visitedFrom .ord)) (rank y (visitedFrom .ord))
+
+    -- both arcs of a bridge; of an entered link that is no bridge the arc from earlier to later visited; of every other link the arc from later to earlier
+    abbrev pub chosenFrom : ℕ → Bool
+    chosenFrom a =
+        live p (a / 2) && (bridge (a / 2) || choose (enteredFrom (a / 2)) (earlierFrom (tail p a) (head p a)) (earlierFrom (head p a) (tail p a)))
+
+    -- such an arc that leaves a reached switch: the arcs in use from r
+    unfoldable pub usedFrom : ℕ → Bool
+    usedFrom a = reachedFrom (tail p a) && chosenFrom a
+
+    -- how many switches are reached, how many links join them, how many of these are bridges, and how many arcs are in use
+    unfoldable pub switchesFrom : ℕ
+    switchesFrom = count (p .switches) reachedFrom
+
+    unfoldable pub linksFrom : ℕ
+    linksFrom = count (p .count) (λ l. reachedFrom (first p l) && live p l)
+
+    unfoldable pub bridgesFrom : ℕ
+    bridgesFrom = count (p .count) (λ l. reachedFrom (first p l) && bridge l)
+
+    unfoldable pub arcsUsedFrom : ℕ
+    arcsUsedFrom = count (2 * p .count) usedFrom
+
+  -- ---- from the start
+
+  unfoldable pub visited : St
+  visited = visitedFrom (p .start)
+
+  unfoldable pub connected : Bool
+  connected = every (p .switches) (reachedFrom (p .start))
+
   unfoldable pub entered : ℕ → Bool
-  entered l = memb (2 * l) (visited .ent) || memb (2 * l + 1) (visited .ent)
+  entered = enteredFrom (p .start)
 
-  -- x was visited before y
   unfoldable pub earlier : ℕ → ℕ → Bool
-  earlier x y = ltb (rank x (visited .ord)) (rank y (visited .ord))
+  earlier = earlierFrom (p .start)
 
-  -- both arcs of a bridge; of an entered link that is no bridge the arc from earlier to later visited; of every other link the arc from later to earlier
+  -- the arcs in use of a plant whose switches are all reached from its start
   unfoldable pub used : ℕ → Bool
-  used a = live p (a / 2) && (bridge (a / 2) || choose (entered (a / 2)) (earlier (tail p a) (head p a)) (earlier (head p a) (tail p a)))
+  used = chosenFrom (p .start)
 
   -- how many links take part, how many are bridges, and how many arcs are in use
   unfoldable pub liveLinks : ℕ

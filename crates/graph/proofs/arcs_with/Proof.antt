@@ -8,7 +8,7 @@ use Rattle.limits.specs.Limits.{maxLinks}
 use Rattle.walks.specs.Graph.{used}
 use Rattle.walks.proofs.Labels.{even-half, odd-half}
 use Rattle.lists.proofs.Filled.{Filled, filled-none, filled-put-two, filled-pass-two, filled-all}
-use Rattle.graph.proofs.Uses.{ends-in, used-dead, used-past, used-even, used-odd}
+use Rattle.graph.proofs.Uses.{ends-in, used-dead, used-past, chosen-even, chosen-odd}
 use Rattle.graph.proofs.arcs_with.Statement.{statement}
 use Rattle.graph.proofs.arcs_with.Tie as tie
 
@@ -32,18 +32,19 @@ element-copy-out-y c =
     omega (arith, s .pre .0 .few-switches, ends-in (s .args .t1) _ (s .pre .0) (sym (c .before .before .before .before .before .is-live .ensures) ∙ c .before .before .before .before .if1 .taken) .1)
 
 loop-again : tie.Need-loop-again Inv-loop μ-loop
+unfolding used
 loop-again c =
     let s = c .before .before .before .before .before in
     let k = c .before .before .before .loop in
     let p = s .args .t1 in
-    let v = c .before .before .before .before .visit-start in
+    let v = c .before .before .before .before .visit-all in
     let l = k .l in
     let is = sym (c .before .is-live .ensures) in
     let known = s .pre .1 .tells l in (
       omega arith,
       ⊎-elim
           (λ w. rw (w .10) (filled-put-two (2 * maxLinks) (used p) l (k .u) (k .inv .1) _ _ (omega arith)
-          (used-even p l (v .result) (is ∙ w .0 .taken) (v .ensures) _ _ known (w .7 .ensures)) (used-odd p l (v .result) (is ∙ w .0 .taken) (v .ensures) _ _ known (w .9 .ensures))))
+          (chosen-even p _ (v .result) (v .ensures) l (is ∙ w .0 .taken) _ _ known (w .7 .ensures)) (chosen-odd p _ (v .result) (v .ensures) l (is ∙ w .0 .taken) _ _ known (w .9 .ensures))))
           (λ w. rw (w .1) (filled-pass-two (2 * maxLinks) (used p) l (k .u) (k .inv .1) (used-dead p (2 * l) l (even-half l) (is ∙ w .0 .left)) (used-dead p (2 * l + 1) l (odd-half l) (is ∙ w .0 .left))))
           (c .if1 .came),
     )

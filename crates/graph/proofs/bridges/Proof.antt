@@ -20,7 +20,7 @@ loop-holds c = (omega arith, filled-none maxLinks (bridge (c .before .before .be
 is-bridge-by-requires : tie.Need-is-bridge-by-requires Inv-loop μ-loop
 is-bridge-by-requires c κs =
     let s = c .before .before .before .before .before in
-    (s .before .pre, (s .visit-start .ensures, (c .before .before .before .covered-links .ensures, omega (arith, s .before .pre .few-links))))
+    (s .before .pre, (s .visit-all .ensures, (c .before .before .before .covered-links .ensures, omega (arith, s .before .pre .few-links))))
 
 loop-again : tie.Need-loop-again Inv-loop μ-loop
 loop-again c =
@@ -39,7 +39,7 @@ returns c =
 
 pub bridges-spec : {M : Type 1} → statement M
 bridges-spec =
-    tie.close (tie.spec Inv-loop μ-loop (λ c κs. c .pre) (λ c κs. (c .before .pre, c .visit-start .ensures))
-    (λ c κs. (c .before .before .pre, (c .before .visit-start .ensures, c .entry-links .ensures))) (λ c. omega arith) loop-holds
+    tie.close (tie.spec Inv-loop μ-loop (λ c κs. (c .pre, c .pre .start-in)) (λ c κs. (c .before .pre, c .visit-all .ensures))
+    (λ c κs. (c .before .before .pre, (c .before .visit-all .ensures, c .entry-links .ensures))) (λ c. omega arith) loop-holds
     is-bridge-by-requires (λ c. omega (arith, c .before .before .before .before .before .before .before .pre .few-links)) (λ c. omega arith)
     (λ c. omega arith) loop-again returns)

@@ -9,13 +9,13 @@ use Rattle.graph.proofs.covered_links.Statement.{statement}
 use Rattle.graph.proofs.covered_links.Tie as tie
 
 abbrev Inv-loop : tie.InvT-loop
-Inv-loop p v up c₀ n k₀ c k = (k ≤ n) × Covered p k c
+Inv-loop p v up c₀ n k₀ c k = (k ≤ n) × Covered p (p .start) k c
 
 abbrev μ-loop : tie.MeasureT-loop
 μ-loop p v up c₀ n k₀ c k = n - k
 
 loop-holds : tie.Need-loop-holds Inv-loop μ-loop
-loop-holds c = (omega arith, covered-none (c .before .args .p) (c .before .pre .0))
+loop-holds c = (omega arith, covered-none (c .before .args .p) _ (c .before .pre .0) (c .before .pre .0 .start-in))
 
 climb-requires : tie.Need-climb-requires Inv-loop μ-loop
 climb-requires c κs =
@@ -29,11 +29,11 @@ loop-again c =
     let k = c .before .before .before .loop in (
       omega arith,
       ⊎-elim (λ w. rw (w .2) (w .1 .ensures))
-          (λ w. rw (w .1) (covered-pass _ (s .pre .0) (k .inv .1) (sym (c .before .closes-cycle .ensures) ∙ w .0 .left))) (c .if1 .came),
+          (λ w. rw (w .1) (covered-pass _ _ (s .pre .0) (s .pre .0 .start-in) (k .inv .1) (sym (c .before .closes-cycle .ensures) ∙ w .0 .left))) (c .if1 .came),
     )
 
 returns : tie.Need-returns Inv-loop μ-loop
-returns c = covered-all _ (c .before .before .before .pre .0) (c .before .loop .inv .1) (c .loop-test .left)
+returns c = covered-all _ _ (c .before .before .before .pre .0) (c .before .before .before .pre .0 .start-in) (c .before .loop .inv .1) (c .loop-test .left)
 
 pub covered-links-spec : {M : Type 1} → statement M
 covered-links-spec =

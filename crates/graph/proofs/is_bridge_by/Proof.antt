@@ -9,12 +9,12 @@ use Rattle.graph.proofs.is_bridge_by.Tie as tie
 returns : tie.Need-returns
 returns c =
     let s = c .before .before in
-    bridge-entry _ (s .pre .0) (s .args .l) (s .pre .1 .0) (s .pre .1 .1 .0) (c .if1 .taken)
+    bridge-entry _ _ (s .pre .0) (s .pre .0 .start-in) (s .args .l) (s .pre .1 .0) (s .pre .1 .1 .0) (c .if1 .taken)
 
 returns-2 : tie.Need-returns-2
 returns-2 c =
     let s = c .before .before .before .before .before .before in
-    sym (bridge-not-met (s .args .t1) (s .args .l) (s .args .t2) (s .pre .0) (s .pre .1 .0) (c .before .before .before .before .if1 .left) (c .if2 .taken))
+    sym (bridge-not-met (s .args .t1) _ (s .args .t2) (s .pre .1 .0) (s .args .l) (s .pre .0) (s .pre .0 .start-in) (c .before .before .before .before .if1 .left) (c .if2 .taken))
 
 pub is-bridge-by-spec : {M : Type 1} → statement M
 is-bridge-by-spec =

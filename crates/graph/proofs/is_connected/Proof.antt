@@ -22,14 +22,14 @@ loop-holds : tie.Need-loop-holds Inv-loop μ-loop
 loop-holds c = (omega arith, λ x h. absurd (omega arith))
 
 returns : tie.Need-returns Inv-loop μ-loop
-returns c = connected-not _ _ (c .before .before .before .before .before .visit-start .ensures) _ (c .before .before .loop-test .taken) (not-true _ (c .if1 .taken))
+returns c = connected-not _ _ (c .before .before .before .before .before .visit-all .ensures) _ (c .before .before .loop-test .taken) (not-true _ (c .if1 .taken))
 
 loop-again : tie.Need-loop-again Inv-loop μ-loop
 loop-again c = (omega arith, upto (c .before .before .before .loop .inv .1) (not-false _ (c .if1 .left)))
 
 returns-2 : tie.Need-returns-2 Inv-loop μ-loop
 returns-2 c =
-    connected-all _ _ (c .before .before .before .visit-start .ensures) (λ x h. c .before .loop .inv .1 x (omega arith))
+    connected-all _ _ (c .before .before .before .visit-all .ensures) (λ x h. c .before .loop .inv .1 x (omega arith))
 
 pub is-connected-spec : {M : Type 1} → statement M
 is-connected-spec =

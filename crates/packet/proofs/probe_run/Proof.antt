@@ -12,18 +12,18 @@ use Rattle.packet.proofs.probe_run.Tie as tie
 
 returns : tie.Need-returns
 returns c =
-    let s = c .before .before .before .before .before .args in
-    full-is (s .p) (s .table) (s .states .now) (s .trail .now) (s .s) (s .m) _ (c .before .if1 .taken) (c .full-check .ensures)
+    let s = c .before .before .before .before .args in
+    full-is (s .p) (s .table) (s .states .now) (s .trail .now) (s .s) (s .links) (s .m) _ (c .before .if1 .taken) (c .full-check .ensures)
 
 span-of-requires : tie.Need-span-of-requires
 span-of-requires c κs =
-    let s = c .before .before .before .before in
-    (s .pre .0 .sound, (s .pre .0 .trail, (s .pre .1 .0, omega (arith, c .if1 .left))))
+    let s = c .before .before .before in
+    (s .pre .0 .sound, (s .pre .0 .trail, s .pre .1))
 
 there-and-back-requires : tie.Need-there-and-back-requires
 there-and-back-requires c κs =
     let b = c .before .before .before in
-    let s = b .before .before .before .before .before in
+    let s = b .before .before .before .before in
     let x = ap length (c .before .stretch .ensures ∙ ap (stretchOf (s .args .trail .now)) (b .span-of .ensures)) in
     let y = ap length (c .front .ensures ∙ ap (frontOf (s .args .trail .now)) (b .span-of .ensures)) in (
       record {
@@ -37,8 +37,8 @@ there-and-back-requires c κs =
 returns-2 : tie.Need-returns-2
 returns-2 c =
     let b = c .before .before .before .before in
-    let s = b .before .before .before .before .before .args in
-    back-is (s .p) (c .before .before .before .all-rules .result) (s .states .now) (s .trail .now) (s .s) (c .before .before .before .all-rules .ensures) (s .m)
+    let s = b .before .before .before .before .args in
+    back-is (s .p) (c .before .before .before .all-rules .result) (s .states .now) (s .trail .now) (s .s) (c .before .before .before .all-rules .ensures) (s .links) (s .m)
     (b .span-of .result) _ _ _ (b .before .if1 .left) (b .span-of .ensures) (c .before .before .stretch .ensures) (c .before .front .ensures)
     (c .there-and-back .ensures)
 

@@ -2,7 +2,7 @@
 use mathlib.Core.Path.{sym, _∙_}
 use Rattle.answers.proofs.Checks.{passed, turned-down}
 use Rattle.planning.proofs.Counted.{planned}
-use Rattle.rings.specs.Rules.{upBy}
+use Rattle.rings.specs.Rules.{upByLink}
 use Rattle.packet.specs.Runs.{endOf}
 use Rattle.probing.specs.Calls.{checkIn}
 use Rattle.probing.proofs.Lent.{lent-same, lent-can}
@@ -27,7 +27,7 @@ returns c =
     let m = c .before .before in
     let j = m .before .before in
     let s = j .before .before .before .before .args in
-    checked (s .p) (s .trail .now) (s .switch) (lent-same _ _ _ _ (j .judge-lent .ensures) (m .enum-told .given .1)) (upBy (s .states .now)) (endOf (c .before .full-check .result)) _ (c .outcome-of .ensures)
+    checked (s .p) (s .trail .now) (s .switch) (lent-same _ _ _ _ (j .judge-lent .ensures) (m .enum-told .given .1)) (upByLink (s .states .now)) (endOf (c .before .full-check .result)) _ (c .outcome-of .ensures)
     (c .before .full-check .ensures)
     ∙ sym (passed _ _ (j .judge-lent .ensures) _ (m .enum-told .given .1))
 

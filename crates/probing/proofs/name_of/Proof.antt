@@ -1,6 +1,8 @@
 -- What is named by what a sound search says. Assumes nothing.
 use mathlib.Core.Path.{subst}
 use native.Mathlib.Omega.{arith}
+use Rattle.walks.specs.Graph.{liveLinks}
+use Rattle.planning.proofs.Counted.{links-few}
 use Rattle.search.specs.Sound.{SaysIn}
 use Rattle.probing.proofs.Lent.{lent-arcs}
 use Rattle.probing.proofs.Results.{named-link}
@@ -17,13 +19,13 @@ sub-j : tie.Need-sub-j
 sub-j c =
     let n = c .before .before in
     let s = n .before .before .before in
-    omega (arith, subst (SaysIn (s .args .p .count)) (n .said .given .1) (s .pre .1 .1))
+    omega (arith, subst (SaysIn (liveLinks (s .args .p))) (n .said .given .1) (s .pre .1 .1))
 
 element-copy-out-t10 : tie.Need-element-copy-out-t10
 element-copy-out-t10 c =
     let n = c .before .before in
     let s = n .before .before .before in
-    omega (arith, subst (SaysIn (s .args .p .count)) (n .said .given .1) (s .pre .1 .1), s .pre .0 .0 .few-links)
+    omega (arith, subst (SaysIn (liveLinks (s .args .p))) (n .said .given .1) (s .pre .1 .1), links-few (s .args .p) (s .pre .0 .0))
 
 returns : tie.Need-returns
 returns c = simp (c .enum-told .given .1)

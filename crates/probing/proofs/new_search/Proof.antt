@@ -1,8 +1,7 @@
 -- The refusals of the plant, then what is answered in it. Assumes nothing.
-use mathlib.Core.Path.{sym, ap, _∙_}
+use mathlib.Core.Path.{ap, _∙_}
 use Rattle.answers.proofs.Beside.{on-giving, off-giving}
 use Rattle.walks.specs.Graph.{liveLinks}
-use Rattle.walks.proofs.Live.{all-live}
 use Rattle.search.specs.Search.{newSearch}
 use Rattle.planning.specs.Planning.{planningAt}
 use Rattle.probing.specs.Calls.{beginning}
@@ -13,8 +12,9 @@ use Rattle.probing.proofs.new_search.Tie as tie
 returns : tie.Need-returns
 unfolding beginning
 returns c =
-    let m = c .before in
-    on-giving _ (planningAt _ _) _ _ (m .before .before .plan-at .ensures .0) (λ p. newSearch (liveLinks p)) _ (m .enum-told .given .1) (c .new .ensures ∙ ap newSearch (sym (all-live (m .before .before .plan-at .result .plant))))
+    let l = c .before in
+    let m = l .before in
+    on-giving _ (planningAt _ _) _ _ (m .before .before .plan-at .ensures .0) (λ p. newSearch (liveLinks p)) _ (m .enum-told .given .1) (c .new .ensures ∙ ap newSearch (l .links-in-service .ensures))
 
 returns-2 : tie.Need-returns-2
 unfolding beginning
@@ -23,4 +23,4 @@ returns-2 c =
     off-giving _ (planningAt _ _) _ _ (m .before .before .plan-at .ensures .0) (λ p. newSearch (liveLinks p)) _ (m .v .given .1)
 
 pub new-search-spec : {M : Type 1} → statement M
-new-search-spec = tie.close (tie.spec (λ c κs. search needs) (λ c. search needs) (λ c κs. search needs) (λ c. search needs) returns returns-2)
+new-search-spec = tie.close (tie.spec (λ c κs. search needs) (λ c. search needs) (λ c κs. search needs) (λ c κs. search needs) (λ c. search needs) returns returns-2)

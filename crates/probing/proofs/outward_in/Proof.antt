@@ -21,7 +21,7 @@ span-in-requires c κs =
     let a = c .before .before .before in
     let d = a .before in
     let s = d .before .before .before .before in
-    (s .pre, (trail-same _ _ (sym (d .before .differs .ensures) ∙ d .if1 .left), probe-among (s .args .p) _ _ (a .probe-wanted .ensures) _ (c .before .m .given .1)))
+    (s .pre, (trail-same _ _ (sym (d .before .differs .ensures) ∙ d .if1 .left), probe-among _ _ _ (a .probe-wanted .ensures) _ (c .before .m .given .1)))
 
 returns-2 : tie.Need-returns-2
 unfolding outwardIn
@@ -31,7 +31,7 @@ returns-2 c =
     let d = a .before in
     let s = d .before .before .before .before in
     fails 12 _ _ _ (sym (d .before .differs .ensures) ∙ d .if1 .left)
-    (probe-given (s .args .p) _ _ (a .probe-wanted .ensures) (outSpan (s .args .p) _) _ _ (n .m .given .1) (c .span-in .ensures))
+    (probe-given _ _ _ (a .probe-wanted .ensures) (outSpan (s .args .p) _) _ _ (n .m .given .1) (c .span-in .ensures))
 
 returns-3 : tie.Need-returns-3
 unfolding outwardIn
@@ -41,7 +41,7 @@ returns-3 c =
     let d = a .before in
     let s = d .before .before .before .before in
     fails 12 _ _ _ (sym (d .before .differs .ensures) ∙ d .if1 .left)
-    (probe-refused (s .args .p) _ _ (a .probe-wanted .ensures) (outSpan (s .args .p) _) _ (n .k .given .1))
+    (probe-refused _ _ _ (a .probe-wanted .ensures) (outSpan (s .args .p) _) _ (n .k .given .1))
 
 pub outward-in-spec : {M : Type 1} → statement M
 outward-in-spec =

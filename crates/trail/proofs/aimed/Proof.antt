@@ -4,7 +4,7 @@ use mathlib.Core.Logic.{⊎-elim}
 use native.Mathlib.Omega.{arith}
 use borrow.Author.Needs.{needs}
 use Rattle.walks.specs.Arcs.{tail}
-use Rattle.trail.proofs.Walkers.{goal-arc, goal-start, goal-lt, walker-is}
+use Rattle.trail.proofs.Walkers.{goal-arc, goal-root, goal-lt, walker-is}
 use Rattle.trail.proofs.aimed.Statement.{statement}
 use Rattle.trail.proofs.aimed.Tie as tie
 
@@ -17,10 +17,10 @@ next-requires c κs =
     let s = c .before .before in
     let a = c .before .nearest in
     let goal = ⊎-elim
-    (λ w. goal-arc (s .args .t1) (s .args .used) (s .args .crossed) (s .args .u) (a .result) (c .if1 .to) (a .ensures) (w .0 .taken) (w .3 ∙ w .2 .ensures))
-    (λ w. goal-start (s .args .t1) (s .args .used) (s .args .crossed) (s .args .u) (a .result) (c .if1 .to) (a .ensures) (w .0 .left) (w .1))
+    (λ w. goal-arc (s .args .t1) (s .args .used) (s .args .root) (s .args .crossed) (s .args .u) (a .result) (c .if1 .to) (a .ensures) (w .0 .taken) (w .3 ∙ w .2 .ensures))
+    (λ w. goal-root (s .args .t1) (s .args .used) (s .args .root) (s .args .crossed) (s .args .u) (a .result) (c .if1 .to) (a .ensures) (w .0 .left) (w .1))
     (c .if1 .came) in
-    (omega (arith, s .pre .0 .few-switches), omega (arith, s .pre .0 .few-switches, goal, goal-lt (s .args .t1) (s .args .used) (s .args .crossed) (s .args .u) (s .pre .0)))
+    (omega (arith, s .pre .0 .few-switches), omega (arith, s .pre .0 .few-switches, goal, goal-lt (s .args .t1) (s .args .used) (s .args .root) (s .args .crossed) (s .args .u) (s .pre .0) (s .pre .1 .1 .1 .0)))
 
 returns : tie.Need-returns
 unfolding tail
@@ -28,10 +28,10 @@ returns c =
     let if1 = c .before .if1 in
     let a = c .before .before .nearest in
     let s = c .before .before .before in
-    walker-is (s .args .t1) (s .args .used) (s .args .crossed) (s .args .u) (s .pre .0) (s .pre .1 .1 .1) (a .result) (if1 .to) (c .next .result) _ (a .ensures)
+    walker-is (s .args .t1) (s .args .used) (s .args .root) (s .args .crossed) (s .args .u) (s .pre .0) (s .pre .1 .1 .1 .0) (s .pre .1 .1 .1 .1) (a .result) (if1 .to) (c .next .result) _ (a .ensures)
     (⊎-elim
-    (λ w. goal-arc (s .args .t1) (s .args .used) (s .args .crossed) (s .args .u) (a .result) (if1 .to) (a .ensures) (w .0 .taken) (w .3 ∙ w .2 .ensures))
-    (λ w. goal-start (s .args .t1) (s .args .used) (s .args .crossed) (s .args .u) (a .result) (if1 .to) (a .ensures) (w .0 .left) (w .1))
+    (λ w. goal-arc (s .args .t1) (s .args .used) (s .args .root) (s .args .crossed) (s .args .u) (a .result) (if1 .to) (a .ensures) (w .0 .taken) (w .3 ∙ w .2 .ensures))
+    (λ w. goal-root (s .args .t1) (s .args .used) (s .args .root) (s .args .crossed) (s .args .u) (a .result) (if1 .to) (a .ensures) (w .0 .left) (w .1))
     (if1 .came))
     (s .pre .1 .1 .0) (c .next .ensures)
 

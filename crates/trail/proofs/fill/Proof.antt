@@ -1,77 +1,24 @@
--- The trail into a buffer. The invariant: to store what is left from place i on makes what the whole trail makes. The measure is the hops left.
--- Assumes nothing.
-use mathlib.Core.Path.{_≡_, refl, sym, ap, _∙_}
-use Prim.Native.Nat.{_+_}
+-- The trail from the start into a buffer. Assumes nothing.
+use mathlib.Core.Path.{ap, _∙_}
+use mathlib.Core.List.{List}
+use Prim.Native.Nat.{ℕ}
 use native.Mathlib.Omega.{arith}
 use borrow.Author.Needs.{needs}
-use lib.ListN.{length, length-set}
-use lib.Seq.{sets}
-use Rattle.lists.proofs.Arrays.{sets-front}
-use Rattle.routes.specs.Plants.{trailOf}
-use Rattle.trail.specs.Steps.{Stands}
-use Rattle.trail.proofs.Filled.{store-one}
-use Rattle.trail.proofs.Rest.{restOf, begins, steps, ends}
+use lib.ListN.{length}
+use Rattle.trail.specs.Filled.{filledWith}
+use Rattle.trail.proofs.Rest.{rooted, from-start}
 use Rattle.trail.proofs.fill.Statement.{statement}
 use Rattle.trail.proofs.fill.Tie as tie
 
-abbrev Inv-loop : tie.InvT-loop
-Inv-loop p used t via buf₀ end w₀ i₀ buf w i =
-    Stands p used w × (i + length (restOf p used w) ≡ length (trailOf p)) × (length buf ≡ length buf₀) × (sets buf i (restOf p used w) ≡ sets buf₀ 0 (trailOf p))
+fill-from-requires : tie.Need-fill-from-requires
+fill-from-requires c κs =
+    let s = c .before .before in
+    (rooted (s .pre .0), (s .pre .1 .0, (s .pre .1 .1 .0, omega (arith, s .pre .1 .1 .1, ap length (from-start (s .pre .0))))))
 
-abbrev μ-loop : tie.MeasureT-loop
-μ-loop p used t via buf₀ end w₀ i₀ buf w i = length (restOf p used w)
-
-mul-end : tie.Need-mul-end Inv-loop μ-loop
-mul-end c = omega (arith, c .before .before .pre .0 .sound .few-links)
-
-begin-requires : tie.Need-begin-requires Inv-loop μ-loop
-begin-requires c κs = let s = c .before .before in (s .pre .0 .sound, (s .pre .1 .0, s .pre .1 .1 .0))
-
-loop-holds : tie.Need-loop-holds Inv-loop μ-loop
-loop-holds c =
-    let s = c .before .before .before in
-    let b = begins (s .pre .0) (c .begin .ensures) in
-    (b .stands, omega (arith, ap length (b .rest)), refl, ap (sets (s .args .buf .now) 0) (b .rest))
-
-slice-write-buf : tie.Need-slice-write-buf Inv-loop μ-loop
-slice-write-buf c =
-    let k = c .before .before .loop in
-    let s = c .before .before .before .before .before .before in
-    let go = steps (s .pre .0) (k .inv .0) (omega (arith, c .if1 .taken)) refl in
-    omega (arith, s .pre .1 .1 .1, k .inv .1, k .inv .2, ap length (go .rest))
-
-step-requires : tie.Need-step-requires Inv-loop μ-loop
-step-requires c κs =
-    let s = c .before .before .before .before .before .before in
-    (s .pre .0, (s .pre .1 .0, (s .pre .1 .1 .0, (c .before .before .loop .inv .0, omega (arith, c .if1 .taken)))))
-
-loop-less : tie.Need-loop-less Inv-loop μ-loop
-loop-less c =
-    let k = c .before .before .before .loop in
-    let s = c .before .before .before .before .before .before .before in
-    omega (arith, ap length (steps (s .pre .0) (k .inv .0) (omega (arith, c .before .if1 .taken)) (c .step .ensures) .rest))
-
-loop-again : tie.Need-loop-again Inv-loop μ-loop
-loop-again c =
-    let k = c .before .before .before .loop in
-    let s = c .before .before .before .before .before .before .before in
-    let go = steps (s .pre .0) (k .inv .0) (omega (arith, c .before .if1 .taken)) (c .step .ensures) in (
-      go .stands,
-      omega (arith, k .inv .1, ap length (go .rest)),
-      length-set (k .buf) (k .i) (k .w .next) ∙ k .inv .2,
-      sym (store-one (k .buf) _ _ (k .i) (k .w .next) (go .rest)) ∙ k .inv .3,
-    )
-
-same-length : tie.Need-same-length Inv-loop μ-loop
-same-length c = c .before .before .loop .inv .2
-
-returns : tie.Need-returns Inv-loop μ-loop
+returns : tie.Need-returns
 returns c =
-    let k = c .before .before .loop in
-    let s = c .before .before .before .before .before .before in
-    sym (ap (sets (k .buf) (k .i)) (ends (s .pre .0) (k .inv .0) (c .if1 .left))) ∙ k .inv .3 ∙ sets-front (s .args .buf .now) (trailOf (s .args .p)) (s .pre .1 .1 .1)
+    let s = c .before .before .before .before .before in
+    c .before .before .fill-from .ensures ∙ ap (λ (w : List ℕ). filledWith w (s .args .buf .now)) (from-start (s .pre .0))
 
 pub fill-spec : {M : Type 1} → statement M
-fill-spec =
-    tie.close (tie.spec Inv-loop μ-loop mul-end begin-requires loop-holds (λ c. search needs) slice-write-buf step-requires (λ c. search needs)
-    loop-less loop-again same-length returns)
+fill-spec = tie.close (tie.spec fill-from-requires (λ c. search needs) returns)

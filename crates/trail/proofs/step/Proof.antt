@@ -15,13 +15,13 @@ unfolding head
 aimed-requires c κs =
     let of-head = c .before .before in
     let s = of-head .before .before .before in
-    (s .pre .0 .sound, (s .pre .1 .0, (s .pre .1 .1 .0, omega (arith, of-head .head-of .ensures, head-lt (s .args .t1) (s .pre .0 .sound) (s .args .w .next) (s .pre .1 .1 .1 .1)))))
+    (s .pre .0 .sound, (s .pre .1 .0, (s .pre .1 .1 .0, (s .pre .0 .root, omega (arith, of-head .head-of .ensures, head-lt (s .args .t1) (s .pre .0 .sound) (s .args .w .next) (s .pre .1 .1 .1 .1))))))
 
 returns : tie.Need-returns
 unfolding head
 returns c =
     let of-head = c .before .before .before in
-    c .aimed .ensures ∙ ap (walkerAt _ _ _) (of-head .head-of .ensures)
+    c .aimed .ensures ∙ ap (walkerAt _ _ _ _) (of-head .head-of .ensures)
 
 next-requires : tie.Need-next-requires
 unfolding head
@@ -31,7 +31,7 @@ next-requires c κs =
     let w = s .args .w in
     let few = s .pre .0 .sound .few-switches in (
       omega (arith, of-head .head-of .ensures, head-lt (s .args .t1) (s .pre .0 .sound) (w .next) (s .pre .1 .1 .1 .1)),
-      omega (arith, to-is (s .pre .0) (s .pre .1 .1 .1 .0), goal-lt (s .args .t1) (s .args .used) (w .crossed) (w .at) (s .pre .0 .sound)),
+      omega (arith, to-is (s .pre .0) (s .pre .1 .1 .1 .0), goal-lt (s .args .t1) (s .args .used) (s .args .root) (w .crossed) (w .at) (s .pre .0 .sound) (s .pre .0 .root)),
     )
 
 returns-2 : tie.Need-returns-2
