@@ -106,7 +106,7 @@ fn begin(at: u8) -> Visited
 }
 
 // The depth-first visit from a switch, with link `skip` left out. A number from the link count on leaves none out.
-pub fn visit(p: Plant, skip: usize, from: u8) -> Visited
+fn visit(p: Plant, skip: usize, from: u8) -> Visited
     requires { ⌜ Sound p ⌝ }
     requires { ⌜ from < p .switches ⌝ }
     ensures { λ r. ⌜ Shows r (visitFrom p from (others p skip)) ⌝ }
@@ -115,7 +115,7 @@ pub fn visit(p: Plant, skip: usize, from: u8) -> Visited
 }
 
 // The visit from a switch, with all links: the numbering of the switches.
-pub fn visit_all(p: Plant, from: u8) -> Visited
+fn visit_all(p: Plant, from: u8) -> Visited
     requires { ⌜ Sound p ⌝ }
     requires { ⌜ from < p .switches ⌝ }
     ensures { λ r. ⌜ Shows r (visitedFrom p from) ⌝ }
@@ -141,7 +141,7 @@ pub fn is_connected(p: Plant) -> bool
 }
 
 // Is link l a bridge: are its two ends not joined without it?
-pub fn is_bridge(p: Plant, l: usize) -> bool
+fn is_bridge(p: Plant, l: usize) -> bool
     requires { ⌜ Sound p ⌝ }
     requires { ⌜ l < maxLinks ⌝ }
     ensures { λ r. ⌜ r ≡ bridge p l ⌝ }

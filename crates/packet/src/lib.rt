@@ -149,7 +149,7 @@ pub fn full_check(
 }
 
 // All rules: those of the forwarding table, and those that opposite arcs have of their own. There are two to each link that takes part.
-pub fn all_rules(p: Plant) -> [bool; Plant::LABELS]
+fn all_rules(p: Plant) -> [bool; Plant::LABELS]
     requires { ⌜ Sound p ⌝ }
     ensures { λ r. ⌜ ForAll p r ⌝ }
 {

@@ -210,7 +210,7 @@ fn begin(
 }
 
 // The number of hops of the trail from the root.
-pub fn hops_from(
+fn hops_from(
     p: Plant,
     used: [bool; Plant::LABELS],
     t: [[u8; Plant::PLACES]; Plant::PLACES],
@@ -233,7 +233,7 @@ pub fn hops_from(
 }
 
 // The trail from the root into the front of a lent buffer that has room for it; the places after it keep their contents.
-pub fn fill_from(
+fn fill_from(
     p: Plant,
     used: [bool; Plant::LABELS],
     t: [[u8; Plant::PLACES]; Plant::PLACES],
@@ -258,7 +258,7 @@ pub fn fill_from(
 }
 
 // Does the lent slice begin with the hops of the trail from the root? Places past them are not looked at.
-pub fn compare_from(
+fn compare_from(
     p: Plant,
     used: [bool; Plant::LABELS],
     t: [[u8; Plant::PLACES]; Plant::PLACES],
