@@ -15,8 +15,7 @@ use Rattle.answers.specs.Checks.{check, answer, leaves}
 use Rattle.answers.proofs.Checks.{given-refused, refused-refused, goes-on, gives-so}
 use Rattle.limits.specs.Sound.{Sound}
 use Rattle.codec.specs.Field.{Bytes}
-use Rattle.listing.specs.Listing.{encode}
-use Rattle.listing.specs.Listing.{reading}
+use Rattle.listing.specs.Listing.{encode, reading}
 use Rattle.listing.specs.Writing.{writing}
 use Rattle.listing.proofs.RoundTrip.{read-write, write-read, decode-sound}
 use Rattle.listing.proofs.WriteRoundTrip.{sound-written, buffer-written}

@@ -16,10 +16,8 @@ use Rattle.plant.specs.declared.Plant.{Plant}
 use Rattle.plant.specs.Links.{live}
 use Rattle.limits.specs.Sound.{Sound}
 use Rattle.codec.specs.Field.{Bytes}
-use Rattle.listing.specs.Listing.{encode}
-use Rattle.listing.specs.Listing.{reading}
-use Rattle.listing.specs.Writing.{writing}
-use Rattle.listing.specs.Writing.{bufferAfter}
+use Rattle.listing.specs.Listing.{encode, reading}
+use Rattle.listing.specs.Writing.{writing, bufferAfter}
 use Rattle.walks.specs.Arcs.{tail, head}
 use Rattle.walks.specs.Graph.{Crosses, ClosedWalk, ClosedWalks, Connected, Bridge, visited, bridge, used, liveLinks, bridges}
 use Rattle.walks.specs.ByLinks.{visitLinks}

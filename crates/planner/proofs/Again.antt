@@ -12,15 +12,12 @@ use Rattle.answers.proofs.Checks.{goes-on, stops, gives-so, refuses-so}
 use Rattle.answers.proofs.Beside.{beside-as}
 use Rattle.listing.specs.declared.Decoded.{Decoded}
 use Rattle.codec.specs.Field.{Bytes}
-use Rattle.listing.specs.Listing.{encode}
-use Rattle.listing.specs.Writing.{soundPlant, bufferShort, bufferAfter}
+use Rattle.listing.specs.Listing.{encode, reading}
+use Rattle.listing.specs.Writing.{soundPlant, bufferShort, bufferAfter, writing}
 use Rattle.listing.specs.Steps.{Typed}
-use Rattle.listing.specs.Listing.{reading}
-use Rattle.listing.specs.Writing.{writing}
 use Rattle.listing.specs.Answers.{Reads}
 use Rattle.listing.proofs.RoundTrip.{read-write, decode-sound}
-use Rattle.listing.proofs.WriteRoundTrip.{sound-given, written-given, written-read}
-use Rattle.listing.proofs.WriteRoundTrip.{buffer-length}
+use Rattle.listing.proofs.WriteRoundTrip.{sound-given, written-given, written-read, buffer-length}
 use Rattle.planner.specs.Calls.{rewriting, rewritten, rereading}
 
 -- ---- read and written again

@@ -88,9 +88,9 @@ OutwardParts s x w q a = (b : Span) → a ≡ given b → stretchOf w b ++ front
 abbrev pub probeOver : Plant → ℕ → List ℕ → Search → Checked Outcome
 probeOver p x states q = check (wantedChecks (liveLinks p) q) (outcomeOf (probeRun p (trailOf p) x (liveLinks p) (upByLink states) (wanted q)))
 
--- 12 and 13 before
+-- 12 and 13, then that
 unfoldable pub probeIn : ℕ → List ℕ → List ℕ → Search → Plant → Checked Outcome
-probeIn x w states q p = check (lentChecks p w states ++ wantedChecks (liveLinks p) q) (outcomeOf (probeRun p (trailOf p) x (liveLinks p) (upByLink states) (wanted q)))
+probeIn x w states q p = check {A = Unit} (lentChecks p w states) tt then λ _. probeOver p x states q
 
 unfoldable pub probing : List ℕ → ℕ → List ℕ → List ℕ → Search → Checked Outcome
 probing s x w states q = planningAt s x then probeIn x w states q
