@@ -135,6 +135,12 @@ pub fn long(switches: usize, back: usize) -> Sketch {
     sketch
 }
 
+/// A path with random links besides, so many in all: the visit enters each
+/// switch from the one before.
+pub fn deep(chance: &mut Chance, switches: usize, links: usize) -> Sketch {
+    path(switches).extend(chance, links - (switches - 1))
+}
+
 impl Sketch {
     /// Adds random links between different switches.
     fn extend(mut self, chance: &mut Chance, links: usize) -> Sketch {

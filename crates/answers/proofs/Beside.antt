@@ -1,5 +1,5 @@
 -- Laws of an answer beside a value: by the verdict, and from what the answer is. Assumes nothing.
-use mathlib.Core.Path.{_≡_, sym, ap, _∙_}
+use mathlib.Core.Path.{_≡_, refl, sym, ap, _∙_}
 use Rattle.answers.specs.declared.Refusal.{Refusal}
 use Rattle.answers.specs.declared.Verdict.{Verdict}
 use Rattle.answers.specs.declared.Verdict.the-variants as verdict
@@ -36,6 +36,14 @@ module _ {A : Type 0} (none : A) (c : Checked A) (v : Verdict) (x : A) (q : Besi
 
     pub off-then : (k : Refusal) → v ≡ verdict.Refused k → refused (numberOf k) ≡ answer (c then f)
     off-then k e = sym (stops c f (numberOf k) (was-refused none (answer c) v x q k e))
+
+    -- the same, where the answer that follows stands beside a value
+    module _ (no : B) (w : Verdict) (y : B) where
+      pub on-beside : v ≡ verdict.Accepted → Beside no (answer (f x)) w y → Beside no (answer (c then f)) w y
+      on-beside e b = beside-as no (answer (f x)) (answer (c then f)) w y (on-then (answer (f x)) e refl) b
+
+      pub off-beside : (k : Refusal) → v ≡ verdict.Refused k → Beside no (refused (numberOf k)) w y → Beside no (answer (c then f)) w y
+      off-beside k e b = beside-as no (refused (numberOf k)) (answer (c then f)) w y (off-then k e) b
 
   module _ {B : Type 0} (f : A → B) where
     pub on-giving : (y : B) → v ≡ verdict.Accepted → y ≡ f x → given y ≡ answer (c giving f)

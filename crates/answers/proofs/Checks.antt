@@ -6,7 +6,7 @@ use mathlib.Core.Bool.{Bool, true, false}
 use mathlib.Core.List.{List, [], _∷_, _++_}
 use Prim.Native.Nat.{ℕ}
 use native.Mathlib.Omega.{arith}
-use Rattle.answers.specs.Answers.{Answer, given, refused, refuse, _>>=_, numberOf, verdictAnswer}
+use Rattle.answers.specs.Answers.{Answer, given, refused, refuse, _>>=_, numberOf, verdictAnswer, firstOf}
 use Rattle.answers.specs.Checks.{Conditions, NoneHolds, FirstHolds, trying, Judges, Checked, answer, _then_, _giving_, leaves, Answers}
 use Rattle.answers.specs.declared.Refusal.{Refusal}
 use Rattle.answers.specs.declared.Verdict.{Verdict}
@@ -202,3 +202,8 @@ module _ (cs : Conditions) (v : Verdict) (j : Judges cs v) where
   -- and where it says refused, that refusal is
   pub turned-down : {A : Type 0} (a : Answer A) (k : Refusal) → v ≡ verdict.Refused k → trying cs a ≡ refused (numberOf k)
   turned-down a k e = let f = refused-exactly cs tt (numberOf k) .0 (sym (j .first) ∙ ap verdictAnswer e) in rw (f .tried) (first-trying (numberOf k) (f .before) (f .after) a (f .none-before))
+
+-- of two verdicts, the first that refuses is that of the conditions of both, one after the other
+pub first-judges : (cs ds : Conditions) (v w : Verdict) → Judges cs v → Judges ds w → Judges (cs ++ ds) (firstOf v w)
+first-judges cs ds verdict.Accepted w j k = record { first = k .first ∙ sym (trying-append cs ds (given tt) ∙ passed cs verdict.Accepted j (trying ds (given tt)) refl) }
+first-judges cs ds (verdict.Refused n) w j k = record { first = sym (trying-append cs ds (given tt) ∙ turned-down cs (verdict.Refused n) j (trying ds (given tt)) n refl) }

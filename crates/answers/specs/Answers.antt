@@ -48,6 +48,11 @@ abbrev pub verdictAnswer : Verdict → Answer Unit
 verdictAnswer verdict.Accepted = given tt
 verdictAnswer (verdict.Refused k) = refused (numberOf k)
 
+-- the first of two verdicts that refuses
+abbrev pub firstOf : Verdict → Verdict → Verdict
+firstOf verdict.Accepted w = w
+firstOf (verdict.Refused k) w = verdict.Refused k
+
 -- the value that stands beside an answer: its result, and `none` at a refusal
 abbrev pub valueOr : {A : Type 0} → A → Answer A → A
 valueOr none (given a) = a

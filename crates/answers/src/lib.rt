@@ -1,6 +1,6 @@
 // What a call answers: the seventeen refusals by name, and the verdict that stands beside a value.
 ghost use mathlib.Core.Path.{_≡_};
-ghost use Rattle.answers.specs.Answers.{numberOf};
+ghost use Rattle.answers.specs.Answers.{numberOf, firstOf};
 
 // The refusals, in the order of their numbers, 1 to 17. Each is named after its condition.
 pub enum Refusal {
@@ -53,4 +53,14 @@ impl Refusal {
 pub enum Verdict {
     Accepted,
     Refused(Refusal),
+}
+
+// Two verdicts, the one tried before the other: the refusal of the first that refuses.
+pub fn first_of(v: Verdict, w: Verdict) -> Verdict
+    ensures { λ r. ⌜ r ≡ firstOf v w ⌝ }
+{
+    match v {
+        Verdict::Accepted => w,
+        Verdict::Refused(k) => Verdict::Refused(k),
+    }
 }

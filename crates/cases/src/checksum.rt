@@ -1,7 +1,6 @@
 // The checksum of a list of numbers: 0, and then for each number v in turn (31 h + v + 1) mod 65521. And what a lent buffer holds before the call.
 use order::Order;
 use plant::Plant;
-use table::RULES;
 use table::Table;
 
 const MODULUS: u32 = 65521;
@@ -65,7 +64,7 @@ pub fn of_rules(t: Table) -> u32 {
     let n = t.count as usize;
     let mut h: u32 = 0;
     let mut i: usize = 0;
-    while i < RULES {
+    while i < Plant::MAX_RULES {
         if i < n {
             let r = t.rules[i];
             h = with(with(with(h, r.from as u16), r.label), r.to as u16);

@@ -5,7 +5,7 @@ use Prim.Native.Nat.{ℕ, zero, suc, _+_, _-_, _*_, _/_, _%_, _^_, _≤_, _<_}
 use native.Mathlib.Nat.{pow-suc, pow-le-pow-right}
 use native.Mathlib.Omega.{arith}
 use lib.ListN.{length, getD, take, drop}
-use lib.Seq.{drop-cons}
+use lib.Seq.{take-nil}
 use Rattle.codec.specs.Field.{number, bytesOf, Bytes}
 
 -- a slice of bytes holds bytes
@@ -50,6 +50,13 @@ number-fits (b ∷ bs) h = one-more (length bs) b (number bs) (h .0) (number-fit
 
 -- ---- reading from the high byte down
 
+-- its low byte, which past the end of the bytes counts as 0, and the others
+number-next : (w j : ℕ) (s : List ℕ) → number (take (suc w) (drop j s)) ≡ getD s j 0 + number (take w (drop (suc j) s)) * 256
+number-next w zero [] = rw (take-nil {A = ℕ} w) refl
+number-next w (suc j) [] = rw (take-nil {A = ℕ} w) refl
+number-next w zero (b ∷ s) = refl
+number-next w (suc j) (b ∷ s) = number-next w j s
+
 module _ (s : List ℕ) (at width : ℕ) where
   -- n is the number in the bytes of the field from its byte i on
   pub record From (i n : ℕ) : Type 0 where
@@ -61,15 +68,14 @@ module _ (s : List ℕ) (at width : ℕ) where
   from-end = let e : width - width ≡ 0 = omega arith in record { within = omega arith; is = rw e refl; fits = rw e (omega arith) }
 
   -- one byte further down
-  pub from-next : (i n b : ℕ) → at + width ≤ length s → 0 < i → b ≡ getD s (at + (i - 1)) 0 → b < 2 ^ 8 → From i n → From (i - 1) (n * 256 + b)
-  from-next i n b room h e small f =
+  pub from-next : (i n b : ℕ) → 0 < i → b ≡ getD s (at + (i - 1)) 0 → b < 2 ^ 8 → From i n → From (i - 1) (n * 256 + b)
+  from-next i n b h e small f =
       let k : width - (i - 1) ≡ suc (width - i) = omega (arith, f .within) in
       let j : suc (at + (i - 1)) ≡ at + i = omega arith in
       let m : n * 256 + b ≡ b + n * 256 = omega arith in
-      let q : at + (i - 1) < length s = omega (arith, f .within) in
       record {
         within = omega (arith, f .within);
-        is = rw (k, drop-cons s (at + (i - 1)) 0 q, j, m, e, f .is);
+        is = rw (k, number-next (width - i) (at + (i - 1)) s, j, m, e, f .is);
         fits = rw (k, m) (one-more (width - i) b n small (f .fits));
       }
 

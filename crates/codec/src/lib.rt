@@ -3,7 +3,7 @@ use answers::Refusal;
 use answers::Verdict;
 ghost use mathlib.Core.Path.{_≡_};
 ghost use Prim.Native.Nat.{_+_, _*_, _^_, _≤_, _<_};
-ghost use lib.ListN.{length, take, drop};
+ghost use lib.ListN.{length, getD, take, drop};
 ghost use lib.Seq.{sets};
 ghost use Rattle.codec.specs.Field.{number, bytesOf};
 ghost use Rattle.codec.specs.Part.{taken, size, rest, isGiven, fieldBytes, mapOf, bodyOf, partBytes};
@@ -39,6 +39,13 @@ struct Found {
     redundant: bool,
 }
 
+// The fields of a part that were read: their values by rising bit, the place after them, and whether one of them is redundant.
+struct Fields {
+    values: [u32; Layout::MOST],
+    next: usize,
+    redundant: bool,
+}
+
 // What a map tells: the bytes that the fields take, and what is left of it once each field has taken its bit.
 struct Extent {
     size: usize,
@@ -51,15 +58,25 @@ fn wide(b: u8) -> u32
     b as u32
 }
 
+// The byte at a place; past the end it counts as 0.
+fn byte_at(s: &[u8], at: usize) -> u32
+    ensures { λ r. ⌜ (r ≡ getD (now (s .entry)) at 0) × (r < 2 ^ 8) ⌝ }
+{
+    if s.len() <= at {
+        return 0;
+    }
+    wide(s[at])
+}
+
 // The number in `width` bytes from `at` on, low byte first.
 fn number_at(s: &[u8], at: usize, width: usize) -> u32
-    requires { ⌜ (width ≤ 4) × (at + width ≤ length (now s)) ⌝ }
+    requires { ⌜ (width ≤ 4) × (at + 4 < 2 ^ 64) ⌝ }
     ensures { λ r. ⌜ r ≡ number (take width (drop at (now (s .entry)))) ⌝ }
 {
     let mut n: u32 = 0;
     let mut left = width;
     while 0 < left {
-        n = n * 256 + wide(s[at + (left - 1)]);
+        n = n * 256 + byte_at(s, at + (left - 1));
         left -= 1;
     }
     n
@@ -67,7 +84,7 @@ fn number_at(s: &[u8], at: usize, width: usize) -> u32
 
 // The field that stands at `at`, by its bit.
 fn read_field(s: &[u8], at: usize, bit: usize, f: Field) -> Found
-    requires { ⌜ (f .width ≤ 4) × (at + taken f bit ≤ length (now s)) ⌝ }
+    requires { ⌜ (f .width ≤ 4) × (at + 4 < 2 ^ 64) ⌝ }
     ensures { λ r. ⌜ ReadsField f bit (drop at (now (s .entry))) r ⌝ }
 {
     if bit == 0 {
@@ -126,30 +143,29 @@ fn refused_part(k: Refusal, at: usize) -> Part
     }
 }
 
-// The fields of the part at `at`, whose map was read and whose bytes are there: refused if one is redundant.
-fn read_fields(s: &[u8], at: usize, map: usize, layout: Layout) -> Part
-    requires { do ⌜ Proper (← ⟦Layout::MOST⟧) layout × (at + 1 + size map (fieldsOf layout) ≤ length (now s)) ⌝ }
+// The fields of the part at `at`, whose map was read; a byte that is not there counts as 0.
+fn read_fields(s: &[u8], at: usize, map: usize, layout: Layout) -> Fields
+    requires { do ⌜ Proper (← ⟦Layout::MOST⟧) layout × (at < length (now s)) ⌝ }
     ensures { λ r. ⌜ ReadsFields layout (now (s .entry)) at map r ⌝ }
 {
     let n = layout.count;
     let mut values = [0u32; Layout::MOST];
     let mut next = at + 1;
+    let mut redundant = false;
     let mut m = map;
     let mut i: usize = 0;
     while i < n {
         let f = read_field(s, next, m % 2, layout.fields[i]);
-        if f.redundant {
-            return refused_part(Refusal::FieldRedundant, at);
-        }
         values[i] = f.value;
         next += f.size;
+        redundant = redundant || f.redundant;
         m = m / 2;
         i += 1;
     }
-    Part {
-        verdict: Verdict::Accepted,
+    Fields {
         values,
         next,
+        redundant,
     }
 }
 
@@ -166,10 +182,21 @@ pub fn read_part(s: &[u8], at: usize, layout: Layout) -> Part
     if 0 < e.rest {
         return refused_part(Refusal::MapUndefined, at);
     }
-    if s.len() - (at + 1) < e.size {
+    let fields = read_fields(s, at, map, layout);
+    let missing = s.len() - (at + 1) < e.size;
+    let redundant = fields.redundant;
+    if missing {
         return refused_part(Refusal::FieldMissing, at);
     }
-    read_fields(s, at, map, layout)
+    if redundant {
+        return refused_part(Refusal::FieldRedundant, at);
+    }
+    let values = fields.values;
+    Part {
+        verdict: Verdict::Accepted,
+        values,
+        next: fields.next,
+    }
 }
 
 // The bit of a field with this value.

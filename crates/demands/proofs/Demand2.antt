@@ -12,7 +12,7 @@ use Rattle.lists.proofs.Tests.{true-T, false-T, not-true-false}
 use Rattle.plant.specs.declared.Plant.{Plant}
 use Rattle.answers.specs.Answers.{Answer, given, refused}
 use Rattle.answers.specs.Checks.{check, answer, leaves}
-use Rattle.answers.proofs.Checks.{given-refused, refused-refused, goes-on, gives-so}
+use Rattle.answers.proofs.Checks.{given-refused, refused-refused, goes-on, stops, gives-so}
 use Rattle.limits.specs.Sound.{Sound}
 use Rattle.codec.specs.Field.{Bytes}
 use Rattle.listing.specs.Listing.{encode, reading}
@@ -20,15 +20,15 @@ use Rattle.listing.specs.Writing.{writing}
 use Rattle.listing.proofs.RoundTrip.{read-write, write-read, decode-sound}
 use Rattle.listing.proofs.WriteRoundTrip.{sound-written, buffer-written}
 use Rattle.listing.proofs.Refusing.{refusal-numbers}
-use Rattle.walks.specs.Graph.{Connected, visited, connected}
 use Rattle.walks.proofs.Valid.{sound-valid}
-use Rattle.walks.proofs.Tests.{bridge-is, connected-is}
+use Rattle.walks.proofs.Tests.{bridge-is}
 use Rattle.walks.proofs.ByLinks.{visited-by-links}
-use Rattle.routes.specs.Plants.{trailOf}
 use Rattle.routes.proofs.Plants.{distance-fewest}
-use Rattle.trail.proofs.Trails.{trail-is, trail-closed}
-use Rattle.planning.specs.Planning.{planning}
-use Rattle.planning.proofs.Plans.{plan-joined, plan-apart, plan-refused, plan-ready, at-given}
+use Rattle.plan.specs.Plan.{Connected, connected, trailOf}
+use Rattle.plan.proofs.Plan.{connected-is}
+use Rattle.plan.proofs.Trails.{trail-is, trail-closed}
+use Rattle.planning.specs.Planning.{planningFor, planning}
+use Rattle.planning.proofs.Plans.{for-joined, for-apart, plan-ready, at-given}
 use Rattle.planner.specs.Calls.{rewriting, rewritten, rereading, trailLeft}
 use Rattle.planner.proofs.Trailing.{lay-enough, trail-given, left-given}
 use Rattle.demands.specs.Demands.{PlanIs, Demand2}
@@ -43,7 +43,6 @@ unfolding rereading
 rereads p b ok h = gives-so (writing p b) (λ _. p) (length (encode p)) (sound-written p b ok h)
 
 plan-is : (p : Plant) → Sound p → Connected p → PlanIs p
-unfolding visited
 plan-is p ok con =
     let valid = sound-valid p ok in
     record {
@@ -51,9 +50,9 @@ plan-is p ok con =
       connected = con;
       bridges = λ l h. bridge-is p valid l h;
       visit = visited-by-links p valid (p .start) (p .switches) (ok .start-in) (omega arith);
-      distances = distance-fewest p valid;
-      trail = trail-is p ok con;
-      closed = trail-closed p ok con;
+      distances = distance-fewest p valid (p .start);
+      trail = trail-is p ok;
+      closed = trail-closed p ok;
     }
 
 -- ---- refusal 9
@@ -62,15 +61,23 @@ module _ (s : List ℕ) (b : Bytes s) where
   not-reached : (p : Plant) → answer (reading s) ≡ given p → (connected p ≡ false) ↔ (Connected p → ⊥)
   not-reached p e =
       let ok = decode-sound s p b e in
-      let c = connected-is p (sound-valid p ok) (ok .start-in) in
+      let c = connected-is p ok in
       (λ q k. false-T (connected p) q (c .1 k), λ n. not-true-false (connected p) (λ q. n (c .0 (true-T (connected p) q))))
 
+  read-on : (p : Plant) → answer (reading s) ≡ given p → answer (planning s) ≡ answer (planningFor p)
+  unfolding planning
+  read-on p e = goes-on (reading s) planningFor p e
+
+  read-off : (n : ℕ) → answer (reading s) ≡ refused n → answer (planning s) ≡ refused n
+  unfolding planning
+  read-off n e = stops (reading s) planningFor n e
+
   unreached : (answer (planning s) ≡ refused 9) ↔ ((p : Plant) × (answer (reading s) ≡ given p) × (Connected p → ⊥))
-  unreached = (λ e. go (answer (reading s)) refl e, λ r. plan-apart s (r .0) (r .1) (not-reached (r .0) (r .1) .1 (r .2)))
+  unreached = (λ e. go (answer (reading s)) refl e, λ r. read-on (r .0) (r .1) ∙ for-apart (r .0) (not-reached (r .0) (r .1) .1 (r .2)))
     where
       go : (a : Answer Plant) → answer (reading s) ≡ a → answer (planning s) ≡ refused 9 → (p : Plant) × (answer (reading s) ≡ given p) × (Connected p → ⊥)
-      go (given p) d e = (p, d, not-reached p d .0 (not-true-false (connected p) (λ q. given-refused p 9 (sym (plan-joined s p d q) ∙ e))))
-      go (refused n) d e = absurd (omega (arith, refusal-numbers s n d, refused-refused {A = Plant} n 9 (sym (plan-refused s n d) ∙ e)))
+      go (given p) d e = (p, d, not-reached p d .0 (not-true-false (connected p) (λ q. given-refused p 9 (sym (read-on p d ∙ for-joined p q) ∙ e))))
+      go (refused n) d e = absurd (omega (arith, refusal-numbers s n d, refused-refused {A = Plant} n 9 (sym (read-off n d) ∙ e)))
 
 pub demand-2 : Demand2
 unfolding rewritten

@@ -9,7 +9,7 @@ use Rattle.answers.proofs.Checks.{gives-so}
 use Rattle.codec.specs.Field.{Bytes}
 use Rattle.walks.specs.Graph.{liveLinks}
 use Rattle.search.specs.Search.{newSearch}
-use Rattle.table.specs.Rules.{tableOf}
+use Rattle.plan.specs.Plan.{tableOf}
 use Rattle.planning.specs.Planning.{planning, planningAt}
 use Rattle.planning.proofs.Plans.{plan-ready, given-at}
 use Rattle.planner.specs.Calls.{tabling}
@@ -19,7 +19,7 @@ use Rattle.demands.proofs.RulePages.{rule-page}
 use Rattle.demands.proofs.Searching.{searches}
 
 pub demand-3 : (s : List ℕ) → Bytes s → (p : Plant) → answer (planning s) ≡ given p → Demand3 s p
-unfolding tabling tableOf beginning performing performedIn
+unfolding tabling beginning performing performedIn
 demand-3 s b p e =
     let r = plan-ready s p b e in
     record {

@@ -2,7 +2,7 @@
 use mathlib.Core.Path.{_≡_, refl}
 use mathlib.Core.Logic.{_↔_}
 use mathlib.Core.Bool.{Bool, true, false}
-use mathlib.Core.List.{List, [], _++_}
+use mathlib.Core.List.{List, _++_}
 use Prim.Native.Nat.{ℕ, _<_}
 use native.Mathlib.Omega.{arith}
 use borrow.Author.Tests.{eqb-true, eq-eqb, ne-eqb}
@@ -11,10 +11,10 @@ use Rattle.lists.proofs.Tests.{and-comm, and-true, true-T, T-true}
 use Rattle.plant.specs.declared.Plant.{Plant}
 use Rattle.limits.specs.Sound.{Sound}
 use Rattle.walks.specs.Arcs.{tail, head}
-use Rattle.walks.specs.Graph.{Connected, liveLinks}
-use Rattle.routes.specs.Plants.{trailOf}
+use Rattle.walks.specs.Graph.{liveLinks}
+use Rattle.plan.specs.Plan.{Connected, used, trailOf}
 use Rattle.rings.specs.Packet.{run, rulesFor}
-use Rattle.rings.specs.Rules.{inTable, inAll}
+use Rattle.rings.specs.Rules.{inAll}
 use Rattle.rings.specs.Ring.{readFrom, ring}
 use Rattle.rings.specs.Order.{nth, order}
 use Rattle.rings.specs.Probe.{upTo, back, outward, probe}
@@ -43,7 +43,7 @@ rule-is kind tl at a = (
 )
 
 pub rules-are : (p : Plant) → RulesAre p
-unfolding inTable inAll
+unfolding inAll
 rules-are p = record { table = rule-is _ (tail p); all = rule-is _ (tail p); number = all-rules p }
 
 module _ (p : Plant) (ok : Sound p) (con : Connected p) (x : ℕ) (x-in : x < p .switches) where
@@ -51,7 +51,8 @@ module _ (p : Plant) (ok : Sound p) (con : Connected p) (x : ℕ) (x-in : x < p 
   w = trailOf p
 
   below : (up : ℕ → Bool) (m : ℕ) → m < liveLinks p
-      → probeRun p w x (liveLinks p) up m ≡ run (inAll p) up (head p) x 0 (upTo (nth (orderOf p w x) m) (ringOf p w x) ++ back (upTo (nth (orderOf p w x) m) (ringOf p w x)))
+      → probeRun p (used p) w x (liveLinks p) up m
+      ≡ run (inAll p) up (head p) x 0 (upTo (nth (orderOf p w x) m) (ringOf p w x) ++ back (upTo (nth (orderOf p w x) m) (ringOf p w x)))
   unfolding probeRun probeRules probeOf probe outward orderOf
   below up m h = rw (ne-eqb m (liveLinks p) (λ e. omega arith)) refl
 
@@ -65,5 +66,5 @@ module _ (p : Plant) (ok : Sound p) (con : Connected p) (x : ℕ) (x-in : x < p 
     order-once = order-once p w x;
     order-rises = λ i j h k l. probes.order-rises (ringOf p w x) i j h k (omega (arith, order-length p ok con x x-in));
     probe = below;
-    full-check = full-run p w x (liveLinks p);
+    full-check = full-run p w x (used p) (liveLinks p);
   }

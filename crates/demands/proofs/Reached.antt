@@ -6,7 +6,8 @@ use mathlib.Core.List.{List}
 use Prim.Native.Nat.{ℕ, _<_}
 use Rattle.plant.specs.declared.Plant.{Plant}
 use Rattle.limits.specs.Sound.{Sound}
-use Rattle.walks.specs.Graph.{Connected, liveLinks}
+use Rattle.walks.specs.Graph.{liveLinks}
+use Rattle.plan.specs.Plan.{Connected}
 use Rattle.search.specs.Search.{ended}
 use Rattle.search.specs.Calls.{Call, perform, begun}
 use Rattle.search.proofs.Witness.{ends-new}

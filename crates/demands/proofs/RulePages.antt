@@ -1,25 +1,22 @@
 -- What demand 3 says of the rule page. Assumes a sound connected plant.
-use mathlib.Core.Path.{_≡_, refl, sym, ap, _∙_, subst}
+use mathlib.Core.Path.{_≡_, refl, sym, ap, subst}
 use mathlib.Core.Logic.{_↔_}
 use mathlib.Core.List.{List, [], _∷_, map}
-use Prim.Native.Nat.{ℕ, _+_, _*_, _/_}
+use Prim.Native.Nat.{ℕ, _*_, _/_}
 use native.Mathlib.Omega.{arith}
 use lib.Dec.{T}
-use lib.ListN.{length}
 use Rattle.lists.specs.Members.{In, Distinct}
 use Rattle.lists.specs.Numbers.{range, keep}
 use Rattle.lists.proofs.Numbers.{in-range, keep-in, in-keep, range-distinct, keep-distinct}
 use Rattle.plant.specs.declared.Plant.{Plant}
 use Rattle.limits.specs.Sound.{Sound}
-use Rattle.walks.specs.Graph.{Connected, used, liveLinks, bridges}
 use Rattle.walks.proofs.Live.{live-below}
-use Rattle.walks.proofs.Orientation.{used-arc}
-use Rattle.walks.proofs.Counting.{arcs-in-use}
 use Rattle.walks.proofs.Fewest.{fewest-together, fewest}
 use Rattle.walks.proofs.Valid.{sound-valid}
-use Rattle.trail.proofs.Trails.{trail-is}
-use Rattle.table.specs.Rules.{ruleOf, rulesBelow, rulesOf}
-use Rattle.table.proofs.Rules.{rules-count}
+use Rattle.table.specs.Rules.{rulesIn}
+use Rattle.plan.specs.Plan.{Connected, used, ruleOf, rulesOf}
+use Rattle.plan.proofs.Plan.{used-arc, rules-number}
+use Rattle.plan.proofs.Trails.{trail-is}
 use Rattle.demands.specs.Demands.{ruleLabels, RulePage}
 
 module _ (p : Plant) where
@@ -29,11 +26,11 @@ module _ (p : Plant) where
 
   -- the labels are those of the arcs in use, by rising number
   labels-are : ruleLabels p ≡ keep (used p) (range 0 (2 * p .count))
-  unfolding rulesBelow
+  unfolding rulesIn
   labels-are = label-rule (keep (used p) (range 0 (2 * p .count)))
 
   own-rules : rulesOf p ≡ map (ruleOf p) (ruleLabels p)
-  unfolding rulesBelow
+  unfolding rulesIn
   own-rules = ap (map (ruleOf p)) (sym labels-are)
 
   labels-used : (a : ℕ) → In a (ruleLabels p) ↔ T (used p a)
@@ -46,12 +43,9 @@ module _ (p : Plant) where
     pub rule-page : RulePage p
     rule-page = record {
       of-arcs = own-rules;
-      crossed = λ a. (λ h. trail-is p ok con .exactly a .1 (labels-used a .0 h), λ h. labels-used a .1 (trail-is p ok con .exactly a .0 h));
+      crossed = λ a. (λ h. trail-is p ok .exactly a .1 (labels-used a .0 h), λ h. labels-used a .1 (trail-is p ok .exactly a .0 h));
       once = subst Distinct (sym labels-are) (keep-distinct (used p) (range 0 (2 * p .count)) (range-distinct 0 (2 * p .count)));
-      number = number;
-      together = λ ws c h. omega (arith, number, fewest-together p (sound-valid p ok) ws c h);
-      fewest = λ w c h. omega (arith, number, fewest p (sound-valid p ok) w c h);
+      number = rules-number p ok con;
+      together = λ ws c h. omega (arith, rules-number p ok con, fewest-together p (sound-valid p ok) ws c h);
+      fewest = λ w c h. omega (arith, rules-number p ok con, fewest p (sound-valid p ok) w c h);
     }
-      where
-        number : length (rulesOf p) ≡ liveLinks p + bridges p
-        number = rules-count p ∙ arcs-in-use p (sound-valid p ok) (ok .start-in) con

@@ -10,8 +10,8 @@ use lib.ListN.{length}
 use Rattle.lists.proofs.Tests.{eq?, not-both, not-false-true}
 use Rattle.plant.specs.declared.Plant.{Plant}
 use Rattle.limits.specs.Sound.{Sound}
-use Rattle.walks.specs.Graph.{Connected, liveLinks}
-use Rattle.routes.specs.Plants.{trailOf}
+use Rattle.walks.specs.Graph.{liveLinks}
+use Rattle.plan.specs.Plan.{Connected, used, trailOf}
 use Rattle.rings.specs.Rules.{upBy, upByLink}
 use Rattle.rings.specs.Injection.{orderOf, probeRun}
 use Rattle.rings.proofs.FirstDown.{firstDown, first-one, first-most, first-some, first-none}
@@ -54,7 +54,7 @@ module _ (p : Plant) (ok : Sound p) (con : Connected p) (x : ℕ) (x-in : x < p 
     unfolding actualOutcome
     tells =
         tells-by (liveLinks p) place (first-one (upBy states) order) (omega (arith, long, first-most (upBy states) order))
-        (λ m. probeRun p (trailOf p) x (liveLinks p) (upByLink states) m .ended) (probe-tells p ok con x x-in (upBy states))
+        (λ m. probeRun p (used p) (trailOf p) x (liveLinks p) (upByLink states) m .ended) (probe-tells p ok con x x-in (upBy states))
 
     none : (place ≡ liveLinks p + 1) ↔ NoneBroken p states
     none =

@@ -19,19 +19,19 @@ use Rattle.codec.specs.Field.{Bytes}
 use Rattle.listing.specs.Listing.{encode, reading}
 use Rattle.listing.specs.Writing.{writing, bufferAfter}
 use Rattle.walks.specs.Arcs.{tail, head}
-use Rattle.walks.specs.Graph.{Crosses, ClosedWalk, ClosedWalks, Connected, Bridge, visited, bridge, used, liveLinks, bridges}
+use Rattle.walks.specs.Graph.{Crosses, ClosedWalk, ClosedWalks, Bridge, bridge, liveLinks, bridges}
 use Rattle.walks.specs.ByLinks.{visitLinks}
 use Rattle.routes.specs.Meaning.{Fewest}
-use Rattle.routes.specs.Plants.{distanceOf, trailOf}
 use Rattle.rings.specs.Packet.{run}
-use Rattle.rings.specs.Rules.{upBy, upByLink, inTable, inAll, allRules}
+use Rattle.rings.specs.Rules.{upBy, upByLink, inAll, allRules}
 use Rattle.rings.specs.Ring.{FirstHop}
 use Rattle.rings.specs.Order.{nth}
 use Rattle.rings.specs.Probe.{upTo, back}
 use Rattle.rings.specs.Injection.{placeOf, ringOf, orderOf, probeRun}
 use Rattle.rings.specs.FirstDown.{FirstDown}
-use Rattle.trail.specs.Trails.{IsTrail}
-use Rattle.table.specs.Rules.{ruleOf, rulesOf, tableWith}
+use Rattle.table.specs.Rules.{tableWith}
+use Rattle.plan.specs.Plan.{Connected, visited, used, distanceOf, trailOf, ruleOf, rulesOf, inTable}
+use Rattle.plan.specs.Trails.{IsTrail}
 use Rattle.order.specs.declared.Span.{Span}
 use Rattle.order.specs.Span.{stretchOf, frontOf}
 use Rattle.allowance.specs.Allowance.{allowance, clipped}
@@ -126,10 +126,10 @@ pub record InjectionIs (p : Plant) (x : ℕ) : Type 0 where
       → length (upTo (nth (orderOf p (trailOf p) x) i) (ringOf p (trailOf p) x)) < length (upTo (nth (orderOf p (trailOf p) x) j) (ringOf p (trailOf p) x))
   -- "probe m, for 1 ≤ m < E, goes out up to the first crossing of the m-th link and then back over the opposite arcs", under the rules of all arcs
   pub probe : (up : ℕ → Bool) (m : ℕ) → m < liveLinks p
-      → probeRun p (trailOf p) x (liveLinks p) up m
+      → probeRun p (used p) (trailOf p) x (liveLinks p) up m
       ≡ run (inAll p) up (head p) x 0 (upTo (nth (orderOf p (trailOf p) x) m) (ringOf p (trailOf p) x) ++ back (upTo (nth (orderOf p (trailOf p) x) m) (ringOf p (trailOf p) x)))
   -- "the full check, m = E, is the whole ring", under the rule page alone
-  pub full-check : (up : ℕ → Bool) → probeRun p (trailOf p) x (liveLinks p) up (liveLinks p) ≡ run (inTable p) up (head p) x 0 (ringOf p (trailOf p) x)
+  pub full-check : (up : ℕ → Bool) → probeRun p (used p) (trailOf p) x (liveLinks p) up (liveLinks p) ≡ run (inTable p) up (head p) x 0 (ringOf p (trailOf p) x)
 
 pub record Demand2 : Type 0 where
   -- what was read is written as the bytes that were read, and what was written is read as the plant that was written
@@ -193,7 +193,7 @@ NoneBroken p states = (l : ℕ) → T (live p l) → upBy states l ≡ false →
 module _ (p : Plant) (x : ℕ) (states : List ℕ) where
   -- the outcome (fate) that probe m has by the packet rule: returned (home) if it has ended, and else lost
   unfoldable pub actualOutcome : ℕ → Outcome
-  actualOutcome m = choose (probeRun p (trailOf p) x (liveLinks p) (upByLink states) m .ended) Returned Lost
+  actualOutcome m = choose (probeRun p (used p) (trailOf p) x (liveLinks p) (upByLink states) m .ended) Returned Lost
 
   -- every accepted outcome is true: the one that probe m has, the m that a call for a probe answers in the state that the outcome is given to
   abbrev pub AllTrue : List Call → Type 0

@@ -1,5 +1,2 @@
-pub mod Tables
-pub mod Diagonal
-pub mod Levels
-pub mod Arcs
-pub mod Entries
+pub mod Turns
+pub mod Between

@@ -1,3 +1,1 @@
-pub mod Table
-pub mod Distances
-pub mod Levels
+pub mod Ways

@@ -1,14 +1,24 @@
 // The fewest hops over arcs in use between every two switches, as a table by value. Inner: no call of document 01 is here.
 ghost use mathlib.Core.Path.{_≡_};
-ghost use Prim.Native.Nat.{_+_, _<_};
+ghost use Prim.Native.Nat.{_≤_, _<_};
 ghost use lib.ListN.{replicate};
+ghost use Rattle.lists.specs.Arrays.{flag, at};
 ghost use Rattle.limits.specs.Limits.{maxSwitches};
-ghost use Rattle.limits.specs.Sound.{Sound};
-ghost use Rattle.distance.specs.Distances.{distancesIn};
-ghost use Rattle.distance.specs.Levels.{apartOf, knownOf};
+ghost use Rattle.arcs.specs.Net.{Within};
+ghost use Rattle.arcs.specs.Table.{distancesIn};
+ghost use Rattle.distance.specs.Ways.{Near, Zeroed, FewInRow, FewHops, lesser, ByWay, Through};
+use arcs::Net;
 use plant::Plant;
-use plant::head_of;
-use plant::tail_of;
+
+// The less of two numbers.
+fn less(c: u8, d: u8) -> u8
+    ensures { λ r. ⌜ r ≡ lesser c d ⌝ }
+{
+    if d < c {
+        return d;
+    }
+    c
+}
 
 // A table with v in every place.
 fn flat(v: u8) -> [[u8; Plant::PLACES]; Plant::PLACES]
@@ -18,11 +28,35 @@ fn flat(v: u8) -> [[u8; Plant::PLACES]; Plant::PLACES]
     [row; Plant::PLACES]
 }
 
-// A table with 0 from each switch to itself, and s elsewhere.
-fn apart(s: u8) -> [[u8; Plant::PLACES]; Plant::PLACES]
-    ensures { λ r. ⌜ r ≡ apartOf s ⌝ }
+// A table with 1 from the tail of each flagged arc to its head, and the number of switches elsewhere.
+fn adjacent(
+    net: Net,
+    tails: &[u8; Plant::LABELS],
+    heads: &[u8; Plant::LABELS],
+    used: &[bool; Plant::LABELS],
+) -> [[u8; Plant::PLACES]; Plant::PLACES]
+    requires { ⌜ Within net (now tails) (now heads) (now used) ⌝ }
+    ensures { λ r. ⌜ Near (net .switches) (net .labels) (at (now (tails .entry))) (at (now (heads .entry))) (flag (now (used .entry))) (net .labels) r ⌝ }
 {
-    let mut t = flat(s);
+    let mut t = flat(net.switches);
+    let n = net.labels as usize;
+    let mut a: usize = 0;
+    while a < n {
+        if used[a] {
+            let x = tails[a] as usize;
+            let y = heads[a] as usize;
+            t[x][y] = 1;
+        }
+        a += 1;
+    }
+    t
+}
+
+// A table with 0 from each switch to itself, and elsewhere what it held.
+fn diagonal(t0: [[u8; Plant::PLACES]; Plant::PLACES]) -> [[u8; Plant::PLACES]; Plant::PLACES]
+    ensures { λ r. ⌜ Zeroed t0 maxSwitches r ⌝ }
+{
+    let mut t = t0;
     let mut i: usize = 0;
     while i < Plant::PLACES {
         t[i][i] = 0;
@@ -31,53 +65,53 @@ fn apart(s: u8) -> [[u8; Plant::PLACES]; Plant::PLACES]
     t
 }
 
-// From the distances up to k, those up to k + 1: the arcs in use are tried in turn, each for every place.
-fn level(
-    p: Plant,
-    used: [bool; Plant::LABELS],
-    t: [[u8; Plant::PLACES]; Plant::PLACES],
-    k: u8,
-) -> [[u8; Plant::PLACES]; Plant::PLACES]
-    requires { ⌜ Sound p ⌝ }
-    requires { ⌜ k + 1 < p .switches ⌝ }
-    requires { ⌜ t ≡ knownOf p used k ⌝ }
-    ensures { λ r. ⌜ r ≡ knownOf p used (k + 1) ⌝ }
+// A row, or the hops to another switch and on from there, whichever are fewer: `on` is that switch's row, d the hops to it.
+fn by_way(row: [u8; Plant::PLACES], on: [u8; Plant::PLACES], d: u8) -> [u8; Plant::PLACES]
+    requires { ⌜ d ≤ maxSwitches ⌝ }
+    requires { ⌜ FewInRow on ⌝ }
+    ensures { λ r. ⌜ ByWay row on d maxSwitches r ⌝ }
 {
-    let s = p.switches;
-    let n = 2 * (p.count as usize);
-    let mut u = t;
-    let mut a: usize = 0;
-    while a < n {
-        if used[a] {
-            let l = p.links[a / 2];
-            let x = tail_of(l, a) as usize;
-            let y = head_of(l, a) as usize;
-            let mut j: usize = 0;
-            while j < Plant::PLACES {
-                if u[x][j] == s {
-                    if u[y][j] == k {
-                        u[x][j] = k + 1;
-                    }
-                }
-                j += 1;
-            }
-        }
-        a += 1;
+    let mut r = row;
+    let mut j: usize = 0;
+    while j < Plant::PLACES {
+        r[j] = less(r[j], d + on[j]);
+        j += 1;
     }
-    u
+    r
 }
 
-// The fewest hops from each switch to each over the arcs that are flagged; the number of switches where there is no walk.
-pub fn distances(p: Plant, used: [bool; Plant::LABELS]) -> [[u8; Plant::PLACES]; Plant::PLACES]
-    requires { ⌜ Sound p ⌝ }
-    ensures { λ r. ⌜ r ≡ distancesIn p used ⌝ }
+// Every row by way of switch k.
+fn through(t: &mut [[u8; Plant::PLACES]; Plant::PLACES], s: u8, k: usize)
+    requires { ⌜ s ≤ maxSwitches ⌝ }
+    requires { ⌜ k < maxSwitches ⌝ }
+    requires { ⌜ FewHops (now t) ⌝ }
+    ensures { λ _. ⌜ Through k (now (t .entry)) s (now (t .exit)) ⌝ }
 {
-    let s = p.switches;
-    let mut t = apart(s);
-    let mut k: u8 = 0;
-    while k < s - 1 {
-        let w = level(p, used, t, k);
-        t = w;
+    let m = s as usize;
+    let on = t[k];
+    let mut i: usize = 0;
+    while i < m {
+        let d = t[i][k];
+        t[i] = by_way(t[i], on, d);
+        i += 1;
+    }
+}
+
+// The fewest hops from each switch to each over the arcs that are flagged; the number of switches where there is no walk. The switches are tried in turn as a way.
+pub fn distances(
+    net: Net,
+    tails: &[u8; Plant::LABELS],
+    heads: &[u8; Plant::LABELS],
+    used: &[bool; Plant::LABELS],
+) -> [[u8; Plant::PLACES]; Plant::PLACES]
+    requires { ⌜ Within net (now tails) (now heads) (now used) ⌝ }
+    ensures { λ r. ⌜ r ≡ distancesIn net (now (tails .entry)) (now (heads .entry)) (now (used .entry)) ⌝ }
+{
+    let mut t = diagonal(adjacent(net, tails, heads, used));
+    let m = net.switches as usize;
+    let mut k: usize = 0;
+    while k < m {
+        through(&mut t, net.switches, k);
         k += 1;
     }
     t

@@ -1,5 +1,5 @@
 -- What entering a link does to what a value shows, and to its room. Assumes that the switch is not visited yet.
-use mathlib.Core.Path.{_≡_, sym, ap, _∙_}
+use mathlib.Core.Path.{_≡_, sym, ap, ap₂, _∙_}
 use mathlib.Core.Logic.{_⊎_, inl, inr}
 use mathlib.Core.Bool.{Bool, true, false, _||_}
 use mathlib.Core.List.{_∷_}
@@ -12,7 +12,6 @@ use lib.Seq.{getD-set-same, getD-set-other}
 use borrow.Author.Tests.{eq-eqb, ne-eqb}
 use Rattle.lists.proofs.Tests.{eq?, or-swap}
 use Rattle.lists.specs.Members.{memb}
-use Rattle.plant.specs.declared.Plant.{Plant}
 use Rattle.limits.specs.Limits.{maxSwitches, maxLinks}
 use Rattle.walks.specs.Visit.{St, rank}
 use Rattle.walks.proofs.Visit.{rank-eq, rank-ne}
@@ -32,16 +31,16 @@ own-label j a = go (eq? j (a / 2)) (even-or-odd a)
     go (inl e) (inr f) = rw (eq-eqb j (a / 2) e, ne-eqb (2 * j) a (λ g. omega arith), eq-eqb (2 * j + 1) a (omega arith))
     go (inr n) _ = rw (ne-eqb j (a / 2) n, ne-eqb (2 * j) a (λ g. n (omega arith)), ne-eqb (2 * j + 1) a (λ g. n (omega arith)))
 
-module _ (p : Plant) (v : Visited) (to : ℕ) (room : Room p v) (few : p .switches ≤ maxSwitches) (to-in : to < p .switches) (new : getD (v .seen) to false ≡ false) where
+module _ (v : Visited) (to : ℕ) (room : Room v) (to-in : to < maxSwitches) (new : getD (v .seen) to false ≡ false) where
   -- one fewer is unvisited
-  pub enter-falls : suc (unvisited (p .switches) (set (v .seen) to true)) ≤ unvisited (p .switches) (v .seen)
-  enter-falls = unvisited-set (p .switches) (v .seen) to to-in (omega (arith, room .seen-places)) new
+  pub enter-falls : suc (unvisited (set (v .seen) to true)) ≤ unvisited (v .seen)
+  enter-falls = unvisited-set (v .seen) to to-in (omega (arith, room .seen-places)) new
 
   -- there was a number left for it
   pub enter-numbers : v .next < maxSwitches
   enter-numbers = omega (arith, enter-falls, room .numbers)
 
-  enter-room : (l : ℕ) → Room p (enterOf v to l)
+  enter-room : (l : ℕ) → Room (enterOf v to l)
   enter-room l = record {
     seen-places = length-set (v .seen) to true ∙ room .seen-places;
     rank-places = length-set (v .rank) to (v .next) ∙ room .rank-places;
@@ -49,11 +48,11 @@ module _ (p : Plant) (v : Visited) (to : ℕ) (room : Room p v) (few : p .switch
     numbers = omega (arith, enter-falls, room .numbers);
   }
 
-  pub enter-at : (l : ℕ) → At p (enterOf v to l) to
-  enter-at l = record { room = enter-room l; within = to-in; here = getD-set-same (v .seen) to true false (omega (arith, room .seen-places)) }
+  pub enter-at : (l : ℕ) → At (enterOf v to l) to
+  enter-at l = record { room = enter-room l; within = to-in }
 
-  pub enter-shows : (s : St) (l a : ℕ) → l < maxLinks → a / 2 ≡ l → Shows v s → Shows (enterOf v to l) (record { ord = to ∷ s .ord; ent = a ∷ s .ent })
-  enter-shows s l a l-in half h = record { sees = sees; ranks = λ x. ranks x (eq? x to); enters = enters; counts = ap (λ (n : ℕ). n + 1) (h .counts) ∙ add-one (length (s .ord)) }
+  pub enter-shows : (s : St) (a : ℕ) → a / 2 < maxLinks → Shows v s → Shows (enterOf v to (a / 2)) (record { ord = to ∷ s .ord; ent = a ∷ s .ent })
+  enter-shows s a a-in h = record { sees = sees; ranks = λ x. ranks x (eq? x to); enters = enters; counts = ap (λ (n : ℕ). n + 1) (h .counts) ∙ add-one (length (s .ord)) }
     where
       sees : (x : ℕ) → getD (set (v .seen) to true) x false ≡ eqb x to || memb x (s .ord)
       sees x = flag-set (v .seen) to x (omega (arith, room .seen-places)) ∙ ap (λ (b : Bool). eqb x to || b) (h .sees x)
@@ -64,10 +63,8 @@ module _ (p : Plant) (v : Visited) (to : ℕ) (room : Room p v) (few : p .switch
           ∙ getD-set-same (v .rank) to (v .next) 0 (omega (arith, room .rank-places)) ∙ h .counts ∙ sym (rank-eq x to (s .ord) e)
       ranks x (inr n) = getD-set-other (v .rank) to x (v .next) 0 n ∙ h .ranks x ∙ sym (rank-ne x to (s .ord) n)
 
-      enters : (j : ℕ) → getD (set (v .entered) l true) j false ≡ memb (2 * j) (a ∷ s .ent) || memb (2 * j + 1) (a ∷ s .ent)
+      enters : (j : ℕ) → getD (set (v .entered) (a / 2) true) j false ≡ memb (2 * j) (a ∷ s .ent) || memb (2 * j + 1) (a ∷ s .ent)
       enters j =
-          flag-set (v .entered) l j (omega (arith, room .entered-places))
-          ∙ ap (λ (b : Bool). eqb j l || b) (h .enters j)
-          ∙ ap (λ (k : ℕ). eqb j k || (memb (2 * j) (s .ent) || memb (2 * j + 1) (s .ent))) (sym half)
-          ∙ ap (λ (b : Bool). b || (memb (2 * j) (s .ent) || memb (2 * j + 1) (s .ent))) (own-label j a)
+          flag-set (v .entered) (a / 2) j (omega (arith, room .entered-places))
+          ∙ ap₂ (λ (b c : Bool). b || c) (own-label j a) (h .enters j)
           ∙ or-swap (eqb (2 * j) a) (eqb (2 * j + 1) a) (memb (2 * j) (s .ent)) (memb (2 * j + 1) (s .ent))

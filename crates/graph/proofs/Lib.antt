@@ -1,8 +1,7 @@
 pub mod Unvisited
-pub mod Links
 pub mod Entering
 pub mod Goes
 pub mod Whole
-pub mod FromStart
-pub mod Uses
+pub mod Ends
 pub mod Cycles
+pub mod Uses

@@ -8,18 +8,19 @@ use lib.ListN.{length, getD, set}
 use lib.Seq.{getD-set-same}
 use Rattle.lists.proofs.Tests.{T-true, true-T, false-T}
 use Rattle.lists.proofs.Count.{count-le, count-lt}
+use Rattle.limits.specs.Limits.{maxSwitches}
 use Rattle.graph.specs.Inner.{unvisited}
 use Rattle.lists.proofs.Arrays.{set-keeps}
 
-pub unvisited-kept : (n : ℕ) (l m : List Bool) → ((x : ℕ) → getD l x false ≡ true → getD m x false ≡ true) → unvisited n m ≤ unvisited n l
+pub unvisited-kept : (l m : List Bool) → ((x : ℕ) → getD l x false ≡ true → getD m x false ≡ true) → unvisited m ≤ unvisited l
 unfolding unvisited
-unvisited-kept n l m f =
-    count-le n (λ x. not (getD m x false)) (λ x. not (getD l x false))
+unvisited-kept l m f =
+    count-le maxSwitches (λ x. not (getD m x false)) (λ x. not (getD l x false))
     (λ x h t. not-T (getD l x false) (λ u. T-not (getD m x false) t (true-T (getD m x false) (f x (T-true (getD l x false) u)))))
 
-pub unvisited-set : (n : ℕ) (l : List Bool) (i : ℕ) → i < n → i < length l → getD l i false ≡ false → suc (unvisited n (set l i true)) ≤ unvisited n l
+pub unvisited-set : (l : List Bool) (i : ℕ) → i < maxSwitches → i < length l → getD l i false ≡ false → suc (unvisited (set l i true)) ≤ unvisited l
 unfolding unvisited
-unvisited-set n l i h k e =
-    count-lt n (λ x. not (getD l x false)) (λ x. not (getD (set l i true) x false)) i h (not-T (getD l i false) (false-T (getD l i false) e))
+unvisited-set l i h k e =
+    count-lt maxSwitches (λ x. not (getD l x false)) (λ x. not (getD (set l i true) x false)) i h (not-T (getD l i false) (false-T (getD l i false) e))
     (λ t. T-not (getD (set l i true) i false) t (true-T _ (getD-set-same l i true false k)))
     (λ x j t. not-T (getD l x false) (λ u. T-not (getD (set l i true) x false) t (true-T _ (set-keeps l i x k (T-true (getD l x false) u)))))

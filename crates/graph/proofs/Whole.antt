@@ -1,79 +1,110 @@
--- A whole visit from a switch: where it begins, and what it ends with. Assumes a sound plant.
+-- A whole visit from a root: where it begins, and what it ends with, over chains of all arcs of a plant. Assumes a sound plant and a root that is a switch of it.
 use mathlib.Core.Path.{_≡_, refl, sym, ap, _∙_, subst}
 use mathlib.Core.Logic.{⊎-elim}
 use mathlib.Core.Bool.{Bool, true, false, not, _||_}
-use mathlib.Core.List.{[], _∷_}
-use Prim.Native.Nat.{ℕ, _+_, _≤_, _<_}
+use mathlib.Core.List.{List, []}
+use Prim.Native.Nat.{ℕ, _+_, _*_, _/_, _≤_, _<_}
 use native.Mathlib.Omega.{arith}
 use lib.Dec.{eqb}
 use lib.ListN.{length, getD, set, replicate, length-set, length-replicate}
-use borrow.Author.Tests.{eq-eqb}
+use Rattle.lists.specs.Arrays.{flag, at}
+use Rattle.lists.proofs.Arrays.{flag-set}
+use Rattle.lists.specs.Numbers.{range, keep}
 use Rattle.lists.proofs.Tests.{eq?}
 use Rattle.lists.proofs.Count.{count-all}
+use Rattle.lists.proofs.Members.{getD-same}
 use Rattle.plant.specs.declared.Plant.{Plant}
+use Rattle.plant.specs.Links.{live}
 use Rattle.limits.specs.Limits.{maxSwitches, maxLinks}
 use Rattle.limits.specs.Sound.{Sound}
 use Rattle.walks.specs.Arcs.{tail, head}
-use Rattle.walks.specs.Visit.{St, rank}
+use Rattle.walks.specs.Visit.{St}
+use Rattle.walks.specs.Inner.{Scan}
+use Rattle.walks.specs.Graph.{arcs}
 use Rattle.walks.proofs.Visit.{rank-eq, rank-ne}
-use Rattle.walks.specs.Graph.{others, visitFrom}
-use Rattle.walks.proofs.Labels.{others-are}
+use Rattle.walks.proofs.Labels.{tail-in, head-in}
+use Rattle.walks.proofs.Rising.{rising}
 use Rattle.walks.proofs.Fuel.{unique}
-use Rattle.walks.proofs.Visited.{begin, run}
-use Rattle.graph.specs.declared.Visited.{Visited}
-use Rattle.graph.specs.Shows.{Shows}
-use Rattle.graph.specs.Inner.{unvisited, beginOf, At, Went}
+use Rattle.walks.proofs.Visited.{begin, visited-run}
 use Rattle.walks.proofs.Valid.{sound-valid}
+use Rattle.arcs.specs.Net.{Ends, AllArcs}
+use Rattle.arcs.specs.Chains.{TailsIn}
+use Rattle.graph.specs.declared.Visited.{Visited}
+use Rattle.graph.specs.Shows.{Shows, Visits}
+use Rattle.graph.specs.Inner.{HeadsIn, unvisited, beginOf, At, Tries, Went}
 use Rattle.graph.proofs.Unvisited.{unvisited-set}
-use Rattle.lists.proofs.Arrays.{flag-set}
-use Rattle.lists.proofs.Members.{getD-same}
 
--- of n places that are not set, one is
-module _ (n at : ℕ) (at-in : at < n) where
-  fits : at < length (replicate n false)
-  fits = omega (arith, length-replicate n false)
+-- ---- the beginning
 
-  first-seen : (x : ℕ) → getD (set (replicate n false) at true) x false ≡ eqb x at || false
-  first-seen x = flag-set (replicate n false) at x fits ∙ ap (λ (b : Bool). eqb x at || b) (getD-same n x false)
+module _ (root : ℕ) (root-in : root < maxSwitches) where
+  fits : root < length (replicate maxSwitches false)
+  fits = omega (arith, length-replicate maxSwitches false)
 
-  first-numbers : (k : ℕ) → at < k → 1 + unvisited k (set (replicate n false) at true) ≤ k
+  begin-numbers : 1 + unvisited (set (replicate maxSwitches false) root true) ≤ maxSwitches
   unfolding unvisited
-  first-numbers k h =
-      omega (arith, unvisited-set k (replicate n false) at h fits (getD-same n at false), count-all k (λ x. not (getD (replicate n false) x false)))
+  begin-numbers =
+      omega (
+        arith,
+        unvisited-set (replicate maxSwitches false) root root-in fits (getD-same maxSwitches root false),
+        count-all maxSwitches (λ x. not (getD (replicate maxSwitches false) x false)),
+      )
 
-  first-rank : (x : ℕ) → getD (replicate n 0) x 0 ≡ rank x (at ∷ [])
-  first-rank x = ⊎-elim (λ e. getD-same n x 0 ∙ sym (rank-eq x at [] e)) (λ e. getD-same n x 0 ∙ sym (rank-ne x at [] e)) (eq? x at)
-
-module _ (p : Plant) (at : ℕ) (sound : Sound p) (at-in : at < p .switches) where
-  at-place : at < maxSwitches
-  at-place = omega (arith, sound .few-switches)
-
-  pub begin-at : At p (beginOf at) at
+  pub begin-at : At (beginOf root) root
   unfolding beginOf
   begin-at = record {
     room = record {
-      seen-places = length-set (replicate maxSwitches false) at true ∙ length-replicate maxSwitches false;
+      seen-places = length-set (replicate maxSwitches false) root true ∙ length-replicate maxSwitches false;
       rank-places = length-replicate {A = ℕ} maxSwitches 0;
       entered-places = length-replicate maxLinks false;
-      numbers = first-numbers maxSwitches at at-place (p .switches) at-in;
+      numbers = begin-numbers;
     };
-    within = at-in;
-    here = first-seen maxSwitches at at-place at ∙ ap (λ (b : Bool). b || false) (eq-eqb at at refl);
+    within = root-in;
   }
 
-  pub begin-shows : Shows (beginOf at) (begin at)
+  begin-shows : Shows (beginOf root) (begin root)
   unfolding beginOf
   begin-shows = record {
-    sees = first-seen maxSwitches at at-place;
-    ranks = first-rank maxSwitches at at-place;
+    sees = λ x. flag-set (replicate maxSwitches false) root x fits ∙ ap (λ (b : Bool). eqb x root || b) (getD-same maxSwitches x false);
+    ranks = λ x. getD-same maxSwitches x 0 ∙ ⊎-elim (λ e. sym (rank-eq x root [] e)) (λ e. sym (rank-ne x root [] e)) (eq? x root);
     enters = λ l. getD-same maxLinks l false;
     counts = refl;
   }
 
--- ---- the end
-module _ (p : Plant) (sk at : ℕ) (sound : Sound p) (at-in : at < p .switches) (r : Visited) where
-  pub end-shows : Went p sk (beginOf at) at r → Shows r (visitFrom p at (others p sk))
-  end-shows w =
-      let e = w .went (begin at) (begin-shows p at sound at-in) in
-      subst (λ (t : St). Shows r t) (unique (tail p) (head p) (others p sk) (e .2)
-      (run p (sound-valid p sound) (others p sk) (λ b h. others-are p sk b .0 h .0) at at-in)) (e .1)
+  pub begin-root : beginOf root .root ≡ root
+  unfolding beginOf
+  begin-root = refl
+
+-- ---- over all arcs of a plant
+
+module _ (p : Plant) (sound : Sound p) {tails heads : List ℕ} (ends : Ends p tails heads) {flags : List Bool} (all : AllArcs p flags) where
+  -- the ends of a flagged arc are switches
+  pub tails-in : TailsIn (2 * p .count) tails flags
+  tails-in a h t =
+      omega (arith, sound .few-switches, ap (λ (f : ℕ → ℕ). f a) (ends .tails-are), tail-in p (sound-valid p sound) a (rw (all .tells a) at t))
+
+  pub heads-in : HeadsIn (2 * p .count) heads flags
+  heads-in a h t =
+      omega (arith, sound .few-switches, ap (λ (f : ℕ → ℕ). f a) (ends .heads-are), head-in p (sound-valid p sound) a (rw (all .tells a) at t))
+
+  module _ (root : ℕ) (root-in : root < p .switches) (r : Visited) where
+    -- the flagged arcs are the arcs of the plant
+    of-plant : Went (2 * p .count) (at tails) (at heads) (flag flags) (beginOf root) root r → Went (2 * p .count) (tail p) (head p) (λ a. live p (a / 2)) (beginOf root) root r
+    of-plant w =
+        let same : flag flags ≡ (λ a. live p (a / 2)) = λ j a. all .tells a j in
+        subst (λ (f : ℕ → ℕ). Went (2 * p .count) f (head p) (λ a. live p (a / 2)) (beginOf root) root r) (ends .tails-are)
+        (subst (λ (f : ℕ → ℕ). Went (2 * p .count) (at tails) f (λ a. live p (a / 2)) (beginOf root) root r) (ends .heads-are)
+        (subst (λ (o : ℕ → Bool). Went (2 * p .count) (at tails) (at heads) o (beginOf root) root r) same w))
+
+    pub whole : Went (2 * p .count) (at tails) (at heads) (flag flags) (beginOf root) root r → Visits p root r
+    whole w = record {
+      root-is = w .root-kept ∙ begin-root root place;
+      root-in = root-in;
+      shows = subst (λ (t : St). Shows r t) (unique (tail p) (head p) (arcs p)
+          (subst (λ (bs : List ℕ). Scan (tail p) (head p) bs root bs (begin root) (e .0)) (rising p) (e .2)) (visited-run p (sound-valid p sound) root root-in)) (e .1);
+    }
+      where
+        place : root < maxSwitches
+        place = omega (arith, sound .few-switches)
+
+        e : (t : St) × Shows r t × Tries (2 * p .count) (tail p) (head p) (λ a. live p (a / 2)) root (keep (λ a. live p (a / 2)) (range 0 (2 * p .count))) (begin root) t
+        e = of-plant w .went (begin root) (begin-shows root place)

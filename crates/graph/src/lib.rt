@@ -1,52 +1,29 @@
-// The depth-first visit of a plant, by value, and what follows from it: which switches are reached, bridges, and arcs in use. Inner: the calls are the crates `planner` and `probing`.
+// The depth-first visit of a plant from a root, and what is read from it: are all switches reached, which links are bridges, and which arcs are in use. Inner: the calls are
+// the crates `planner` and `probing`.
 ghost use mathlib.Core.Path.{_≡_};
 ghost use mathlib.Core.Bool.{true};
-ghost use Prim.Native.Nat.{_+_, _*_, _<_};
+ghost use Prim.Native.Nat.{_+_, _*_, _≤_, _<_};
+ghost use Rattle.lists.specs.Arrays.{flag, at};
+ghost use Rattle.lists.specs.Numbers.{every};
 ghost use Rattle.limits.specs.Limits.{maxSwitches, maxLinks};
 ghost use Rattle.limits.specs.Sound.{Sound};
-ghost use Rattle.plant.specs.Links.{live};
-ghost use Rattle.walks.specs.Graph.{others, visitFrom, visitedFrom, connected, bridge, used};
+ghost use Rattle.walks.specs.Arcs.{tail};
+ghost use Rattle.walks.specs.Graph.{reachedFrom, bridgeFrom, usedFrom};
+ghost use Rattle.arcs.specs.Net.{Ends};
+ghost use Rattle.arcs.specs.Chains.{Chained};
 ghost use Rattle.graph.specs.Flags.{Flags, countSet};
-ghost use Rattle.graph.specs.Shows.{Shows};
-ghost use Rattle.graph.specs.Inner.{EntryLinks, closes, Covered, farEnd, takesPart, enterOf, beginOf, At, Went, inUse};
-use plant::Link;
+ghost use Rattle.graph.specs.Shows.{Visits};
+ghost use Rattle.graph.specs.Inner.{HeadsIn, EntryLinks, closes, Covered, acrossOf, enterOf, beginOf, At, Went, inUse};
 use plant::Plant;
 
-// How far a visit has come: `next` switches are visited, `seen` tells which, `rank` numbers them from 0 in the order of the visit, and `entered` tells
+// How far a visit from `root` has come: `next` switches are visited, `seen` tells which, `rank` numbers them from 0 in the order of the visit, and `entered` tells
 // by which links they were entered.
 pub struct Visited {
+    pub root: u8,
     pub next: u8,
     pub seen: [bool; Plant::PLACES],
     pub rank: [u8; Plant::PLACES],
     pub entered: [bool; Plant::MAX_LINKS],
-}
-
-// The end of link k away from the switch `at`, and `at` itself of a link that is not at it.
-fn far(k: Link, at: u8) -> u8
-    ensures { λ r. ⌜ r ≡ farEnd k at ⌝ }
-{
-    if k.first == at {
-        return k.second;
-    }
-    if k.second == at {
-        return k.first;
-    }
-    at
-}
-
-// Does link l take part in the plant?
-pub fn is_live(p: Plant, l: usize) -> bool
-    ensures { λ r. ⌜ r ≡ live p l ⌝ }
-{
-    let e = p.count as usize;
-    l < e
-}
-
-// Does link l take part in a visit that leaves link `skip` out?
-fn takes_part(p: Plant, skip: usize, l: usize) -> bool
-    ensures { λ r. ⌜ r ≡ takesPart p skip l ⌝ }
-{
-    is_live(p, l) && l != skip
 }
 
 // Link l is entered, and the switch `to` is visited.
@@ -66,69 +43,82 @@ fn enter(v: Visited, to: u8, l: usize) -> Visited
     r
 }
 
-// The visit goes on from the switch `at`, which is visited. It tries the links by rising number, and calls itself for each switch that it enters. The
-// number of unvisited switches falls with each call, so it calls itself no deeper than there are switches.
-fn visit_from(p: Plant, skip: usize, v0: Visited, at: u8) -> Visited
-    requires { ⌜ Sound p ⌝ }
-    requires { ⌜ At p v0 at ⌝ }
-    ensures { λ r. ⌜ Went p skip v0 at r ⌝ }
+// The visit goes on from the switch `from`, which is visited. It tries the arcs that leave it by rising label, and calls itself for each switch that it enters. The
+// number of unvisited switches falls with each call, so it calls itself no deeper than there are switches. The tails and the flags of the arcs that are tried are
+// handed over for the contract alone: `first` and `after` are their chains.
+fn visit_from(
+    tails: &[u8; Plant::LABELS],
+    heads: &[u8; Plant::LABELS],
+    flags: &[bool; Plant::LABELS],
+    first: &[u16; Plant::PLACES],
+    after: &[u16; Plant::LABELS],
+    n: u16,
+    v0: Visited,
+    from: u8,
+) -> Visited
+    requires { ⌜ n ≤ 2 * maxLinks ⌝ }
+    requires { ⌜ HeadsIn n (now heads) (now flags) ⌝ }
+    requires { ⌜ Chained n (at (now tails)) (flag (now flags)) (now first) (now after) ⌝ }
+    requires { ⌜ At v0 from ⌝ }
+    ensures { λ r. ⌜ Went n (at (now (tails .entry))) (at (now (heads .entry))) (flag (now (flags .entry))) v0 from r ⌝ }
 {
     let mut v = v0;
-    let e = p.count as usize;
-    let mut l: usize = 0;
-    while l < e {
-        if takes_part(p, skip, l) {
-            let to = far(p.links[l], at);
-            let j = to as usize;
-            if !v.seen[j] {
-                v = visit_from(p, skip, enter(v, to, l), to);
-            }
+    let mut a = first[from as usize];
+    while a < n {
+        let to = heads[a as usize];
+        let j = to as usize;
+        if !v.seen[j] {
+            let l = (a / 2) as usize;
+            v = visit_from(tails, heads, flags, first, after, n, enter(v, to, l), to);
         }
-        l += 1;
+        a = after[a as usize];
     }
     v
 }
 
-// The switch `at` is visited, and nothing else yet.
-fn begin(at: u8) -> Visited
-    requires { ⌜ at < maxSwitches ⌝ }
-    ensures { λ r. ⌜ r ≡ beginOf at ⌝ }
+// The root is visited, and nothing else yet.
+fn begin(root: u8) -> Visited
+    requires { ⌜ root < maxSwitches ⌝ }
+    ensures { λ r. ⌜ r ≡ beginOf root ⌝ }
 {
     let mut v = Visited {
+        root,
         next: 1,
         seen: [false; Plant::PLACES],
         rank: [0; Plant::PLACES],
         entered: [false; Plant::MAX_LINKS],
     };
-    let i = at as usize;
+    let i = root as usize;
     v.seen[i] = true;
     v
 }
 
-// The depth-first visit from a switch, with link `skip` left out. A number from the link count on leaves none out.
-fn visit(p: Plant, skip: usize, from: u8) -> Visited
+// The depth-first visit from a root.
+pub fn visit(
+    p: Plant,
+    tails: &[u8; Plant::LABELS],
+    heads: &[u8; Plant::LABELS],
+    root: u8,
+) -> Visited
     requires { ⌜ Sound p ⌝ }
-    requires { ⌜ from < p .switches ⌝ }
-    ensures { λ r. ⌜ Shows r (visitFrom p from (others p skip)) ⌝ }
+    requires { ⌜ Ends p (now tails) (now heads) ⌝ }
+    requires { ⌜ root < p .switches ⌝ }
+    ensures { λ r. ⌜ Visits p root r ⌝ }
 {
-    visit_from(p, skip, begin(from), from)
+    let n = 2 * p.count;
+    let all = arcs::all_arcs(p);
+    let c = arcs::chains_of(tails, &all, n);
+    let first = c.first;
+    let after = c.after;
+    visit_from(tails, heads, &all, &first, &after, n, begin(root), root)
 }
 
-// The visit from a switch, with all links: the numbering of the switches.
-fn visit_all(p: Plant, from: u8) -> Visited
+// Did the visit reach every switch?
+pub fn reaches_all(p: Plant, v: Visited) -> bool
     requires { ⌜ Sound p ⌝ }
-    requires { ⌜ from < p .switches ⌝ }
-    ensures { λ r. ⌜ Shows r (visitedFrom p from) ⌝ }
+    requires { ⌜ Visits p (v .root) v ⌝ }
+    ensures { λ r. ⌜ r ≡ every (p .switches) (reachedFrom p (v .root)) ⌝ }
 {
-    visit(p, Plant::MAX_LINKS, from)
-}
-
-// Is every switch reached from the start? Refusal 9 is tried by this.
-pub fn is_connected(p: Plant) -> bool
-    requires { ⌜ Sound p ⌝ }
-    ensures { λ r. ⌜ r ≡ connected p ⌝ }
-{
-    let v = visit_all(p, p.start);
     let e = p.switches as usize;
     let mut i: usize = 0;
     while i < e {
@@ -140,35 +130,24 @@ pub fn is_connected(p: Plant) -> bool
     true
 }
 
-// Is link l a bridge: are its two ends not joined without it?
-fn is_bridge(p: Plant, l: usize) -> bool
+// The link by which the visit entered each switch. Of the two ends of an entered link, the one with the higher number was entered by it.
+fn entry_links(
+    p: Plant,
+    tails: &[u8; Plant::LABELS],
+    heads: &[u8; Plant::LABELS],
+    v: Visited,
+) -> [usize; Plant::PLACES]
     requires { ⌜ Sound p ⌝ }
-    requires { ⌜ l < maxLinks ⌝ }
-    ensures { λ r. ⌜ r ≡ bridge p l ⌝ }
-{
-    if !is_live(p, l) {
-        return false;
-    }
-    let k = p.links[l];
-    let v = visit(p, l, k.first);
-    let j = k.second as usize;
-    !v.seen[j]
-}
-
-// The link by which the visit v from the start entered each switch. Of the two ends of an entered link, the one with the higher number was entered by it.
-fn entry_links(p: Plant, v: Visited) -> [usize; Plant::PLACES]
-    requires { ⌜ Sound p ⌝ }
-    requires { ⌜ Shows v (visitedFrom p (p .start)) ⌝ }
-    ensures { λ r. ⌜ EntryLinks p (p .start) maxLinks r ⌝ }
+    requires { ⌜ Ends p (now tails) (now heads) ⌝ }
+    requires { ⌜ Visits p (v .root) v ⌝ }
+    ensures { λ r. ⌜ EntryLinks p (v .root) maxLinks r ⌝ }
 {
     let mut up = [0usize; Plant::PLACES];
-    let n = p.count as usize;
     let mut l: usize = 0;
-    while l < n {
+    while l < p.count as usize {
         if v.entered[l] {
-            let k = p.links[l];
-            let x = k.first as usize;
-            let y = k.second as usize;
+            let x = tails[2 * l] as usize;
+            let y = heads[2 * l] as usize;
             if v.rank[x] < v.rank[y] {
                 up[y] = l;
             } else {
@@ -180,114 +159,118 @@ fn entry_links(p: Plant, v: Visited) -> [usize; Plant::PLACES]
     up
 }
 
-// Does link l close a cycle with the links that the visit v from the start entered?
-fn closes_cycle(p: Plant, v: Visited, l: usize) -> bool
+// Does link l close a cycle with the links that the visit entered?
+fn closes_cycle(p: Plant, tails: &[u8; Plant::LABELS], v: Visited, l: usize) -> bool
     requires { ⌜ Sound p ⌝ }
-    requires { ⌜ Shows v (visitedFrom p (p .start)) ⌝ }
+    requires { ⌜ at (now tails) ≡ tail p ⌝ }
+    requires { ⌜ Visits p (v .root) v ⌝ }
     requires { ⌜ l < maxLinks ⌝ }
-    ensures { λ r. ⌜ r ≡ closes p (p .start) l ⌝ }
+    ensures { λ r. ⌜ r ≡ closes p (v .root) l ⌝ }
 {
-    if !is_live(p, l) {
+    if !arcs::is_live(p, l) {
         return false;
     }
     if v.entered[l] {
         return false;
     }
-    let k = p.links[l];
-    let x = k.first as usize;
+    let x = tails[2 * l] as usize;
     v.seen[x]
+}
+
+// The end of link l away from the switch `from`, which is one of its two.
+fn across(tails: &[u8; Plant::LABELS], heads: &[u8; Plant::LABELS], l: usize, from: u8) -> u8
+    requires { ⌜ l < maxLinks ⌝ }
+    ensures { λ r. ⌜ r ≡ acrossOf (at (now (tails .entry))) (at (now (heads .entry))) l from ⌝ }
+{
+    let x = tails[2 * l];
+    if x == from {
+        return heads[2 * l];
+    }
+    x
 }
 
 // The flags of the links on a cycle, with those of the cycle that link k closes. From the two ends of k, the one with the higher number goes back over the
 // link by which it was entered, until the two meet. The sum of their numbers falls.
 fn climb(
     p: Plant,
+    tails: &[u8; Plant::LABELS],
+    heads: &[u8; Plant::LABELS],
     v: Visited,
-    up: [usize; Plant::PLACES],
-    c0: [bool; Plant::MAX_LINKS],
+    up: &[usize; Plant::PLACES],
+    c: &mut [bool; Plant::MAX_LINKS],
     k: usize,
-) -> [bool; Plant::MAX_LINKS]
+)
     requires { ⌜ Sound p ⌝ }
-    requires { ⌜ Shows v (visitedFrom p (p .start)) ⌝ }
-    requires { ⌜ EntryLinks p (p .start) maxLinks up ⌝ }
+    requires { ⌜ Ends p (now tails) (now heads) ⌝ }
+    requires { ⌜ Visits p (v .root) v ⌝ }
+    requires { ⌜ EntryLinks p (v .root) maxLinks (now up) ⌝ }
     requires { ⌜ k < maxLinks ⌝ }
-    requires { ⌜ Covered p (p .start) k c0 ⌝ }
-    requires { ⌜ closes p (p .start) k ≡ true ⌝ }
-    ensures { λ r. ⌜ Covered p (p .start) (k + 1) r ⌝ }
+    requires { ⌜ Covered p (v .root) k (now c) ⌝ }
+    requires { ⌜ closes p (v .root) k ≡ true ⌝ }
+    ensures { λ _. ⌜ Covered p (v .root) (k + 1) (now (c .exit)) ⌝ }
 {
-    let mut c = c0;
-    let ends = p.links[k];
-    let mut x = ends.first;
-    let mut y = ends.second;
+    let mut x = tails[2 * k];
+    let mut y = heads[2 * k];
     while x != y {
         let i = x as usize;
         let j = y as usize;
         if v.rank[i] < v.rank[j] {
             let l = up[j];
             c[l] = true;
-            y = far(p.links[l], y);
+            y = across(tails, heads, l, y);
         } else {
             let l = up[i];
             c[l] = true;
-            x = far(p.links[l], x);
+            x = across(tails, heads, l, x);
         }
     }
-    c
 }
 
 // A flag for each link: is it entered, and on a cycle that another link closes?
-fn covered_links(p: Plant, v: Visited, up: [usize; Plant::PLACES]) -> [bool; Plant::MAX_LINKS]
+fn covered_links(
+    p: Plant,
+    tails: &[u8; Plant::LABELS],
+    heads: &[u8; Plant::LABELS],
+    v: Visited,
+    up: &[usize; Plant::PLACES],
+) -> [bool; Plant::MAX_LINKS]
     requires { ⌜ Sound p ⌝ }
-    requires { ⌜ Shows v (visitedFrom p (p .start)) ⌝ }
-    requires { ⌜ EntryLinks p (p .start) maxLinks up ⌝ }
-    ensures { λ r. ⌜ Covered p (p .start) maxLinks r ⌝ }
+    requires { ⌜ Ends p (now tails) (now heads) ⌝ }
+    requires { ⌜ Visits p (v .root) v ⌝ }
+    requires { ⌜ EntryLinks p (v .root) maxLinks (now up) ⌝ }
+    ensures { λ r. ⌜ Covered p (v .root) maxLinks r ⌝ }
 {
     let mut c = [false; Plant::MAX_LINKS];
     let n = p.count as usize;
     let mut k: usize = 0;
     while k < n {
-        if closes_cycle(p, v, k) {
-            let more = climb(p, v, up, c, k);
-            c = more;
+        if closes_cycle(p, tails, v, k) {
+            climb(p, tails, heads, v, up, &mut c, k);
         }
         k += 1;
     }
     c
 }
 
-// Is link l a bridge, by the visit v from the start and the flags of the links on a cycle? An entered link is one if it is on no cycle, and another link at
-// a visited switch is none. A link that the visit did not come to is tested by a visit of its own.
-fn is_bridge_by(p: Plant, v: Visited, c: [bool; Plant::MAX_LINKS], l: usize) -> bool
+// A flag for each link: is it a bridge at a switch that the visit reached? Such a link was entered, and is on no cycle.
+pub fn bridges(
+    p: Plant,
+    tails: &[u8; Plant::LABELS],
+    heads: &[u8; Plant::LABELS],
+    v: Visited,
+) -> [bool; Plant::MAX_LINKS]
     requires { ⌜ Sound p ⌝ }
-    requires { ⌜ Shows v (visitedFrom p (p .start)) ⌝ }
-    requires { ⌜ Covered p (p .start) maxLinks c ⌝ }
-    requires { ⌜ l < maxLinks ⌝ }
-    ensures { λ r. ⌜ r ≡ bridge p l ⌝ }
+    requires { ⌜ Ends p (now tails) (now heads) ⌝ }
+    requires { ⌜ Visits p (v .root) v ⌝ }
+    ensures { λ r. ⌜ Flags maxLinks (bridgeFrom p (v .root)) r ⌝ }
 {
-    if v.entered[l] {
-        return !c[l];
-    }
-    let k = p.links[l];
-    let x = k.first as usize;
-    if v.seen[x] {
-        return false;
-    }
-    is_bridge(p, l)
-}
-
-// A flag for each link: is it a bridge?
-pub fn bridges(p: Plant) -> [bool; Plant::MAX_LINKS]
-    requires { ⌜ Sound p ⌝ }
-    ensures { λ r. ⌜ Flags maxLinks (bridge p) r ⌝ }
-{
-    let v = visit_all(p, p.start);
-    let up = entry_links(p, v);
-    let c = covered_links(p, v, up);
+    let up = entry_links(p, tails, heads, v);
+    let c = covered_links(p, tails, heads, v, &up);
     let mut b = [false; Plant::MAX_LINKS];
     let n = p.count as usize;
     let mut l: usize = 0;
     while l < n {
-        b[l] = is_bridge_by(p, v, c, l);
+        b[l] = v.entered[l] && !c[l];
         l += 1;
     }
     b
@@ -307,34 +290,37 @@ fn in_use(bridge: bool, entered: bool, tail: u8, head: u8) -> bool
     head < tail
 }
 
-// A flag for each label: is its arc in use? The flags of the bridges are given.
-pub fn arcs_with(p: Plant, b: [bool; Plant::MAX_LINKS]) -> [bool; Plant::LABELS]
+// A flag for each label: is its arc in use from the root? The flags of the bridges are given.
+pub fn arcs_in_use(
+    p: Plant,
+    tails: &[u8; Plant::LABELS],
+    heads: &[u8; Plant::LABELS],
+    v: Visited,
+    b: &[bool; Plant::MAX_LINKS],
+) -> [bool; Plant::LABELS]
     requires { ⌜ Sound p ⌝ }
-    requires { ⌜ Flags maxLinks (bridge p) b ⌝ }
-    ensures { λ r. ⌜ Flags (2 * maxLinks) (used p) r ⌝ }
+    requires { ⌜ Ends p (now tails) (now heads) ⌝ }
+    requires { ⌜ Visits p (v .root) v ⌝ }
+    requires { ⌜ Flags maxLinks (bridgeFrom p (v .root)) (now b) ⌝ }
+    ensures { λ r. ⌜ Flags (2 * maxLinks) (usedFrom p (v .root)) r ⌝ }
 {
-    let v = visit_all(p, p.start);
     let mut u = [false; Plant::LABELS];
+    let n = p.count as usize;
     let mut l: usize = 0;
-    while l < Plant::MAX_LINKS {
-        if is_live(p, l) {
-            let k = p.links[l];
-            let x = v.rank[k.first as usize];
-            let y = v.rank[k.second as usize];
-            u[2 * l] = in_use(b[l], v.entered[l], x, y);
-            u[2 * l + 1] = in_use(b[l], v.entered[l], y, x);
+    while l < n {
+        let x = tails[2 * l] as usize;
+        let y = heads[2 * l] as usize;
+        if arcs::is_live(p, l) && v.seen[x] {
+            let bridge = b[l];
+            let entered = v.entered[l];
+            let i = v.rank[x];
+            let j = v.rank[y];
+            u[2 * l] = in_use(bridge, entered, i, j);
+            u[2 * l + 1] = in_use(bridge, entered, j, i);
         }
         l += 1;
     }
     u
-}
-
-// A flag for each label: is its arc in use?
-pub fn arcs_in_use(p: Plant) -> [bool; Plant::LABELS]
-    requires { ⌜ Sound p ⌝ }
-    ensures { λ r. ⌜ Flags (2 * maxLinks) (used p) r ⌝ }
-{
-    arcs_with(p, bridges(p))
 }
 
 // How many flags are set?

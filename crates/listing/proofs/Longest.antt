@@ -4,7 +4,8 @@ use mathlib.Core.List.{List, [], _∷_}
 use Prim.Native.Nat.{ℕ, zero, suc, _+_, _*_, _^_, _≤_, _<_}
 use native.Mathlib.Omega.{arith}
 use lib.ListN.{length}
-use Rattle.lists.proofs.Members.{Each, each-at}
+use Rattle.lists.specs.Members.{Each}
+use Rattle.lists.proofs.Members.{each-at}
 use Rattle.plant.specs.declared.Link.{Link}
 use Rattle.plant.specs.declared.Plant.{Plant}
 use Rattle.plant.specs.Links.{zeroLink}

@@ -7,7 +7,7 @@ use Prim.Native.Nat.{ℕ, zero, suc, _-_, _≤_}
 use native.Mathlib.Omega.{arith}
 use lib.ListN.{length, replicate, take-append-drop}
 use lib.Seq.{take-at, drop-at}
-use Rattle.lists.proofs.Members.{Each}
+use Rattle.lists.specs.Members.{Each}
 use Rattle.plant.specs.declared.Link.{Link}
 use Rattle.plant.specs.declared.Plant.{Plant}
 use Rattle.plant.specs.Links.{zeroLink, plantWith}

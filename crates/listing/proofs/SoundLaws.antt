@@ -8,7 +8,8 @@ use borrow.Author.Tests.{lt-ltb, le-leb, ne-eqb, leb-true, ltb-true, eqb-false, 
 use lib.ListN.{length, getD, drop, replicate, length-drop, length-replicate}
 use lib.Seq.{length-take-le, getD-take, getD-drop, ext-getD}
 use Rattle.lists.proofs.Tests.{and-true}
-use Rattle.lists.proofs.Members.{Each, each-at, at-each, getD-same}
+use Rattle.lists.specs.Members.{Each}
+use Rattle.lists.proofs.Members.{each-at, at-each, getD-same}
 use Rattle.plant.specs.declared.Link.{Link}
 use Rattle.plant.specs.declared.Plant.{Plant}
 use Rattle.plant.specs.Links.{zeroLink, linkAt, first, second}

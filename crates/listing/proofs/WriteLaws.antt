@@ -2,12 +2,12 @@
 use mathlib.Core.Path.{_≡_, refl, sym, ap, _∙_}
 use mathlib.Core.Bool.{true, false}
 use mathlib.Core.List.{List, [], _∷_, _++_}
-use Prim.Native.Nat.{ℕ, _+_, _≤_, _<_}
+use Prim.Native.Nat.{ℕ, _+_, _≤_, _<_, min}
 use native.Mathlib.Omega.{arith}
-use borrow.Author.Tests.{lt-ltb, le-ltb}
-use lib.ListN.{length, getD, drop, length-append, drop-of-length-le}
-use lib.Seq.{sets}
-use Rattle.lists.proofs.Tests.{or-false}
+use borrow.Author.Tests.{ltb-false}
+use lib.Dec.{ltb}
+use lib.ListN.{length, getD, drop, length-append, length-take, drop-of-length-le}
+use lib.Seq.{sets, getD-take}
 use Rattle.lists.proofs.Arrays.{sets-append, sets-front}
 use Rattle.lists.specs.Members.{all}
 use Rattle.plant.specs.declared.Link.{Link}
@@ -16,17 +16,16 @@ use Rattle.plant.specs.Links.{zeroLink}
 use Rattle.answers.specs.declared.Refusal.{Refusal}
 use Rattle.answers.specs.declared.Verdict.{Verdict}
 use Rattle.answers.specs.declared.Verdict.the-variants as verdict
-use Rattle.answers.specs.Answers.{given, refused, numberOf, verdictAnswer}
-use Rattle.answers.specs.Checks.{check, answer}
-use Rattle.answers.proofs.Checks.{refuse-given, goes-on, stops, left-kept}
+use Rattle.answers.specs.Answers.{given, refused, numberOf, verdictAnswer, firstOf}
+use Rattle.answers.specs.Checks.{Conditions, Judges, check, answer}
+use Rattle.answers.proofs.Checks.{none-append, goes-on, stops, left-kept, none-judged, passed, turned-down, first-judges}
 use Rattle.limits.specs.Limits.{maxLinks}
 use Rattle.codec.specs.declared.Layout.{Layout}
 use Rattle.codec.specs.Part.{partBytes}
 use Rattle.codec.specs.Layout.{fieldsOf, Lays}
-use Rattle.codec.proofs.Taken.{drop-next, taken-next, taken-end}
+use Rattle.codec.proofs.Taken.{drop-next}
 use Rattle.listing.specs.Listing.{headerFields, linkFields, valueOutOfRange, soundLink, linksOf, headerBytes, linkBytes, linksBytes, encode}
 use Rattle.listing.specs.Writing.{isZero, plantOutOfRange, soundLinks, soundPlant, bufferShort, writing, bufferAfter}
-use Rattle.listing.proofs.SoundLaws.{in-range}
 
 -- the bytes of a header and of a link with the values vs, by the layout
 module _ {most : ℕ} {l : Layout} {vs : List ℕ} where
@@ -52,32 +51,38 @@ module _ (p : Plant) (long : length (p .links) ≡ maxLinks) (i : ℕ) where
 
 -- ---- the links of a plant, from link i on
 
-module _ (p : Plant) (long : length (p .links) ≡ maxLinks) (few : p .count ≤ maxLinks) (i : ℕ) where
-  links-next : i < p .count → drop i (linksOf p) ≡ getD (p .links) i zeroLink ∷ drop (i + 1) (linksOf p)
-  links-next h = taken-next (p .links) (p .count) i (omega arith) zeroLink h
+-- a plant value holds as many links as it counts, and no more than it has places for
+pub held : (p : Plant) → length (p .links) ≡ maxLinks → length (linksOf p) ≡ min (p .count) maxLinks
+held p long = length-take (p .count) (p .links) ∙ ap (min (p .count)) long
 
-  links-done : p .count ≤ i → drop i (linksOf p) ≡ []
-  links-done h = taken-end (p .links) (p .count) i (omega arith) h
+module _ (p : Plant) (i : ℕ) where
+  links-next : i < length (linksOf p) → drop i (linksOf p) ≡ getD (p .links) i zeroLink ∷ drop (i + 1) (linksOf p)
+  links-next h =
+      drop-next (linksOf p) i zeroLink h
+      ∙ ap (λ (l : Link). l ∷ drop (i + 1) (linksOf p)) (getD-take (p .count) (p .links) i zeroLink (omega (arith, length-take (p .count) (p .links))))
+
+  links-done : length (linksOf p) ≤ i → drop i (linksOf p) ≡ []
+  links-done h = drop-of-length-le (linksOf p) {i = i} h
 
   -- refusals 6 and 7
-  module _ (v : Verdict) (e : verdictAnswer v ≡ answer (soundLink (p .switches) (getD (p .links) i zeroLink))) (h : i < p .count) where
+  module _ (v : Verdict) (e : verdictAnswer v ≡ answer (soundLink (p .switches) (getD (p .links) i zeroLink))) (h : i < length (linksOf p)) where
     pub judge-on : v ≡ verdict.Accepted → answer (soundLinks (p .switches) (drop (i + 1) (linksOf p))) ≡ answer (soundLinks (p .switches) (drop i (linksOf p)))
     judge-on f = rw (links-next h) (sym (goes-on (soundLink (p .switches) (getD (p .links) i zeroLink)) (λ _. soundLinks (p .switches) (drop (i + 1) (linksOf p))) tt (sym e ∙ ap verdictAnswer f)))
 
     pub judge-refused : (k : Refusal) → v ≡ verdict.Refused k → refused (numberOf k) ≡ answer (soundLinks (p .switches) (drop i (linksOf p)))
     judge-refused k f = rw (links-next h) (sym (stops (soundLink (p .switches) (getD (p .links) i zeroLink)) (λ _. soundLinks (p .switches) (drop (i + 1) (linksOf p))) (numberOf k) (sym e ∙ ap verdictAnswer f)))
 
-  pub judge-all : p .count ≤ i → given tt ≡ answer (soundLinks (p .switches) (drop i (linksOf p)))
+  pub judge-all : length (linksOf p) ≤ i → given tt ≡ answer (soundLinks (p .switches) (drop i (linksOf p)))
   judge-all h = rw (links-done h) refl
 
   -- the bytes of the links
-  pub left-next : (before : Link) → i < p .count → linksBytes before (drop i (linksOf p)) ≡ linkBytes before (getD (p .links) i zeroLink) ++ linksBytes (getD (p .links) i zeroLink) (drop (i + 1) (linksOf p))
+  pub left-next : (before : Link) → i < length (linksOf p) → linksBytes before (drop i (linksOf p)) ≡ linkBytes before (getD (p .links) i zeroLink) ++ linksBytes (getD (p .links) i zeroLink) (drop (i + 1) (linksOf p))
   left-next before h = ap (linksBytes before) (links-next h)
 
-  pub left-none : (before : Link) → p .count ≤ i → linksBytes before (drop i (linksOf p)) ≡ []
+  pub left-none : (before : Link) → length (linksOf p) ≤ i → linksBytes before (drop i (linksOf p)) ≡ []
   left-none before h = ap (linksBytes before) (links-done h)
 
-  pub size-next : (before : Link) → i < p .count
+  pub size-next : (before : Link) → i < length (linksOf p)
       → length (linksBytes before (drop i (linksOf p))) ≡ length (linkBytes before (getD (p .links) i zeroLink)) + length (linksBytes (getD (p .links) i zeroLink) (drop (i + 1) (linksOf p)))
   size-next before h = ap length (left-next before h) ∙ length-append (linkBytes before (getD (p .links) i zeroLink)) (linksBytes (getD (p .links) i zeroLink) (drop (i + 1) (linksOf p)))
 
@@ -108,12 +113,17 @@ module _ (p : Plant) where
     unfolding soundPlant plantOutOfRange
     plant-links e = sym (rw (inside, e) refl)
 
-  -- a plant that is not refused has no more links than there are places
-  pub sound-few : answer (soundPlant p) ≡ given tt → p .count ≤ maxLinks
-  unfolding soundPlant plantOutOfRange
-  sound-few e = in-range _ _ _ (or-false _ _ (refuse-given 5 (plantOutOfRange p) (answer (soundLinks (p .switches) (linksOf p))) tt e .0) .0) .few-links
-
 -- ---- what the writer answers and leaves
+
+-- its refusals in checking order
+abbrev pub writeChecks : Plant → List ℕ → Conditions
+writeChecks p b = soundPlant p .checks ++ (16, bufferShort p b) ∷ []
+
+-- the plant is judged, then the room for its listing of n bytes
+pub judged-both : (p : Plant) (b : List ℕ) (n : ℕ) (v w r : Verdict) → verdictAnswer v ≡ answer (soundPlant p) → n ≡ length (encode p) → Judges ((16, ltb (length b) n) ∷ []) w
+    → r ≡ firstOf v w → Judges (writeChecks p b) r
+unfolding bufferShort
+judged-both p b n v w r e f j g = rw g (first-judges (soundPlant p .checks) ((16, bufferShort p b) ∷ []) v w (record { first = e }) (rw f at j))
 
 module _ (p : Plant) (b : List ℕ) where
   pub writing-on : answer (soundPlant p) ≡ given tt → answer (writing p b) ≡ answer (check ((16, bufferShort p b) ∷ []) (length (encode p)))
@@ -124,22 +134,20 @@ module _ (p : Plant) (b : List ℕ) where
   unfolding bufferAfter
   kept n e = left-kept (λ k. encode p ++ drop k b) b (answer (writing p b)) n e
 
-  module _ (v : Verdict) (e : verdictAnswer v ≡ answer (soundPlant p)) where
-    -- 5, 6, 7
+  module _ (v : Verdict) (j : Judges (writeChecks p b) v) where
     pub write-refused : (k : Refusal) → v ≡ verdict.Refused k → answer (writing p b) ≡ refused (numberOf k)
     unfolding writing
-    write-refused k f = stops (soundPlant p) (λ _. check ((16, bufferShort p b) ∷ []) (length (encode p))) (numberOf k) (sym e ∙ ap verdictAnswer f)
+    write-refused k e = turned-down (writeChecks p b) v j (given (length (encode p))) k e
 
-    module _ (f : v ≡ verdict.Accepted) where
-      -- 16
-      pub write-short : length b < length (encode p) → answer (writing p b) ≡ refused 16
+    module _ (e : v ≡ verdict.Accepted) where
+      pub write-length : answer (writing p b) ≡ given (length (encode p))
+      unfolding writing
+      write-length = passed (writeChecks p b) v j (given (length (encode p))) e
+
+      pub write-room : length (encode p) ≤ length b
       unfolding bufferShort
-      write-short h = writing-on (sym e ∙ ap verdictAnswer f) ∙ rw (lt-ltb (length b) (length (encode p)) h) refl
+      write-room = ltb-false (length b) (length (encode p)) (none-append (soundPlant p .checks) ((16, bufferShort p b) ∷ []) (none-judged (writeChecks p b) v j e) .1 .0)
 
-      pub write-length : length (encode p) ≤ length b → answer (writing p b) ≡ given (length (encode p))
-      unfolding bufferShort
-      write-length h = writing-on (sym e ∙ ap verdictAnswer f) ∙ rw (le-ltb (length b) (length (encode p)) h) refl
-
-      pub left-written : length (encode p) ≤ length b → sets b 0 (encode p) ≡ bufferAfter p b
+      pub left-written : sets b 0 (encode p) ≡ bufferAfter p b
       unfolding bufferAfter
-      left-written h = rw (write-length h) (sets-front b (encode p) h)
+      left-written = rw write-length (sets-front b (encode p) write-room)

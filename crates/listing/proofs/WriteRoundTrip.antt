@@ -10,8 +10,8 @@ use lib.Dec.{eqb}
 use lib.ListN.{length, getD, take, drop, replicate, length-append, length-drop}
 use lib.Seq.{take-at, getD-take}
 use Rattle.lists.proofs.Tests.{and-true, or-false}
-use Rattle.lists.specs.Members.{In, all}
-use Rattle.lists.proofs.Members.{Each, each-at, at-each}
+use Rattle.lists.specs.Members.{In, all, Each}
+use Rattle.lists.proofs.Members.{each-at, at-each}
 use Rattle.plant.specs.declared.Link.{Link}
 use Rattle.plant.specs.declared.Plant.{Plant}
 use Rattle.plant.specs.Links.{zeroLink}

@@ -1,7 +1,7 @@
 -- The listing (document 01, "Listing bytes" and refusals 1 to 8): from bytes to a plant, and from a plant to bytes.
 use mathlib.Core.Bool.{Bool, not, _&&_}
 use mathlib.Core.List.{List, [], _∷_, _++_}
-use Prim.Native.Nat.{ℕ, zero, suc, _-_}
+use Prim.Native.Nat.{ℕ, zero, suc}
 use lib.Dec.{eqb, leb, ltb}
 use lib.ListN.{length, getD, take}
 use Rattle.lists.specs.Padded.{padded}

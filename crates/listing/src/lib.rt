@@ -1,6 +1,7 @@
 // The listing of a plant (document 01, "Listing bytes"): its reader and its writer. Inner: the calls are the crates `planner` and `probing`.
 use answers::Refusal;
 use answers::Verdict;
+use answers::first_of;
 use codec::Field;
 use codec::Layout;
 use codec::part_size;
@@ -11,12 +12,13 @@ use plant::Plant;
 ghost use mathlib.Core.Path.{_≡_};
 ghost use mathlib.Core.List.{List, [], _∷_};
 ghost use Prim.Native.Nat.{ℕ, _+_, _^_, _≤_, _<_};
+ghost use lib.Dec.{ltb};
 ghost use lib.ListN.{length, drop};
 ghost use lib.Seq.{sets};
 ghost use Rattle.lists.specs.Members.{all};
 ghost use Rattle.plant.specs.Links.{zeroLink, plantWith};
 ghost use Rattle.answers.specs.Answers.{Answer, refused, numberOf, verdictAnswer};
-ghost use Rattle.answers.specs.Checks.{answer};
+ghost use Rattle.answers.specs.Checks.{Judges, answer};
 ghost use Rattle.limits.specs.Limits.{maxLinks};
 ghost use Rattle.codec.specs.Layout.{Lays};
 ghost use Rattle.listing.specs.Listing.{valueOutOfRange, headerFields, linkFields, linkOf, soundLink, link, linked, linksOf, linksBytes, encode};
@@ -353,12 +355,22 @@ fn places_zero(p: Plant) -> bool
     true
 }
 
-// Refusals 6 and 7, link by link.
-fn judge_links(p: Plant) -> Verdict
-    requires { ⌜ p .count ≤ maxLinks ⌝ }
-    ensures { λ r. ⌜ verdictAnswer r ≡ answer (soundLinks (p .switches) (linksOf p)) ⌝ }
+// The links that a plant value holds: a count past its places counts as all of them.
+fn links_held(p: Plant) -> usize
+    ensures { λ r. ⌜ (r ≡ length (linksOf p)) × (r ≤ maxLinks) ⌝ }
 {
     let n = p.count as usize;
+    if Plant::MAX_LINKS < n {
+        return Plant::MAX_LINKS;
+    }
+    n
+}
+
+// Refusals 6 and 7, link by link.
+fn judge_links(p: Plant) -> Verdict
+    ensures { λ r. ⌜ verdictAnswer r ≡ answer (soundLinks (p .switches) (linksOf p)) ⌝ }
+{
+    let n = links_held(p);
     let switches = p.switches;
     let mut i: usize = 0;
     while i < n {
@@ -387,12 +399,21 @@ fn judge_plant(p: Plant) -> Verdict
     judge_links(p)
 }
 
+// Refusal 16 of a lent buffer with this length, for a listing of so many bytes.
+fn judge_room(size: usize, room: usize) -> Verdict
+    ensures { λ r. ⌜ Judges ((16, ltb room size) ∷ []) r ⌝ }
+{
+    if room < size {
+        return Verdict::Refused(Refusal::ListingBufferShort);
+    }
+    Verdict::Accepted
+}
+
 // The length of a plant's listing.
 fn listing_size(p: Plant) -> usize
-    requires { ⌜ p .count ≤ maxLinks ⌝ }
     ensures { λ r. ⌜ r ≡ length (encode p) ⌝ }
 {
-    let n = p.count as usize;
+    let n = links_held(p);
     let mut size = part_size(header_layout(), header_values(p));
     let mut before = Link::zero();
     let mut i: usize = 0;
@@ -407,10 +428,10 @@ fn listing_size(p: Plant) -> usize
 
 // The links of a plant, from `from` on.
 fn put_links(p: Plant, buf: &mut [u8], from: usize)
-    requires { ⌜ (p .count ≤ maxLinks) × (from + length (linksBytes zeroLink (linksOf p)) ≤ length (now buf)) ⌝ }
+    requires { ⌜ from + length (linksBytes zeroLink (linksOf p)) ≤ length (now buf) ⌝ }
     ensures { λ _. ⌜ now (buf .exit) ≡ sets (now (buf .entry)) from (linksBytes zeroLink (linksOf p)) ⌝ }
 {
-    let n = p.count as usize;
+    let n = links_held(p);
     let mut before = Link::zero();
     let mut at = from;
     let mut i: usize = 0;
@@ -424,11 +445,19 @@ fn put_links(p: Plant, buf: &mut [u8], from: usize)
 
 // A plant's listing at the front of the buffer.
 fn put_listing(p: Plant, buf: &mut [u8])
-    requires { ⌜ (p .count ≤ maxLinks) × (length (encode p) ≤ length (now buf)) ⌝ }
+    requires { ⌜ length (encode p) ≤ length (now buf) ⌝ }
     ensures { λ _. ⌜ now (buf .exit) ≡ sets (now (buf .entry)) 0 (encode p) ⌝ }
 {
     let from = put_part(buf, 0, header_layout(), header_values(p));
     put_links(p, buf, from);
+}
+
+// A refused writing: the lent buffer stays as it was.
+fn refused_writing(k: Refusal, buffer: &mut [u8]) -> Written
+    ensures { λ r. ⌜ writeAnswer r ≡ refused (numberOf k) ⌝ }
+    ensures { λ _. ⌜ now (buffer .exit) ≡ now (buffer .entry) ⌝ }
+{
+    Written::Refused(k)
 }
 
 // The listing of a plant into the front of the lent buffer: its length, or refusals 5, 6, 7 and 16.
@@ -436,15 +465,14 @@ pub fn write(p: Plant, buffer: &mut [u8]) -> Written
     ensures { λ r. ⌜ writeAnswer r ≡ answer (writing p (now (buffer .entry))) ⌝ }
     ensures { λ _. ⌜ now (buffer .exit) ≡ bufferAfter p (now (buffer .entry)) ⌝ }
 {
-    match judge_plant(p) {
+    let sound = judge_plant(p);
+    let n = listing_size(p);
+    let room = judge_room(n, buffer.len());
+    match first_of(sound, room) {
         Verdict::Accepted => {
-            let n = listing_size(p);
-            if buffer.len() < n {
-                return Written::Refused(Refusal::ListingBufferShort);
-            }
             put_listing(p, buffer);
             Written::Length(n)
         }
-        Verdict::Refused(k) => Written::Refused(k),
+        Verdict::Refused(k) => refused_writing(k, buffer),
     }
 }

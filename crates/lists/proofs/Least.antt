@@ -15,7 +15,7 @@ pub record First (k e : ℕ) (p : ℕ → Bool) (r : ℕ) : Type 0 where
   pub passes : r < e → T (p r)
   pub others : (j : ℕ) → k ≤ j → j < r → T (p j) → ⊥
 
-firsts : (f k : ℕ) (p : ℕ → Bool) → First k (k + f) p (leastFrom f k p)
+pub firsts : (f k : ℕ) (p : ℕ → Bool) → First k (k + f) p (leastFrom f k p)
 unfolding leastFrom
 firsts zero k p = record {
   top = omega arith;

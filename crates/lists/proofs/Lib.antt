@@ -9,4 +9,5 @@ pub mod Agree
 pub mod Stepwise
 pub mod Parts
 pub mod Padded
+pub mod Laid
 pub mod Filled

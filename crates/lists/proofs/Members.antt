@@ -8,7 +8,7 @@ use native.Mathlib.Omega.{arith}
 use lib.Dec.{T, eqb, eqb→eq}
 use lib.ListN.{length, getD, replicate}
 use Rattle.lists.proofs.Tests.{T-or, eq→eqb, or-left, or-right, or-cases, and-true}
-use Rattle.lists.specs.Members.{In, memb, all}
+use Rattle.lists.specs.Members.{In, memb, all, Each}
 
 pub memb→in : (x : ℕ) (l : List ℕ) → T (memb x l) → In x l
 memb→in x [] t = t
@@ -80,10 +80,6 @@ all-append p [] ys = refl
 all-append p (x ∷ xs) ys = ap (λ (b : Bool). p x && b) (all-append p xs ys) ∙ sym (and-assoc (p x) (all p xs) (all p ys))
 
 -- ---- what holds of each member, at its place
-
-abbrev pub Each : {A : Type 0} → (A → Type 0) → List A → Type 0
-Each P [] = Unit
-Each P (x ∷ xs) = P x × Each P xs
 
 pub each-at : {A : Type 0} (P : A → Type 0) (xs : List A) (d : A) → Each P xs → (i : ℕ) → i < length xs → P (getD xs i d)
 each-at P [] d h i k = absurd (omega arith)

@@ -4,3 +4,4 @@ pub mod Count
 pub mod Numbers
 pub mod Least
 pub mod Padded
+pub mod Arrays

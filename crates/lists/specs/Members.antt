@@ -1,4 +1,4 @@
--- Membership in a list of numbers, as a relation and as a test; a test at all members; distinct members. The laws are in proofs/.
+-- Membership in a list of numbers, as a relation and as a test; a test at all members; what holds of each; distinct members. The laws are in proofs/.
 use mathlib.Core.Path.{_≡_}
 use mathlib.Core.Logic.{_⊎_}
 use mathlib.Core.Bool.{Bool, true, false, _&&_, _||_}
@@ -19,6 +19,12 @@ memb x (y ∷ ys) = eqb x y || memb x ys
 abbrev pub all : {A : Type 0} → (A → Bool) → List A → Bool
 all p [] = true
 all p (x ∷ xs) = p x && all p xs
+
+-- ---- what holds of each member
+
+abbrev pub Each : {A : Type 0} → (A → Type 0) → List A → Type 0
+Each P [] = Unit
+Each P (x ∷ xs) = P x × Each P xs
 
 -- ---- distinct members
 

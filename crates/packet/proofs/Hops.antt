@@ -8,6 +8,7 @@ use native.Mathlib.Numerals.{add-one}
 use lib.Dec.{eqb}
 use lib.ListN.{length, getD, drop, drop-of-length-le}
 use lib.Seq.{drop-cons}
+use Rattle.lists.specs.Arrays.{flag}
 use Rattle.lists.proofs.Tests.{not-true-false}
 use Rattle.plant.specs.declared.Plant.{Plant}
 use Rattle.plant.specs.Links.{side, first, second}
@@ -16,7 +17,6 @@ use Rattle.walks.proofs.Labels.{arc-below}
 use Rattle.rings.specs.Packet.{run, runOn, rulesFor}
 use Rattle.rings.specs.Packet as ring
 use Rattle.rings.specs.Rules.{upBy, upByLink}
-use Rattle.distance.specs.Distances.{flag}
 use Rattle.packet.specs.Runs.{flagged, goesOn}
 use Rattle.packet.specs.Asked.{ForArcs, way}
 use Rattle.packet.proofs.Ways.{way-length}

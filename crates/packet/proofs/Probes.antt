@@ -7,23 +7,25 @@ use native.Mathlib.Omega.{arith}
 use lib.ListN.{length, take, drop, length-drop}
 use lib.Seq.{take-all, length-take-le}
 use Rattle.lists.specs.Tests.{choose}
+use Rattle.lists.specs.Arrays.{flag}
 use Rattle.plant.specs.declared.Plant.{Plant}
 use Rattle.walks.specs.Arcs.{tail, head}
-use Rattle.rings.specs.Packet.{End, run, runOn}
+use Rattle.rings.specs.Packet.{End, run, runOn, rulesFor}
 use Rattle.rings.proofs.Packet.{runOn-append}
-use Rattle.rings.specs.Rules.{upByLink, inTable, inAll}
+use Rattle.rings.specs.Rules.{upByLink, inAll}
 use Rattle.rings.specs.Ring.{readFrom, ring}
 use Rattle.rings.specs.Probe.{back}
 use Rattle.rings.specs.Injection.{placeOf, ringOf, probeRun}
 use Rattle.rings.proofs.Injection.{full-run, back-run}
 use Rattle.rings.specs.Parts.{outStretch, outFront}
 use Rattle.rings.proofs.Parts.{there-and-back}
+use Rattle.arcs.specs.Net.{AllArcs}
 use Rattle.order.specs.declared.Span.{Span}
 use Rattle.order.specs.Span.{spanOf, stretchOf, frontOf}
 use Rattle.order.proofs.Spans.{span-stretch, span-front}
 use Rattle.packet.specs.Runs.{flagged, injectedAt, goesOn}
-use Rattle.packet.specs.Asked.{ForTable, ForAll, outAndBack}
-use Rattle.packet.proofs.Rules.{on-table, on-all}
+use Rattle.packet.specs.Asked.{outAndBack}
+use Rattle.packet.proofs.Rules.{on-all}
 
 -- ---- the part of a trail from a place on
 
@@ -69,35 +71,35 @@ module _ (p : Plant) (rules : List Bool) (states : List ℕ) where
       on-two i f r (x ++ y) (back y ++ back x) (on-two i e f x y a b) (on-two f g r (back y) (back x) c d)
       ∙ ap (λ (j : End). goesOn p rules states j (outAndBack x y)) new
 
-  -- ---- under the forwarding table
+  -- ---- from a switch
 
-  -- a run from a switch
-  pub table-run : ForTable p rules → (s : ℕ) (i r : End) (w : List ℕ) → i ≡ injectedAt s → r ≡ goesOn p rules states i w
-      → r ≡ run (inTable p) (upByLink states) (head p) s 0 w
-  unfolding runOn
-  table-run table s i r w new a = a ∙ ap (λ (j : End). goesOn p rules states j w) new ∙ on-table p rules table states (injectedAt s) w
+  pub from-switch : (s : ℕ) (i r : End) (w : List ℕ) → i ≡ injectedAt s → r ≡ goesOn p rules states i w
+      → r ≡ run (rulesFor (flag rules) (tail p)) (upByLink states) (head p) s 0 w
+  unfolding runOn flagged
+  from-switch s i r w new a = a ∙ ap (λ (j : End). goesOn p rules states j w) new
 
   module _ (w : List ℕ) (s : ℕ) where
     -- the full check: the stretch from the place of s, then the front
-    pub ring-is : ForTable p rules → (k : ℕ) (i e r : End) → k ≡ placeOf p w s → i ≡ injectedAt s → e ≡ goesOn p rules states i (take (length w - k) (drop k w))
-        → r ≡ goesOn p rules states e (take k w) → r ≡ run (inTable p) (upByLink states) (head p) s 0 (ringOf p w s)
+    pub ring-is : (k : ℕ) (i e r : End) → k ≡ placeOf p w s → i ≡ injectedAt s → e ≡ goesOn p rules states i (take (length w - k) (drop k w))
+        → r ≡ goesOn p rules states e (take k w) → r ≡ run (rulesFor (flag rules) (tail p)) (upByLink states) (head p) s 0 (ringOf p w s)
     unfolding ringOf ring readFrom
-    ring-is table k i e r at new a b =
+    ring-is k i e r at new a b =
         let whole : take (length w - k) (drop k w) ≡ drop k w = take-all (length w - k) (drop k w) (omega (arith, length-drop k w)) in
-        table-run table s i r (drop k w ++ take k w) new (on-two i e r (drop k w) (take k w) (a ∙ ap (goesOn p rules states i) whole) b)
-        ∙ ap (λ (j : ℕ). run (inTable p) (upByLink states) (head p) s 0 (drop j w ++ take j w)) at
+        from-switch s i r (drop k w ++ take k w) new (on-two i e r (drop k w) (take k w) (a ∙ ap (goesOn p rules states i) whole) b)
+        ∙ ap (λ (j : ℕ). run (rulesFor (flag rules) (tail p)) (upByLink states) (head p) s 0 (drop j w ++ take j w)) at
 
     -- ---- the probes
 
-    pub full-is : (e m : ℕ) (r : End) → m ≡ e → r ≡ run (inTable p) (upByLink states) (head p) s 0 (ringOf p w s) → r ≡ probeRun p w s e (upByLink states) m
-    full-is e m r i q = q ∙ sym (full-run p w s e (upByLink states)) ∙ ap (probeRun p w s e (upByLink states)) (sym i)
+    pub full-is : (e m : ℕ) (r : End) → m ≡ e → r ≡ run (rulesFor (flag rules) (tail p)) (upByLink states) (head p) s 0 (ringOf p w s)
+        → r ≡ probeRun p (flag rules) w s e (upByLink states) m
+    full-is e m r i q = q ∙ sym (full-run p w s (flag rules) e (upByLink states)) ∙ ap (probeRun p (flag rules) w s e (upByLink states)) (sym i)
 
-    pub back-is : ForAll p rules → (e m : ℕ) (b : Span) (x y : List ℕ) (r : End) → (m ≡ e → ⊥) → b ≡ spanOf p w s m → x ≡ stretchOf w b → y ≡ frontOf w b
-        → r ≡ goesOn p rules states (injectedAt s) (outAndBack x y) → r ≡ probeRun p w s e (upByLink states) m
+    pub back-is : AllArcs p rules → (table : ℕ → Bool) (e m : ℕ) (b : Span) (x y : List ℕ) (r : End) → (m ≡ e → ⊥) → b ≡ spanOf p w s m → x ≡ stretchOf w b
+        → y ≡ frontOf w b → r ≡ goesOn p rules states (injectedAt s) (outAndBack x y) → r ≡ probeRun p table w s e (upByLink states) m
     unfolding ringOf runOn
-    back-is all e m b x y r n q f g h =
+    back-is all table e m b x y r n q f g h =
         let stretch : x ≡ outStretch (tail p) s w m = f ∙ ap (stretchOf w) q ∙ span-stretch p w s m in
         let front : y ≡ outFront (tail p) s w m = g ∙ ap (frontOf w) q ∙ span-front p w s m in
         h ∙ on-all p rules all states (injectedAt s) (outAndBack x y)
         ∙ ap (run (inAll p) (upByLink states) (head p) s 0) (ap₂ outAndBack stretch front ∙ sym (there-and-back (tail p) s w m))
-        ∙ sym (back-run p w s e (upByLink states) m n)
+        ∙ sym (back-run p w s table e (upByLink states) m n)

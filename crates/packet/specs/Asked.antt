@@ -2,34 +2,21 @@
 use mathlib.Core.Path.{_≡_}
 use mathlib.Core.Bool.{Bool, true}
 use mathlib.Core.List.{List, _++_}
-use Prim.Native.Nat.{ℕ, _/_, _≤_}
+use Prim.Native.Nat.{ℕ, _≤_}
 use lib.ListN.{length}
 use Rattle.lists.specs.Tests.{choose}
+use Rattle.lists.specs.Arrays.{flag}
 use Rattle.plant.specs.declared.Plant.{Plant}
-use Rattle.plant.specs.Links.{live}
 use Rattle.limits.specs.Sound.{Sound}
 use Rattle.walks.specs.Arcs.{Arc}
-use Rattle.walks.specs.Graph.{used}
 use Rattle.rings.specs.Probe.{back}
-use Rattle.distance.specs.Distances.{flag}
 use Rattle.order.specs.Labels.{OverArcs}
 
--- ---- rules as flags
-
-module _ (p : Plant) (rules : List Bool) where
-  -- the flags are for arcs of the plant alone
-  abbrev pub ForArcs : Type 0
-  ForArcs = (a : ℕ) → flag rules a ≡ true → Arc p a
-
-  -- those of the forwarding table
-  abbrev pub ForTable : Type 0
-  ForTable = (a : ℕ) → flag rules a ≡ used p a
-
-  -- those of all rules: of the table, and of the opposite arcs
-  abbrev pub ForAll : Type 0
-  ForAll = (a : ℕ) → flag rules a ≡ live p (a / 2)
-
 -- ---- what is asked
+
+-- rules as flags: they are for arcs of the plant alone
+abbrev pub ForArcs : Plant → List Bool → Type 0
+ForArcs p rules = (a : ℕ) → flag rules a ≡ true → Arc p a
 
 -- of a run: a sound plant, rules for its arcs, and a state byte for each of its links
 pub record CanRun (p : Plant) (rules : List Bool) (states : List ℕ) : Type 0 where
@@ -37,11 +24,9 @@ pub record CanRun (p : Plant) (rules : List Bool) (states : List ℕ) : Type 0 w
   pub arcs : ForArcs p rules
   pub bytes : p .count ≤ length states
 
--- of a probe: a sound plant, the rules of its forwarding table, a state byte for each link, and a trail over its arcs
+-- of a probe: that it can run under the rules of the forwarding table, and a trail over arcs of the plant
 pub record CanProbe (p : Plant) (table : List Bool) (states w : List ℕ) : Type 0 where
-  pub sound : Sound p
-  pub used : ForTable p table
-  pub bytes : p .count ≤ length states
+  pub runs : CanRun p table states
   pub trail : OverArcs p w
 
 -- ---- labels out and back

@@ -2,12 +2,12 @@
 use mathlib.Core.Bool.{Bool, true}
 use mathlib.Core.List.{List}
 use Prim.Native.Nat.{ℕ}
+use Rattle.lists.specs.Arrays.{flag}
 use Rattle.plant.specs.declared.Plant.{Plant}
 use Rattle.walks.specs.Arcs.{tail, head}
 use Rattle.rings.specs.Packet.{runOn, rulesFor}
 use Rattle.rings.specs.Packet as ring
 use Rattle.rings.specs.Rules.{upByLink}
-use Rattle.distance.specs.Distances.{flag}
 use Rattle.packet.specs.declared.End.{End}
 
 -- how a run comes out, as the definitions have it

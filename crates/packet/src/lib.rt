@@ -4,16 +4,16 @@ ghost use mathlib.Core.Bool.{not, _&&_};
 ghost use Prim.Native.Nat.{_+_, _*_, _%_, _≤_, _<_};
 ghost use lib.Dec.{eqb};
 ghost use lib.ListN.{length, getD};
+ghost use Rattle.lists.specs.Arrays.{flag};
 ghost use Rattle.limits.specs.Limits.{maxLinks};
-ghost use Rattle.limits.specs.Sound.{Sound};
 ghost use Rattle.plant.specs.Links.{side};
-ghost use Rattle.walks.specs.Arcs.{head};
-ghost use Rattle.rings.specs.Packet.{run};
-ghost use Rattle.rings.specs.Rules.{upByLink, inTable};
+ghost use Rattle.walks.specs.Arcs.{tail, head};
+ghost use Rattle.rings.specs.Packet.{run, rulesFor};
+ghost use Rattle.rings.specs.Rules.{upByLink};
 ghost use Rattle.rings.specs.Probe.{back};
 ghost use Rattle.rings.specs.Injection.{ringOf, probeRun};
 ghost use Rattle.packet.specs.Runs.{endOf, injectedAt, goesOn};
-ghost use Rattle.packet.specs.Asked.{ForAll, CanRun, CanProbe, way, outAndBack};
+ghost use Rattle.packet.specs.Asked.{CanRun, CanProbe, way, outAndBack};
 use order::front;
 use order::place_of;
 use order::span_of;
@@ -141,26 +141,11 @@ pub fn full_check(
     trail: &[u16],
 ) -> End
     requires { ⌜ CanProbe p table (now states) (now trail) ⌝ }
-    ensures { λ r. ⌜ endOf r ≡ run (inTable p) (upByLink (now (states .entry))) (head p) s 0 (ringOf p (now (trail .entry)) s) ⌝ }
+    ensures { λ r. ⌜ endOf r ≡ run (rulesFor (flag table) (tail p)) (upByLink (now (states .entry))) (head p) s 0 (ringOf p (now (trail .entry)) s) ⌝ }
 {
     let k = place_of(p, s, trail);
     let e = run_on(p, table, states, injected(s), &trail[k..]);
     run_on(p, table, states, e, &trail[..k])
-}
-
-// All rules: those of the forwarding table, and those that opposite arcs have of their own. There are two to each link that takes part.
-fn all_rules(p: Plant) -> [bool; Plant::LABELS]
-    requires { ⌜ Sound p ⌝ }
-    ensures { λ r. ⌜ ForAll p r ⌝ }
-{
-    let n = 2 * (p.count as usize);
-    let mut rules = [false; Plant::LABELS];
-    let mut a: usize = 0;
-    while a < n {
-        rules[a] = graph::is_live(p, a / 2);
-        a += 1;
-    }
-    rules
 }
 
 // From switch s out over x and then y, and back over the opposite arcs.
@@ -182,7 +167,8 @@ fn there_and_back(
     run_back(p, rules, states, g, x)
 }
 
-// The run of probe m of switch s over so many links: the full check if m is their number; else out up to the first crossing of the m-th link of the order, and back.
+// The run of probe m of switch s over so many links: the full check if m is their number; else out up to the first crossing of the m-th link of the order, and back,
+// under all rules, those of the forwarding table and those that opposite arcs have of their own.
 pub fn probe_run(
     p: Plant,
     table: [bool; Plant::LABELS],
@@ -195,12 +181,12 @@ pub fn probe_run(
     requires { ⌜ CanProbe p table (now states) (now trail) ⌝ }
     requires { ⌜ 1 ≤ m ⌝ }
     requires { ⌜ m ≤ maxLinks ⌝ }
-    ensures { λ r. ⌜ endOf r ≡ probeRun p (now (trail .entry)) s links (upByLink (now (states .entry))) m ⌝ }
+    ensures { λ r. ⌜ endOf r ≡ probeRun p (flag table) (now (trail .entry)) s links (upByLink (now (states .entry))) m ⌝ }
 {
     if m == links {
         return full_check(p, table, states, s, trail);
     }
     let span = span_of(p, s, trail, m);
-    let all = all_rules(p);
+    let all = arcs::all_arcs(p);
     there_and_back(p, all, states, s, stretch(trail, span), front(trail, span))
 }

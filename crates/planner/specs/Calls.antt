@@ -12,10 +12,9 @@ use Rattle.limits.specs.Limits.{maxLinks}
 use Rattle.listing.specs.Listing.{reading}
 use Rattle.listing.specs.Writing.{writing}
 use Rattle.walks.specs.Graph.{bridge}
-use Rattle.routes.specs.Plants.{trailOf}
+use Rattle.plan.specs.Plan.{trailOf, tableOf}
 use Rattle.trail.specs.Filled.{filledWith}
 use Rattle.table.specs.declared.Table.{Table}
-use Rattle.table.specs.Rules.{tableOf}
 use Rattle.planning.specs.declared.Numbers.{Numbers}
 use Rattle.planning.specs.Planning.{planning}
 use Rattle.planning.specs.Numbers.{numbersOf}

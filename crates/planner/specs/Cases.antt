@@ -16,10 +16,10 @@ use Rattle.lists.specs.Least.{leastFrom}
 use Rattle.lists.specs.Numbers.{every}
 use Rattle.walks.specs.Visit.{scan, visit}
 use Rattle.walks.specs.Arcs.{tail, head}
-use Rattle.walks.specs.Graph.{arcs, others, visitFrom, visited, connected, bridge, entered, earlier, used}
+use Rattle.walks.specs.Graph.{arcs, others, visitFrom, bridge, usedFrom}
 use Rattle.routes.specs.Distance.{sources, within, dist, hop, hops, route}
 use Rattle.routes.specs.Trail.{near, nearest, legs, trail}
-use Rattle.table.specs.Rules.{tableWith, rulesBelow, tableOf}
+use Rattle.table.specs.Rules.{tableWith, rulesIn}
 use Rattle.search.specs.Search.{newSearch, give}
 use Rattle.search.specs.Calls.{begun}
 use Rattle.search.specs.Cases.{rows as searches}
@@ -99,5 +99,5 @@ abbrev table : List Row
 table = readings ++ planned ++ map as-row searches ++ map as-row quantities
 
 as-said : map (λ r. r .got) table ≡ map (λ r. r .said) table
-unfolding plantWith taken valueOf redundant mapMissing mapUndefined fieldMissing fieldRedundant fieldValues afterPart part valueOutOfRange endOutOfRange selfLink bytesRemain soundLink header link links withLinks linked ended reading trail legs nearest near route hops hop dist within sources leastFrom count used bridge entered earlier visited visitFrom arcs others visit scan tail head live every connected notConnected planning rulesBelow tableWith tableOf tabling placesShort laying laidOut trailing begun newSearch give orderQuantity
+unfolding plantWith taken valueOf redundant mapMissing mapUndefined fieldMissing fieldRedundant fieldValues afterPart part valueOutOfRange endOutOfRange selfLink bytesRemain soundLink header link links withLinks linked ended reading trail legs nearest near route hops hop dist within sources leastFrom count usedFrom bridge visitFrom arcs others visit scan tail head live every notConnected planning rulesIn tableWith tabling placesShort laying laidOut trailing begun newSearch give orderQuantity
 as-said = refl

@@ -5,13 +5,13 @@ use answers::Verdict;
 use listing::Decoded;
 use listing::Written;
 use planning::Numbers;
+use planning::Parts;
 use plant::Plant;
 use quantity::Quantity;
 use table::Table;
 ghost use mathlib.Core.Path.{_≡_};
 ghost use Rattle.answers.specs.Checks.{answer};
-ghost use Rattle.limits.specs.Sound.{Sound};
-ghost use Rattle.walks.specs.Graph.{Connected};
+ghost use Rattle.planning.specs.Plans.{Plan};
 ghost use Rattle.listing.specs.Writing.{bufferAfter, writing};
 ghost use Rattle.listing.specs.Listing.{reading};
 ghost use Rattle.listing.specs.Answers.{Reads, writeAnswer};
@@ -89,12 +89,12 @@ pub fn reread(p: Plant, buffer: &mut [u8]) -> Decoded
 pub fn forwarding_table(listing: &[u8]) -> Tabled
     ensures { λ r. ⌜ Tables (answer (tabling (now (listing .entry)))) r ⌝ }
 {
-    let d = planning::plan(listing);
+    let mut t = planning::blank();
+    let d = planning::plan(listing, &mut t);
     let v = d.verdict;
     match v {
         Verdict::Accepted => {
-            let p = d.plant;
-            let table = table::table_of(p, graph::arcs_in_use(p));
+            let table = planning::table_of(d.parts, &t);
             Tabled {
                 verdict: Verdict::Accepted,
                 table,
@@ -114,11 +114,12 @@ pub fn forwarding_table(listing: &[u8]) -> Tabled
 pub fn find_bridges(listing: &[u8]) -> Bridged
     ensures { λ r. ⌜ Bridges (answer (bridging (now (listing .entry)))) r ⌝ }
 {
-    let d = planning::plan(listing);
+    let mut t = planning::blank();
+    let d = planning::plan(listing, &mut t);
     let v = d.verdict;
     match v {
         Verdict::Accepted => {
-            let flags = graph::bridges(d.plant);
+            let flags = d.parts.bridges;
             Bridged {
                 verdict: Verdict::Accepted,
                 flags,
@@ -138,32 +139,27 @@ pub fn find_bridges(listing: &[u8]) -> Bridged
 pub fn summarize(listing: &[u8]) -> Summary
     ensures { λ r. ⌜ summaryAnswer r ≡ answer (summing (now (listing .entry))) ⌝ }
 {
-    let d = planning::plan(listing);
+    let mut t = planning::blank();
+    let d = planning::plan(listing, &mut t);
     let v = d.verdict;
     match v {
-        Verdict::Accepted => {
-            let p = d.plant;
-            Summary::Plant(planning::numbers_of(p))
-        }
+        Verdict::Accepted => Summary::Plant(planning::numbers_of(d.parts, &t)),
         Verdict::Refused(k) => Summary::Refused(k),
     }
 }
 
-// The trail of a plant that can be planned into the front of the buffer, or refusal 10.
-fn put_trail(p: Plant, buffer: &mut [u16]) -> Trailed
-    requires { ⌜ Sound p × Connected p ⌝ }
-    ensures { λ r. ⌜ trailAnswer r ≡ answer (laying p (now (buffer .entry))) ⌝ }
-    ensures { λ _. ⌜ now (buffer .exit) ≡ trailLeft p (now (buffer .entry)) (answer (laying p (now (buffer .entry)))) ⌝ }
+// The trail of a plan into the front of the buffer, or refusal 10.
+fn put_trail(x: Parts, t: &[[u8; Plant::PLACES]; Plant::PLACES], buffer: &mut [u16]) -> Trailed
+    requires { ⌜ Plan x (now t) ⌝ }
+    ensures { λ r. ⌜ trailAnswer r ≡ answer (laying (x .plant) (now (buffer .entry))) ⌝ }
+    ensures { λ _. ⌜ now (buffer .exit) ≡ trailLeft (x .plant) (now (buffer .entry)) (answer (laying (x .plant) (now (buffer .entry)))) ⌝ }
 {
-    let used = graph::arcs_in_use(p);
-    let t = distance::distances(p, used);
-    let via = trail::first_hops(p, used, t);
-    let hops = trail::hops(p, used, t, &via);
+    let hops = x.legs.hops;
     let n = hops as usize;
     if buffer.len() < n {
         return Trailed::Refused(Refusal::TrailBufferShort);
     }
-    trail::fill(p, used, t, &via, buffer);
+    planning::lay(x, t, buffer);
     Trailed::Hops(hops)
 }
 
@@ -172,13 +168,11 @@ pub fn lay_trail(listing: &[u8], buffer: &mut [u16]) -> Trailed
     ensures { λ r. ⌜ trailAnswer r ≡ answer (trailing (now (listing .entry)) (now (buffer .entry))) ⌝ }
     ensures { λ _. ⌜ now (buffer .exit) ≡ laidOut (now (listing .entry)) (now (buffer .entry)) ⌝ }
 {
-    let d = planning::plan(listing);
+    let mut t = planning::blank();
+    let d = planning::plan(listing, &mut t);
     let v = d.verdict;
     match v {
-        Verdict::Accepted => {
-            let p = d.plant;
-            put_trail(p, buffer)
-        }
+        Verdict::Accepted => put_trail(d.parts, &t, buffer),
         Verdict::Refused(k) => Trailed::Refused(k),
     }
 }

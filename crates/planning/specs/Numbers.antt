@@ -1,8 +1,8 @@
 -- The numbers of a plant in the first line that `rules` prints: switches, links, bridges, rules and hops.
 use lib.ListN.{length}
 use Rattle.plant.specs.declared.Plant.{Plant}
-use Rattle.walks.specs.Graph.{liveLinks, bridges, arcsUsed}
-use Rattle.routes.specs.Plants.{trailOf}
+use Rattle.walks.specs.Graph.{liveLinks, bridges}
+use Rattle.plan.specs.Plan.{arcsUsed, trailOf}
 use Rattle.planning.specs.declared.Numbers.{Numbers}
 
 unfoldable pub numbersOf : Plant → Numbers

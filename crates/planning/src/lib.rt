@@ -1,21 +1,45 @@
-// The plan of a listing, for the calls above: its plant once 1 to 9, and 11 of a named switch, were tried, and the numbers of a plant. Inner: the calls are the crates
-// `planner` and `probing`.
+// The plan of a listing, which every call that is given one goes through. Inner: the calls are the crates `planner` and `probing`.
 use answers::Refusal;
 use answers::Verdict;
-use listing::Decoded;
+use arcs::Net;
 use plant::Plant;
+use table::Table;
+use trail::Compared;
+use trail::Legs;
 ghost use mathlib.Core.Path.{_≡_};
-ghost use Prim.Native.Nat.{_*_};
+ghost use Prim.Native.Nat.{_≤_};
 ghost use lib.ListN.{length};
+ghost use Rattle.answers.specs.Answers.{refused, numberOf};
 ghost use Rattle.answers.specs.Checks.{answer};
-ghost use Rattle.limits.specs.Limits.{maxLinks};
 ghost use Rattle.limits.specs.Sound.{Sound};
-ghost use Rattle.walks.specs.Graph.{Connected, bridge, used, liveLinks};
-ghost use Rattle.graph.specs.Flags.{Flags};
-ghost use Rattle.routes.specs.Plants.{trailOf};
-ghost use Rattle.listing.specs.Answers.{Reads};
-ghost use Rattle.planning.specs.Planning.{planning, planningAt, Ready};
+ghost use Rattle.walks.specs.Graph.{liveLinks};
+ghost use Rattle.arcs.specs.Net.{Ends};
+ghost use Rattle.plan.specs.Plan.{trailOf, tableOf};
+ghost use Rattle.graph.specs.Shows.{Visits};
+ghost use Rattle.trail.specs.Filled.{filledWith, Tells};
+ghost use Rattle.planning.specs.Plans.{netOf, PartsOf, WithTable, Plan};
+ghost use Rattle.planning.specs.Planning.{planningFor, planning, planningAt, Plots, Ready};
 ghost use Rattle.planning.specs.Numbers.{numbersOf};
+
+// The parts of a plan, each found once: the plant, the sizes of its network from its start, the ends of its arcs, the bridges, the arcs in use and their chains by switch, and the
+// legs of the trail. The table of distances is lent beside them.
+pub struct Parts {
+    pub plant: Plant,
+    pub net: Net,
+    pub tails: [u8; Plant::LABELS],
+    pub heads: [u8; Plant::LABELS],
+    pub bridges: [bool; Plant::MAX_LINKS],
+    pub used: [bool; Plant::LABELS],
+    pub first: [u16; Plant::PLACES],
+    pub after: [u16; Plant::LABELS],
+    pub legs: Legs,
+}
+
+// A plan, or its refusal and no parts.
+pub struct Planned {
+    pub verdict: Verdict,
+    pub parts: Parts,
+}
 
 // Switches, links, bridges, rules and hops of a plant.
 pub struct Numbers {
@@ -26,40 +50,139 @@ pub struct Numbers {
     pub hops: u16,
 }
 
-// The plant of a listing that can be planned: refusals 1 to 9.
-pub fn plan(listing: &[u8]) -> Decoded
-    ensures { λ r. ⌜ Reads (answer (planning (now (listing .entry)))) r ⌝ }
-    ensures { λ r. ⌜ Ready r ⌝ }
+// A plan that is refused.
+fn refused_plan(k: Refusal) -> Planned
+    ensures { λ r. ⌜ Plots (refused (numberOf k)) r ⌝ }
+{
+    let net = Net {
+        switches: 1,
+        labels: 0,
+        root: 0,
+    };
+    let legs = Legs {
+        count: 0,
+        hops: 0,
+        aims: [0; Plant::MAX_RULES],
+    };
+    let parts = Parts {
+        plant: Plant::empty(),
+        net,
+        tails: [0; Plant::LABELS],
+        heads: [0; Plant::LABELS],
+        bridges: [false; Plant::MAX_LINKS],
+        used: [false; Plant::LABELS],
+        first: [0; Plant::PLACES],
+        after: [0; Plant::LABELS],
+        legs,
+    };
+    Planned {
+        verdict: Verdict::Refused(k),
+        parts,
+    }
+}
+
+// The sizes of a plant's network from a root.
+fn net_of(p: Plant, root: u8) -> Net
+    requires { ⌜ Sound p ⌝ }
+    ensures { λ r. ⌜ r ≡ netOf p root ⌝ }
+{
+    Net {
+        switches: p.switches,
+        labels: 2 * p.count,
+        root,
+    }
+}
+
+// The parts of the plan of a plant whose switches were all reached by the visit.
+fn parts_of(
+    p: Plant,
+    tails: [u8; Plant::LABELS],
+    heads: [u8; Plant::LABELS],
+    v: graph::Visited,
+    t: &mut [[u8; Plant::PLACES]; Plant::PLACES],
+) -> Parts
+    requires { ⌜ Sound p ⌝ }
+    requires { ⌜ Ends p tails heads ⌝ }
+    requires { ⌜ Visits p (v .root) v ⌝ }
+    ensures { λ r. ⌜ PartsOf p (v .root) r ⌝ }
+    ensures { λ r. ⌜ WithTable r (now (t .exit)) ⌝ }
+{
+    let bridges = graph::bridges(p, &tails, &heads, v);
+    let used = graph::arcs_in_use(p, &tails, &heads, v, &bridges);
+    let net = net_of(p, v.root);
+    let c = arcs::chains_of(&tails, &used, net.labels);
+    let first = c.first;
+    let after = c.after;
+    let d = distance::distances(net, &tails, &heads, &used);
+    *t = d;
+    let legs = trail::legs_of(net, &tails, &heads, &used, &first, &after, d);
+    Parts {
+        plant: p,
+        net,
+        tails,
+        heads,
+        bridges,
+        used,
+        first,
+        after,
+        legs,
+    }
+}
+
+// The plan of a plant, or refusal 9.
+fn plan_in(p: Plant, t: &mut [[u8; Plant::PLACES]; Plant::PLACES]) -> Planned
+    requires { ⌜ Sound p ⌝ }
+    ensures { λ r. ⌜ Plots (answer (planningFor p)) r ⌝ }
+    ensures { λ r. ⌜ Ready r (now (t .exit)) ⌝ }
+{
+    let tails = arcs::tails_of(p);
+    let heads = arcs::heads_of(p);
+    let v = graph::visit(p, &tails, &heads, p.start);
+    if graph::reaches_all(p, v) {
+        let parts = parts_of(p, tails, heads, v, t);
+        return Planned {
+            verdict: Verdict::Accepted,
+            parts,
+        };
+    }
+    refused_plan(Refusal::NotConnected)
+}
+
+// The plan of a listing that can be planned: refusals 1 to 9.
+pub fn plan(listing: &[u8], t: &mut [[u8; Plant::PLACES]; Plant::PLACES]) -> Planned
+    ensures { λ r. ⌜ Plots (answer (planning (now (listing .entry)))) r ⌝ }
+    ensures { λ r. ⌜ Ready r (now (t .exit)) ⌝ }
 {
     let d = reading::read(listing);
     let v = d.verdict;
     match v {
+        Verdict::Accepted => plan_in(d.plant, t),
+        Verdict::Refused(k) => refused_plan(k),
+    }
+}
+
+// The plan of a listing that has the named switch: refusals 1 to 9, then 11.
+pub fn plan_at(listing: &[u8], switch: u8, t: &mut [[u8; Plant::PLACES]; Plant::PLACES]) -> Planned
+    ensures { λ r. ⌜ Plots (answer (planningAt (now (listing .entry)) switch)) r ⌝ }
+    ensures { λ r. ⌜ Ready r (now (t .exit)) ⌝ }
+{
+    let d = plan(listing, t);
+    let v = d.verdict;
+    match v {
         Verdict::Accepted => {
-            if graph::is_connected(d.plant) {
+            if switch < d.parts.net.switches {
                 return d;
             }
-            listing::refused_reading(Refusal::NotConnected)
+            refused_plan(Refusal::SwitchOutOfRange)
         }
         Verdict::Refused(_) => d,
     }
 }
 
-// The plant of a listing that can be planned and has the named switch: refusals 1 to 9, then 11.
-pub fn plan_at(listing: &[u8], switch: u8) -> Decoded
-    ensures { λ r. ⌜ Reads (answer (planningAt (now (listing .entry)) switch)) r ⌝ }
-    ensures { λ r. ⌜ Ready r ⌝ }
-{
-    let d = plan(listing);
-    let v = d.verdict;
-    match v {
-        Verdict::Accepted => {
-            if switch < d.plant.switches {
-                return d;
-            }
-            listing::refused_reading(Refusal::SwitchOutOfRange)
-        }
-        Verdict::Refused(_) => d,
-    }
+// A table to lend to a plan.
+pub fn blank() -> [[u8; Plant::PLACES]; Plant::PLACES] {
+    let row = [0u8; Plant::PLACES];
+    [row; Plant::PLACES]
 }
 
 // E, the number of links that take part: all that are listed.
@@ -69,39 +192,67 @@ pub fn links_in_service(p: Plant) -> u16
     p.count
 }
 
-// The numbers of a plant, from the flags of its bridges and of its arcs in use and the hops of its trail.
-pub fn numbers_with(
-    p: Plant,
-    b: [bool; Plant::MAX_LINKS],
-    u: [bool; Plant::LABELS],
-    hops: u16,
-) -> Numbers
-    requires { ⌜ Sound p ⌝ }
-    requires { ⌜ Flags maxLinks (bridge p) b × Flags (2 * maxLinks) (used p) u ⌝ }
-    requires { ⌜ hops ≡ length (trailOf p) ⌝ }
-    ensures { λ r. ⌜ r ≡ numbersOf p ⌝ }
+// The trail of a plan into the front of a lent buffer that has room for it; the places after it keep their contents.
+pub fn lay(x: Parts, t: &[[u8; Plant::PLACES]; Plant::PLACES], buf: &mut [u16])
+    requires { ⌜ Plan x (now t) ⌝ }
+    requires { ⌜ length (trailOf (x .plant)) ≤ length (now buf) ⌝ }
+    ensures { λ _. ⌜ now (buf .exit) ≡ filledWith (trailOf (x .plant)) (now (buf .entry)) ⌝ }
 {
-    let bridges = graph::count_set(&b);
-    let rules = graph::count_set(&u);
-    let links = links_in_service(p);
+    let tails = x.tails;
+    let heads = x.heads;
+    let used = x.used;
+    let first = x.first;
+    let after = x.after;
+    trail::lay(x.net, &tails, &heads, &used, &first, &after, t, x.legs, buf);
+}
+
+// Does the lent slice begin with the hops of the trail of a plan?
+pub fn compare(x: Parts, t: &[[u8; Plant::PLACES]; Plant::PLACES], lent: &[u16]) -> Compared
+    requires { ⌜ Plan x (now t) ⌝ }
+    ensures { λ r. ⌜ Tells (now (lent .entry)) (trailOf (x .plant)) r ⌝ }
+{
+    let tails = x.tails;
+    let heads = x.heads;
+    let used = x.used;
+    let first = x.first;
+    let after = x.after;
+    trail::compare(
+        x.net,
+        &tails,
+        &heads,
+        &used,
+        &first,
+        &after,
+        t,
+        x.legs,
+        lent,
+    )
+}
+
+// The forwarding table of a plan.
+pub fn table_of(x: Parts, t: &[[u8; Plant::PLACES]; Plant::PLACES]) -> Table
+    requires { ⌜ Plan x (now t) ⌝ }
+    ensures { λ r. ⌜ r ≡ tableOf (x .plant) ⌝ }
+{
+    let tails = x.tails;
+    let heads = x.heads;
+    let used = x.used;
+    table::table_of(&tails, &heads, &used, x.net.labels)
+}
+
+// The numbers of a plan.
+pub fn numbers_of(x: Parts, t: &[[u8; Plant::PLACES]; Plant::PLACES]) -> Numbers
+    requires { ⌜ Plan x (now t) ⌝ }
+    ensures { λ r. ⌜ r ≡ numbersOf (x .plant) ⌝ }
+{
+    let bridges = graph::count_set(&x.bridges);
+    let rules = graph::count_set(&x.used);
+    let links = links_in_service(x.plant);
     Numbers {
-        switches: p.switches,
+        switches: x.plant.switches,
         links,
         bridges: bridges as u16,
         rules: rules as u16,
-        hops,
+        hops: x.legs.hops,
     }
-}
-
-// The numbers of a plant that can be planned.
-pub fn numbers_of(p: Plant) -> Numbers
-    requires { ⌜ Sound p × Connected p ⌝ }
-    ensures { λ r. ⌜ r ≡ numbersOf p ⌝ }
-{
-    let b = graph::bridges(p);
-    let used = graph::arcs_with(p, b);
-    let t = distance::distances(p, used);
-    let via = trail::first_hops(p, used, t);
-    let hops = trail::hops(p, used, t, &via);
-    numbers_with(p, b, used, hops)
 }

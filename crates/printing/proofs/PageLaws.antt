@@ -1,25 +1,49 @@
--- The page of a plant, laid line by line: the rules of its table, the labels of its trail, and the lines one after the other. Assumes nothing.
+-- The page of a plant, laid line by line: the rules of its table, the labels of its trail, and the lines one after the other; and the most bytes that they
+-- take. Assumes nothing.
 use mathlib.Core.Path.{_≡_, refl, ap}
 use mathlib.Core.List.{List, [], _∷_, _++_, map}
-use Prim.Native.Nat.{ℕ, _≤_}
+use Prim.Native.Nat.{ℕ, _*_, _≤_}
 use native.Mathlib.Omega.{arith}
-use lib.ListN.{length, take, drop, length-append}
+use lib.Dec.{T}
+use lib.ListN.{length, getD, take, drop, length-append}
 use lib.Seq.{take-append-seam}
+use Rattle.lists.specs.Members.{In, Each}
+use Rattle.lists.proofs.Members.{getD-in, at-each}
+use Rattle.lists.specs.Numbers.{range, keep}
+use Rattle.lists.proofs.Numbers.{keep-in}
 use Rattle.plant.specs.declared.Plant.{Plant}
 use Rattle.limits.specs.Sound.{Sound}
-use Rattle.walks.specs.Graph.{Connected}
-use Rattle.routes.specs.Plants.{trailOf}
+use Rattle.limits.specs.Limits.{maxRules}
+use Rattle.walks.specs.Arcs.{tail, head}
+use Rattle.walks.specs.Graph.{arcsUsedFrom}
+use Rattle.walks.proofs.Valid.{sound-valid}
+use Rattle.walks.proofs.Labels.{tail-in, head-in}
+use Rattle.routes.proofs.Plants.{used-below}
 use Rattle.trail.specs.Filled.{filledWith}
 use Rattle.table.specs.declared.Rule.{Rule}
 use Rattle.table.specs.declared.Table.{Table}
-use Rattle.table.specs.Rules.{maxRules, tableWith, rulesOf, tableOf}
-use Rattle.table.proofs.Rules.{few-rules}
-use Rattle.text.specs.Lines.{each, summaryLine, ruleLine, ruleLines, trailLine, pageOf}
+use Rattle.table.specs.Rules.{tableWith, rulesIn}
+use Rattle.table.proofs.Rules.{rules-count}
+use Rattle.plan.specs.Plan.{used, trailOf, ruleOf, rulesOf, tableOf}
+use Rattle.plan.proofs.Plan.{used-arc, few-arcs}
+use Rattle.plan.proofs.Trails.{trail-is}
+use Rattle.text.specs.Lines.{ruleWord, trailWord, each, summaryLine, ruleLine, ruleLines, trailLine, pageOf}
+use Rattle.text.specs.Sizes.{digitsShort, ruleMost, trailMost}
 use Rattle.text.specs.Laid.{Laid}
 use Rattle.text.proofs.LaidLaws.{laid-then}
+use Rattle.text.proofs.SizeLaws.{each-most, line-most}
 use Rattle.planning.specs.declared.Numbers.{Numbers}
 use Rattle.planning.specs.Numbers.{numbersOf}
 use Rattle.printing.specs.Output.{triple, plantOutput}
+
+-- ---- what holds of each member
+
+in-each : (P : ℕ → Type 0) (xs : List ℕ) → ((x : ℕ) → In x xs → P x) → Each P xs
+in-each P xs f = at-each P xs 0 (λ i h. f (getD xs i 0) (getD-in xs i h))
+
+each-map : {A B : Type 0} (P : B → Type 0) (f : A → B) (xs : List A) → Each (λ x. P (f x)) xs → Each P (map f xs)
+each-map P f [] h = tt
+each-map P f (x ∷ xs) h = (h .0, each-map P f xs (h .1))
 
 -- ---- the rules of a table
 
@@ -31,15 +55,43 @@ pub rules-each : (rs : List Rule) → each ruleBytes rs ≡ ruleLines (map tripl
 rules-each [] = refl
 rules-each (r ∷ rs) = ap (λ (l : List ℕ). ruleBytes r ++ l) (rules-each rs)
 
+-- ---- the most bytes of a page: a label is below twice the links, and a switch below the switches
+
+module _ (p : Plant) (sound : Sound p) where
+  few-rules : length (rulesOf p) ≤ maxRules
+  unfolding arcsUsedFrom
+  few-rules = omega (arith, rules-count (tail p) (head p) (used p) (2 * p .count), few-arcs p sound)
+
+  rule-most : (a : ℕ) → T (used p a) → length (ruleBytes (ruleOf p a)) ≤ ruleMost
+  rule-most a u =
+      let arc = used-arc p a u in
+      let few = sound .few-switches in
+      line-most digitsShort (omega arith) ruleWord (tail p a ∷ a ∷ head p a ∷ [])
+      (omega (arith, tail-in p (sound-valid p sound) a arc), (omega (arith, used-below p (p .start) a u, sound .few-links), (omega (arith, head-in p (sound-valid p sound) a arc), tt)))
+
+  rules-most : length (ruleLines (map triple (rulesOf p))) ≤ maxRules * ruleMost
+  unfolding rulesIn
+  rules-most =
+      let arcs = keep (used p) (range 0 (2 * p .count)) in
+      let all : Each (λ r. length (ruleBytes r) ≤ ruleMost) (rulesOf p) = each-map (λ r. length (ruleBytes r) ≤ ruleMost) (ruleOf p) arcs
+      (in-each (λ a. length (ruleBytes (ruleOf p a)) ≤ ruleMost) arcs (λ a i. rule-most a (keep-in (used p) a (range 0 (2 * p .count)) i .1))) in
+      omega (arith, ap length (rules-each (rulesOf p)), each-most ruleBytes ruleMost (rulesOf p) all, few-rules)
+
+  trail-most : length (trailLine (trailOf p)) ≤ trailMost (length (trailOf p))
+  trail-most = line-most digitsShort (omega arith) trailWord (trailOf p) (in-each _ (trailOf p) (λ a i. omega (arith, used-below p (p .start) a (trail-is p sound .exactly a .0 i), sound .few-links)))
+
 -- those of a plant's table
 module _ (p : Plant) (t : Table) (e : t ≡ tableOf p) where
   table-rules : take (t .count) (t .rules) ≡ rulesOf p
-  unfolding tableOf tableWith
+  unfolding tableWith
   table-rules = rw e (take-append-seam (rulesOf p) _)
 
-  pub table-few : Sound p → Connected p → t .count ≤ maxRules
-  unfolding tableOf tableWith
-  table-few sound con = rw e (few-rules p sound con)
+  pub table-few : Sound p → t .count ≤ maxRules
+  unfolding tableWith
+  table-few sound = rw e (few-rules p sound)
+
+  pub table-most : Sound p → length (ruleLines (map triple (take (t .count) (t .rules)))) ≤ maxRules * ruleMost
+  table-most sound = rw table-rules (rules-most p sound)
 
 -- ---- the labels of a trail w that was filled into a buffer
 
@@ -49,6 +101,10 @@ module _ (w b ls : List ℕ) (h : ℕ) (e : ls ≡ filledWith w b) (f : h ≡ le
 
   trail-front : take h ls ≡ w
   trail-front = rw (e, f) (take-append-seam w (drop (length w) b))
+
+pub trail-fits : (p : Plant) (ms : List ℕ) {ls : List ℕ} {h : ℕ} → Sound p → ls ≡ filledWith (trailOf p) ms → h ≡ length (trailOf p)
+    → length (trailLine (take h ls)) ≤ trailMost (length (trailOf p))
+trail-fits p ms sound e f = rw (trail-front (trailOf p) ms _ _ e f) (trail-most p sound)
 
 -- ---- the page
 

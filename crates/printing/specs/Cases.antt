@@ -11,10 +11,10 @@ use Rattle.codec.specs.Part.{taken, valueOf, redundant, mapMissing, mapUndefine
 use Rattle.listing.specs.Listing.{valueOutOfRange, endOutOfRange, selfLink, bytesRemain, soundLink, header, link, links, withLinks, linked, ended, reading}
 use Rattle.walks.specs.Visit.{scan, visit}
 use Rattle.walks.specs.Arcs.{tail, head}
-use Rattle.walks.specs.Graph.{arcs, others, visitFrom, visited, connected, bridge, entered, earlier, used, liveLinks, bridges, arcsUsed}
+use Rattle.walks.specs.Graph.{arcs, others, visitFrom, bridge, liveLinks, bridges, usedFrom, arcsUsedFrom}
 use Rattle.routes.specs.Distance.{sources, within, dist, hop, hops, route}
 use Rattle.routes.specs.Trail.{near, nearest, legs, trail}
-use Rattle.table.specs.Rules.{rulesBelow}
+use Rattle.table.specs.Rules.{rulesIn}
 use Rattle.text.specs.Decimal.{digits, decimal}
 use Rattle.text.specs.Lines.{line, pageOf}
 use Rattle.text.specs.Cases.{rows}
@@ -26,5 +26,5 @@ abbrev listings : List (List ℕ)
 listings = (3 ∷ 4 ∷ 4 ∷ 0 ∷ 2 ∷ 1 ∷ 3 ∷ 1 ∷ 2 ∷ 3 ∷ 2 ∷ 0 ∷ 3 ∷ 0 ∷ 3 ∷ []) ∷ (0 ∷ []) ∷ [] ∷ []
 
 as-said : map printed listings ≡ map (λ r. r .1) (take 3 rows)
-unfolding plantWith taken valueOf redundant mapMissing mapUndefined fieldMissing fieldRedundant fieldValues afterPart part valueOutOfRange endOutOfRange selfLink bytesRemain soundLink header link links withLinks linked ended reading trail legs nearest near route hops hop dist within sources leastFrom count used bridge entered earlier visited visitFrom arcs others visit scan tail head live every connected notConnected planning rulesBelow liveLinks bridges arcsUsed digits decimal line pageOf plantOutput
+unfolding plantWith taken valueOf redundant mapMissing mapUndefined fieldMissing fieldRedundant fieldValues afterPart part valueOutOfRange endOutOfRange selfLink bytesRemain soundLink header link links withLinks linked ended reading trail legs nearest near route hops hop dist within sources leastFrom count usedFrom bridge visitFrom arcs others visit scan tail head live every notConnected planning rulesIn liveLinks bridges arcsUsedFrom digits decimal line pageOf plantOutput
 as-said = refl

@@ -4,11 +4,10 @@ use Prim.Native.Nat.{ℕ, _+_, _*_}
 use lib.ListN.{length}
 use Rattle.plant.specs.declared.Plant.{Plant}
 use Rattle.answers.specs.Answers.{Answer, given, refused}
-use Rattle.limits.specs.Limits.{maxHops}
-use Rattle.walks.specs.Graph.{liveLinks, bridges, arcsUsed}
-use Rattle.routes.specs.Plants.{trailOf}
+use Rattle.limits.specs.Limits.{maxRules}
+use Rattle.walks.specs.Graph.{liveLinks, bridges}
+use Rattle.plan.specs.Plan.{arcsUsed, trailOf, rulesOf}
 use Rattle.table.specs.declared.Rule.{Rule}
-use Rattle.table.specs.Rules.{maxRules, rulesOf}
 use Rattle.text.specs.Lines.{pageOf, refusalOf}
 use Rattle.text.specs.Sizes.{summaryMost, ruleMost, trailMost}
 use Rattle.answers.specs.Checks.{answer}
@@ -31,6 +30,6 @@ outputOf (refused n) = refusalOf n
 abbrev pub printed : List ℕ → List ℕ
 printed s = outputOf (answer (planning s))
 
--- the most bytes of a page: a line of numbers, as many rules and as many labels as there can be
-abbrev pub pageMost : ℕ
-pageMost = summaryMost + maxRules * ruleMost + trailMost maxHops
+-- the most bytes of a page with so many hops: a line of numbers, as many rules as there can be, and the trail
+abbrev pub pageRoom : ℕ → ℕ
+pageRoom hops = summaryMost + maxRules * ruleMost + trailMost hops

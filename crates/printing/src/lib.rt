@@ -1,28 +1,39 @@
 // The plan of a listing as text: a line of numbers, the forwarding table and the trail; or its refusal. The whole text is made as bytes in a lent buffer,
 // and one function writes it to standard output. Inner: what the programs `rules` and `samples` share.
+use answers::Refusal;
 use answers::Verdict;
 use libc::STDOUT_FILENO;
 use planning::Numbers;
+use planning::Parts;
 use plant::Plant;
 use table::Rule;
 use table::Table;
 ghost use mathlib.Core.Path.{_≡_};
 ghost use mathlib.Core.List.{map};
-ghost use Prim.Native.Nat.{_+_, _*_, _≤_};
+ghost use Prim.Native.Nat.{_*_, _≤_};
 ghost use lib.ListN.{length, take};
-ghost use Rattle.limits.specs.Sound.{Sound};
-ghost use Rattle.walks.specs.Graph.{Connected};
-ghost use Rattle.table.specs.Rules.{maxRules};
-ghost use Rattle.text.specs.Lines.{summaryLine, ruleLine, ruleLines};
-ghost use Rattle.text.specs.Sizes.{summaryMost, ruleMost};
-ghost use Rattle.text.specs.Laid.{Laid};
-ghost use Rattle.printing.specs.Output.{triple, plantOutput, printed, pageMost};
+ghost use Rattle.answers.specs.Answers.{numberOf};
+ghost use Rattle.limits.specs.Limits.{maxLinks, maxRules};
+ghost use Rattle.plan.specs.Plan.{trailOf};
+ghost use Rattle.planning.specs.Plans.{Plan};
+ghost use Rattle.text.specs.Lines.{summaryLine, ruleLine, ruleLines, refusalOf};
+ghost use Rattle.text.specs.Sizes.{summaryMost};
+ghost use Rattle.text.specs.Laid.{Room, Laid};
+ghost use Rattle.printing.specs.Output.{triple, plantOutput, printed, pageRoom};
 
-// The most bytes of a page: `pageMost` of specs/Output.antt.
+// The most bytes of a page: `pageRoom maxHops` of specs/Output.antt.
 const PAGE: usize = text::SUMMARY
-    + table::RULES * text::RULE
+    + Plant::MAX_RULES * text::RULE
     + text::TRAIL
     + Plant::MAX_HOPS * text::LABEL;
+
+// A trail of at most so many hops is short, and the most bytes of its page: most plants have one.
+const SHORT: usize = Plant::LABELS;
+
+const SHORT_PAGE: usize = text::SUMMARY
+    + Plant::MAX_RULES * text::RULE
+    + text::TRAIL
+    + SHORT * text::LABEL;
 
 // The line of numbers, at the front of the buffer.
 fn put_numbers(n: Numbers, buf: &mut [u8]) -> usize
@@ -33,28 +44,26 @@ fn put_numbers(n: Numbers, buf: &mut [u8]) -> usize
     text::put_summary(
         buf,
         0,
-        n.switches as u32,
-        n.links as u32,
-        n.bridges as u32,
-        n.rules as u32,
-        n.hops as u32,
+        n.switches as u16,
+        n.links,
+        n.bridges,
+        n.rules,
+        n.hops,
     )
 }
 
 // The line of a rule.
 fn put_rule(r: Rule, buf: &mut [u8], at: usize) -> usize
-    requires { ⌜ at + ruleMost ≤ length (now buf) ⌝ }
+    requires { ⌜ Room (now buf) at (ruleLine (r .from) (r .label) (r .to)) ⌝ }
     ensures { λ n. ⌜ Laid (now (buf .entry)) at (ruleLine (r .from) (r .label) (r .to)) (now (buf .exit)) n ⌝ }
-    ensures { λ n. ⌜ n ≤ at + ruleMost ⌝ }
 {
     text::put_rule(buf, at, r.from as u32, r.label as u32, r.to as u32)
 }
 
 // A line for each rule of a table.
 fn put_table(t: Table, buf: &mut [u8], at: usize) -> usize
-    requires { ⌜ (t .count ≤ maxRules) × (at + t .count * ruleMost ≤ length (now buf)) ⌝ }
+    requires { ⌜ (t .count ≤ maxRules) × Room (now buf) at (ruleLines (map triple (take (t .count) (t .rules)))) ⌝ }
     ensures { λ r. ⌜ Laid (now (buf .entry)) at (ruleLines (map triple (take (t .count) (t .rules)))) (now (buf .exit)) r ⌝ }
-    ensures { λ r. ⌜ r ≤ at + t .count * ruleMost ⌝ }
 {
     let n = t.count as usize;
     let mut next = at;
@@ -66,38 +75,22 @@ fn put_table(t: Table, buf: &mut [u8], at: usize) -> usize
     next
 }
 
-// The page of a plant that can be planned. The bridges, the arcs in use and the distances are found once.
-fn put_plant(p: Plant, buf: &mut [u8]) -> usize
-    requires { ⌜ Sound p × Connected p ⌝ }
-    requires { ⌜ pageMost ≤ length (now buf) ⌝ }
-    ensures { λ r. ⌜ Laid (now (buf .entry)) 0 (plantOutput p) (now (buf .exit)) r ⌝ }
+// The page of a plan at the front of a buffer that has room for as many hops as its trail has. The trail is laid into the lent labels first.
+fn put_plan(
+    x: Parts,
+    t: &[[u8; Plant::PLACES]; Plant::PLACES],
+    labels: &mut [u16],
+    buf: &mut [u8],
+) -> usize
+    requires { ⌜ Plan x (now t) ⌝ }
+    requires { ⌜ length (trailOf (x .plant)) ≤ length (now labels) ⌝ }
+    requires { ⌜ pageRoom (length (trailOf (x .plant))) ≤ length (now buf) ⌝ }
+    ensures { λ r. ⌜ Laid (now (buf .entry)) 0 (plantOutput (x .plant)) (now (buf .exit)) r ⌝ }
 {
-    let b = graph::bridges(p);
-    let used = graph::arcs_with(p, b);
-    let t = distance::distances(p, used);
-    let via = trail::first_hops(p, used, t);
-    let hops = trail::hops(p, used, t, &via);
-    let mut labels = [0u16; Plant::MAX_HOPS];
-    trail::fill(p, used, t, &via, &mut labels);
-    let rules = put_numbers(planning::numbers_with(p, b, used, hops), buf);
-    let end = put_table(table::table_of(p, used), buf, rules);
-    text::put_trail(buf, end, &labels, hops as usize)
-}
-
-// The output for a listing, at the front of a buffer that has room for the longest page; the places after it keep their contents.
-fn put_listing(listing: &[u8], buf: &mut [u8]) -> usize
-    requires { ⌜ pageMost ≤ length (now buf) ⌝ }
-    ensures { λ r. ⌜ Laid (now (buf .entry)) 0 (printed (now (listing .entry))) (now (buf .exit)) r ⌝ }
-{
-    let d = planning::plan(listing);
-    let v = d.verdict;
-    match v {
-        Verdict::Accepted => {
-            let p = d.plant;
-            put_plant(p, buf)
-        }
-        Verdict::Refused(k) => text::put_refusal(buf, k.number() as u32),
-    }
+    planning::lay(x, t, labels);
+    let rules = put_numbers(planning::numbers_of(x, t), buf);
+    let end = put_table(planning::table_of(x, t), buf, rules);
+    text::put_trail(buf, end, labels, x.legs.hops as usize)
 }
 
 // Writes the output for a listing to standard output. The listing is handed over for the contract alone, which says what the bytes are.
@@ -107,11 +100,56 @@ fn write_output(bytes: &[u8], listing: &[u8])
     io::write_all(STDOUT_FILENO, bytes);
 }
 
-// Makes the output for a listing and writes it to standard output.
-pub fn print_listing(listing: &[u8]) {
-    let mut bytes = [0u8; PAGE];
-    let n = put_listing(listing, &mut bytes);
+// The page of a plan with a short trail, so that a short buffer does.
+fn print_short(x: Parts, t: &[[u8; Plant::PLACES]; Plant::PLACES], listing: &[u8])
+    requires { ⌜ Plan x (now t) ⌝ }
+    requires { ⌜ length (trailOf (x .plant)) ≤ 2 * maxLinks ⌝ }
+    requires { ⌜ plantOutput (x .plant) ≡ printed (now listing) ⌝ }
+{
+    let mut labels = [0u16; SHORT];
+    let mut bytes = [0u8; SHORT_PAGE];
+    let n = put_plan(x, t, &mut labels, &mut bytes);
     write_output(&bytes[..n], listing);
+}
+
+// The page of any plan.
+fn print_long(x: Parts, t: &[[u8; Plant::PLACES]; Plant::PLACES], listing: &[u8])
+    requires { ⌜ Plan x (now t) ⌝ }
+    requires { ⌜ plantOutput (x .plant) ≡ printed (now listing) ⌝ }
+{
+    let mut labels = [0u16; Plant::MAX_HOPS];
+    let mut bytes = [0u8; PAGE];
+    let n = put_plan(x, t, &mut labels, &mut bytes);
+    write_output(&bytes[..n], listing);
+}
+
+// The line of a refusal.
+fn print_refusal(k: Refusal, listing: &[u8])
+    requires { ⌜ refusalOf (numberOf k) ≡ printed (now listing) ⌝ }
+{
+    let mut line = [0u8; text::REFUSAL];
+    let n = text::put_refusal(&mut line, k.number());
+    write_output(&line[..n], listing);
+}
+
+// Writes the output for a listing to standard output.
+pub fn print_listing(listing: &[u8]) {
+    let mut t = planning::blank();
+    let d = planning::plan(listing, &mut t);
+    let v = d.verdict;
+    match v {
+        Verdict::Accepted => {
+            let hops = d.parts.legs.hops as usize;
+            if hops <= SHORT {
+                print_short(d.parts, &t, listing);
+            } else {
+                print_long(d.parts, &t, listing);
+            }
+        }
+        Verdict::Refused(k) => {
+            print_refusal(k, listing);
+        }
+    }
 }
 
 // The plan of the listing that a file holds.

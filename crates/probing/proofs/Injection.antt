@@ -15,37 +15,33 @@ use Rattle.plant.specs.declared.Plant.{Plant}
 use Rattle.plant.specs.Links.{live}
 use Rattle.limits.specs.Sound.{Sound}
 use Rattle.walks.specs.Walk.{Walk}
-use Rattle.walks.specs.Arcs.{tail, head, Valid}
-use Rattle.walks.specs.Graph.{Connected, used, liveLinks}
+use Rattle.walks.specs.Arcs.{tail, head}
+use Rattle.walks.specs.Graph.{liveLinks}
 use Rattle.walks.proofs.Valid.{sound-valid}
 use Rattle.walks.proofs.Live.{live-below}
 use Rattle.walks.proofs.Labels.{even-half, odd-half, tail-in}
-use Rattle.walks.proofs.Orientation.{used-arc, strongly-connected}
-use Rattle.walks.proofs.Counting.{one-used}
-use Rattle.routes.specs.Plants.{trailOf}
+use Rattle.plan.specs.Plan.{Connected, used, trailOf}
+use Rattle.plan.proofs.Plan.{used-arc, strongly-connected, one-used}
+use Rattle.plan.proofs.Trails.{trail-is, trail-closed}
 use Rattle.rings.specs.Packet.{byLink}
 use Rattle.rings.specs.Injection.{orderOf, probeRun}
 use Rattle.rings.proofs.FirstDown.{firstDown}
 use Rattle.rings.proofs.Injection as rings
 use Rattle.rings.proofs.Injection.{RingAt, order-once, order-crosses}
-use Rattle.trail.proofs.Trails.{trail-is}
 
 module _ (p : Plant) (ok : Sound p) (con : Connected p) (x : ℕ) (x-in : x < p .switches) where
   abbrev w : List ℕ
   w = trailOf p
 
-  valid : Valid p
-  valid = sound-valid p ok
-
   exactly : (a : ℕ) → In a w ↔ T (used p a)
-  exactly = trail-is p ok con .exactly
+  exactly = trail-is p ok .exactly
 
   -- some hop of the trail leaves x: the first of a walk over arcs in use from x to where a hop of the trail begins, or that hop
   leaves : (v : List ℕ) → ((a : ℕ) → In a v → T (used p a)) → (v ≡ []) ⊎ ((a : ℕ) × In a w × (tail p a ≡ x))
   leaves [] f = inl refl
   leaves (b ∷ v) f =
       let u = f b (inl refl) in
-      let r = strongly-connected p valid con x (tail p b) x-in (tail-in p valid b (used-arc p b u)) in
+      let r = strongly-connected p ok con x (tail p b) x-in (tail-in p (sound-valid p ok) b (used-arc p b u)) in
       inr (step u (r .0) (r .1) (r .2))
     where
       step : T (used p b) → (u : List ℕ) → Walk (tail p) (head p) u x (tail p b) → ((a : ℕ) → In a u → T (used p a)) → (a : ℕ) × In a w × (tail p a ≡ x)
@@ -53,16 +49,13 @@ module _ (p : Plant) (ok : Sound p) (con : Connected p) (x : ℕ) (x-in : x < p 
       step t (a ∷ u) q g = (a, exactly a .1 (g a (inl refl)), q .0)
 
   pub ring-at : RingAt p w x
-  ring-at = record {
-    closed = record { from = p .start; walk = trail-is p ok con .closed; arcs-alone = λ a h. used-arc p a (exactly a .0 h) };
-    leaves = leaves w (λ a. exactly a .0);
-  }
+  ring-at = record { closed = trail-closed p ok; leaves = leaves w (λ a. exactly a .0) }
 
   -- the order has each link that takes part
   pub order-links : (l : ℕ) → In l (orderOf p w x) ↔ T (live p l)
   order-links l = (
     λ h. let c = order-crosses p w x l .0 h in subst (λ (k : ℕ). T (live p k)) (c .2) (used-arc p (c .0) (exactly (c .0) .0 (c .1))),
-    λ t. from (one-used p valid con l t),
+    λ t. from (one-used p ok con l t),
   )
     where
       from : T (used p (2 * l)) ⊎ T (used p (2 * l + 1)) → In l (orderOf p w x)
@@ -82,5 +75,5 @@ module _ (p : Plant) (ok : Sound p) (con : Connected p) (x : ℕ) (x-in : x < p 
 
   -- probe m returns exactly if m is less than the place of the first broken link
   pub probe-tells : (up : ℕ → Bool) (m : ℕ) → 1 ≤ m → m ≤ liveLinks p
-      → probeRun p w x (liveLinks p) (byLink up) m .ended ≡ ltb m (firstDown up (orderOf p w x))
-  probe-tells up = rings.probe-tells p w x ring-at (liveLinks p) (λ a. exactly a .0) up order-length
+      → probeRun p (used p) w x (liveLinks p) (byLink up) m .ended ≡ ltb m (firstDown up (orderOf p w x))
+  probe-tells up = rings.probe-tells p w x ring-at (liveLinks p) (used p) (λ a. exactly a .0) up order-length

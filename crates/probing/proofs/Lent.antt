@@ -1,25 +1,24 @@
--- A lent trail that is the plant's, and what the code asks for it. Assumes a sound plant, and a connected one where it speaks of its trail.
+-- A lent trail that is the plant's, and what the code asks for it. Assumes a sound plant.
 use mathlib.Core.Path.{_≡_, sym, _∙_, subst}
 use mathlib.Core.Bool.{Bool, true, false, not}
-use mathlib.Core.List.{List, []}
+use mathlib.Core.List.{List}
 use Prim.Native.Nat.{ℕ, _*_, _≤_}
 use lib.Dec.{eqb}
 use lib.ListN.{length}
 use borrow.Author.Tests.{ltb-false, not-false}
+use Rattle.lists.proofs.Tests.{true-T}
 use Rattle.plant.specs.declared.Plant.{Plant}
 use Rattle.limits.specs.Limits.{maxLinks}
 use Rattle.limits.specs.Sound.{Sound}
-use Rattle.walks.specs.Graph.{Connected, used}
-use Rattle.walks.proofs.Orientation.{used-arc}
-use Rattle.routes.specs.Plants.{trailOf}
+use Rattle.plan.specs.Plan.{used, trailOf}
+use Rattle.plan.proofs.Plan.{used-arc}
+use Rattle.plan.proofs.Trails.{trail-is}
 use Rattle.graph.specs.Flags.{Flags}
 use Rattle.trail.specs.declared.Compared.the-variants.{Same, Other}
 use Rattle.trail.specs.Filled.{Tells}
 use Rattle.trail.proofs.Filled.{same-is}
-use Rattle.trail.proofs.Trails.{trail-is}
 use Rattle.order.specs.Labels.{OverArcs}
 use Rattle.packet.specs.Asked.{CanRun, CanProbe}
-use Rattle.packet.proofs.Rules.{probe-runs}
 use Rattle.answers.specs.declared.Verdict.{Verdict}
 use Rattle.answers.specs.declared.Verdict.the-variants as verdict
 use Rattle.answers.specs.Checks.{Judges}
@@ -46,15 +45,11 @@ unfolding trailDiffers
 trail-same p w f = same-is w (trailOf p) .0 (not-false _ f)
 
 module _ (p : Plant) (ok : Sound p) where
-  pub lent-arcs : (w : List ℕ) → Connected p → w ≡ trailOf p → OverArcs p w
-  lent-arcs w con e = subst (OverArcs p) (sym e) (λ a h. used-arc p a (trail-is p ok con .exactly a .0 h))
+  pub lent-arcs : (w : List ℕ) → w ≡ trailOf p → OverArcs p w
+  lent-arcs w e = subst (OverArcs p) (sym e) (λ a h. used-arc p a (trail-is p ok .exactly a .0 h))
 
-  module _ (us : List Bool) (states : List ℕ) (f : Flags (2 * maxLinks) (used p) us) (enough : p .count ≤ length states) where
-    pub can-probe : (w : List ℕ) → OverArcs p w → CanProbe p us states w
-    can-probe w arcs = record { sound = ok; used = f .tells; bytes = enough; trail = arcs }
-
-    pub can-run : CanRun p us states
-    can-run = probe-runs p us states [] (can-probe [] (λ a h. absurd h))
+  pub can-run : (us : List Bool) (states : List ℕ) → Flags (2 * maxLinks) (used p) us → p .count ≤ length states → CanRun p us states
+  can-run us states f enough = record { sound = ok; arcs = λ a t. used-arc p a (true-T (used p a) (sym (f .tells a) ∙ t)); bytes = enough }
 
 -- ---- a lent trail and state bytes that refusals 12 and 13 let pass
 
@@ -62,6 +57,8 @@ module _ (p : Plant) (w states : List ℕ) (v : Verdict) (j : Judges (lentChecks
   pub lent-same : w ≡ trailOf p
   lent-same = trail-same p w (none-judged (lentChecks p w states) v j e .0)
 
-  pub lent-can : Sound p → Connected p → (us : List Bool) → Flags (2 * maxLinks) (used p) us → CanProbe p us states w
-  lent-can ok con us f =
-      can-probe p ok us states f (states-enough (p .count) states (none-judged (lentChecks p w states) v j e .1 .0)) w (lent-arcs p ok w con lent-same)
+  pub lent-can : Sound p → (us : List Bool) → Flags (2 * maxLinks) (used p) us → CanProbe p us states w
+  lent-can ok us f = record {
+    runs = can-run p ok us states f (states-enough (p .count) states (none-judged (lentChecks p w states) v j e .1 .0));
+    trail = lent-arcs p ok w lent-same;
+  }

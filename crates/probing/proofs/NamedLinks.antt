@@ -14,8 +14,8 @@ use Rattle.answers.specs.Answers.{given}
 use Rattle.answers.specs.Checks.{answer}
 use Rattle.limits.specs.Sound.{Sound}
 use Rattle.answers.proofs.Checks.{given-exactly}
-use Rattle.walks.specs.Graph.{Connected, liveLinks}
-use Rattle.routes.specs.Plants.{trailOf}
+use Rattle.walks.specs.Graph.{liveLinks}
+use Rattle.plan.specs.Plan.{Connected, trailOf}
 use Rattle.rings.specs.Order.{nth}
 use Rattle.rings.specs.Injection.{orderOf}
 use Rattle.rings.proofs.Injection.{order-once}

@@ -2,23 +2,22 @@
 use mathlib.Core.Path.{_≡_, refl, sym, ap, ap₂, _∙_}
 use mathlib.Core.Bool.{Bool, false}
 use mathlib.Core.List.{List}
-use Prim.Native.Nat.{ℕ, _-_, _*_}
+use Prim.Native.Nat.{ℕ, _-_}
 use lib.ListN.{getD}
 use borrow.Author.Tests.{eq-eqb, ne-eqb}
+use Rattle.lists.specs.Arrays.{flag}
 use Rattle.plant.specs.declared.Plant.{Plant}
 use Rattle.answers.specs.Answers.{given}
 use Rattle.answers.specs.Checks.{answer}
-use Rattle.limits.specs.Limits.{maxLinks}
-use Rattle.walks.specs.Arcs.{head}
-use Rattle.walks.specs.Graph.{used, liveLinks}
-use Rattle.routes.specs.Plants.{trailOf}
-use Rattle.rings.specs.Packet.{run}
+use Rattle.walks.specs.Arcs.{tail, head}
+use Rattle.walks.specs.Graph.{liveLinks}
+use Rattle.plan.specs.Plan.{used, trailOf, inTable}
+use Rattle.rings.specs.Packet.{run, rulesFor}
 use Rattle.rings.specs.Packet as ring
-use Rattle.rings.specs.Rules.{upByLink, inTable}
+use Rattle.rings.specs.Rules.{upByLink}
 use Rattle.rings.specs.Order.{nth}
 use Rattle.rings.specs.Injection.{ringOf, orderOf, probeRun}
 use Rattle.answers.specs.declared.Verdict.the-variants as verdict
-use Rattle.graph.specs.Flags.{Flags}
 use Rattle.order.specs.declared.Order.{Order}
 use Rattle.order.specs.declared.Span.{Span}
 use Rattle.order.specs.Order.{listed}
@@ -26,7 +25,7 @@ use Rattle.order.specs.Span.{ringSpan, spanOf}
 use Rattle.order.proofs.Gathering.{listed-nth}
 use Rattle.packet.specs.declared.End.{End}
 use Rattle.packet.specs.Runs.{endOf, injectedAt, goesOn}
-use Rattle.packet.proofs.Probes.{table-run}
+use Rattle.packet.proofs.Probes.{from-switch}
 use Rattle.search.specs.declared.Said.{Said}
 use Rattle.search.specs.declared.Said.the-variants.{Down}
 use Rattle.search.specs.declared.Outcome.{Outcome}
@@ -39,22 +38,25 @@ use Rattle.probing.proofs.Lent.{trail-same}
 
 -- ---- a packet that is no probe
 
-module _ (p : Plant) (us : List Bool) (states labels : List ℕ) (x : ℕ) (f : Flags (2 * maxLinks) (used p) us) where
+module _ (p : Plant) (us : List Bool) (states labels : List ℕ) (x : ℕ) (table : flag us ≡ used p) where
   pub ran-as : (i e : End) (b : Bool) → endOf i ≡ injectedAt x → endOf e ≡ goesOn p us states (endOf i) labels → e .ended ≡ b
       → given b ≡ given (run (inTable p) (upByLink states) (head p) x 0 labels .ended)
-  ran-as i e b new goes q = ap given (sym q ∙ ap (λ (d : ring.End). d .ended) (table-run p us states (f .tells) x (endOf i) (endOf e) labels new goes))
+  ran-as i e b new goes q =
+      ap given (sym q ∙ ap (λ (d : ring.End). d .ended) (from-switch p us states x (endOf i) (endOf e) labels new goes)
+      ∙ ap (λ (o : ℕ → Bool). run (rulesFor o (tail p)) (upByLink states) (head p) x 0 labels .ended) table)
 
 -- ---- over a lent trail that is the plant's
 
 module _ (p : Plant) (w : List ℕ) (x : ℕ) (same : w ≡ trailOf p) where
-  pub checked : (up : ℕ → Bool) (e : ring.End) (o : Outcome) → o ≡ outcomeOf e → e ≡ run (inTable p) up (head p) x 0 (ringOf p w x)
-      → given o ≡ given (outcomeOf (run (inTable p) up (head p) x 0 (ringOf p (trailOf p) x)))
-  checked up e o f g =
-      ap given (f ∙ ap outcomeOf (g ∙ ap (λ (v : List ℕ). run (inTable p) up (head p) x 0 (ringOf p v x)) same))
+  -- with rules for the arcs in use
+  module _ {table : ℕ → Bool} (in-use : table ≡ used p) (up : ℕ → Bool) (e : ring.End) (o : Outcome) (f : o ≡ outcomeOf e) where
+    pub checked : e ≡ run (rulesFor table (tail p)) up (head p) x 0 (ringOf p w x) → given o ≡ given (outcomeOf (run (inTable p) up (head p) x 0 (ringOf p (trailOf p) x)))
+    checked g = ap given (f ∙ ap outcomeOf (g ∙ ap₂ (λ (k : ℕ → Bool) (v : List ℕ). run (rulesFor k (tail p)) up (head p) x 0 (ringOf p v x)) in-use same))
 
-  pub probed : (n : ℕ) (up : ℕ → Bool) (m : ℕ) (e : ring.End) (o : Outcome) → n ≡ liveLinks p → o ≡ outcomeOf e → e ≡ probeRun p w x n up m
-      → o ≡ outcomeOf (probeRun p (trailOf p) x (liveLinks p) up m)
-  probed n up m e o i f g = f ∙ ap outcomeOf (g ∙ ap₂ (λ (v : List ℕ) (k : ℕ). probeRun p v x k up m) same i)
+    pub probed : (n m : ℕ) → n ≡ liveLinks p → e ≡ probeRun p table w x n up m → o ≡ outcomeOf (probeRun p (used p) (trailOf p) x (liveLinks p) up m)
+    probed n m i g =
+        f ∙ ap outcomeOf (g ∙ ap₂ (λ (v : List ℕ) (k : ℕ). probeRun p table v x k up m) same i
+        ∙ ap (λ (k : ℕ → Bool). probeRun p k (trailOf p) x (liveLinks p) up m) in-use)
 
   pub out-ring : (m : ℕ) (b : Span) → m ≡ liveLinks p → b ≡ ringSpan p w x → b ≡ outSpan p x m
   unfolding outSpan

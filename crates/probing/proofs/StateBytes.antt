@@ -16,10 +16,11 @@ use Rattle.answers.specs.Checks.{Checked, check, answer, _then_}
 use Rattle.answers.proofs.Checks.{then-is}
 use Rattle.walks.specs.Arcs.{head}
 use Rattle.walks.specs.Graph.{liveLinks}
-use Rattle.routes.specs.Plants.{trailOf}
+use Rattle.plan.specs.Plan.{used, trailOf, inTable}
+use Rattle.plan.proofs.Plan.{used-arc}
 use Rattle.rings.specs.Packet.{End, run}
-use Rattle.rings.specs.Rules.{upByLink, inTable}
-use Rattle.rings.proofs.Rules.{table-arc, bytes-past}
+use Rattle.rings.specs.Rules.{upByLink}
+use Rattle.rings.proofs.Rules.{rule-arc, bytes-past}
 use Rattle.rings.specs.Injection.{ringOf}
 use Rattle.rings.proofs.Injection as injection
 use Rattle.search.specs.declared.Search.{Search}
@@ -43,7 +44,7 @@ module _ (p : Plant) (x : ℕ) (states : List ℕ) where
   first-bytes = take (p .count) states
 
   table-bytes : (labels : List ℕ) → run (inTable p) (upByLink states) (head p) x 0 labels ≡ run (inTable p) (upByLink first-bytes) (head p) x 0 labels
-  table-bytes labels = bytes-past p (inTable p) (table-arc p) states (head p) labels x 0
+  table-bytes labels = bytes-past p (inTable p) (rule-arc p (used p) (used-arc p)) states (head p) labels x 0
 
   pub run-bytes : (labels : List ℕ) → runIn x labels states p ≡ runIn x labels first-bytes p
   unfolding runIn
@@ -58,7 +59,7 @@ module _ (p : Plant) (x : ℕ) (states : List ℕ) where
   unfolding probeIn
   probe-bytes w q =
       ap₂ (λ (t : Bool) (e : End). check ((12, trailDiffers p w) ∷ (13, t) ∷ wantedChecks (liveLinks p) q) (outcomeOf e))
-      (short-first (p .count) states) (injection.probe-bytes p (trailOf p) x (liveLinks p) states (wanted q))
+      (short-first (p .count) states) (injection.probe-bytes p (trailOf p) x (used p) (used-arc p) (liveLinks p) states (wanted q))
 
 -- so two lists of bytes that begin alike, as far as there are links, have the same answer from each of these calls
 module _ (s : List ℕ) (x : ℕ) (states states′ : List ℕ) (alike : (p : Plant) → answer (planningAt s x) ≡ given p → take (p .count) states ≡ take (p .count) states′) where

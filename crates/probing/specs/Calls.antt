@@ -11,9 +11,9 @@ use Rattle.answers.specs.Answers.{Answer, given}
 use Rattle.answers.specs.Checks.{Checked, check, _then_, _giving_}
 use Rattle.walks.specs.Arcs.{head}
 use Rattle.walks.specs.Graph.{liveLinks}
-use Rattle.routes.specs.Plants.{trailOf}
+use Rattle.plan.specs.Plan.{used, trailOf, inTable}
 use Rattle.rings.specs.Packet.{End, run}
-use Rattle.rings.specs.Rules.{upByLink, inTable}
+use Rattle.rings.specs.Rules.{upByLink}
 use Rattle.rings.specs.Order.{nth}
 use Rattle.rings.specs.Probe.{outward}
 use Rattle.rings.specs.Injection.{ringOf, orderOf, probeRun}
@@ -84,9 +84,13 @@ OutwardParts s x w q a = (b : Span) → a ≡ given b → stretchOf w b ++ front
 
 -- ---- the run of the probe wanted: 1 to 9, 11, 12, 13, 14, 15
 
--- 14 and 15, then how it comes out
+-- how probe m comes out
+abbrev pub probeOutcome : Plant → ℕ → List ℕ → ℕ → Outcome
+probeOutcome p x states m = outcomeOf (probeRun p (used p) (trailOf p) x (liveLinks p) (upByLink states) m)
+
+-- 14 and 15, then that of the probe wanted
 abbrev pub probeOver : Plant → ℕ → List ℕ → Search → Checked Outcome
-probeOver p x states q = check (wantedChecks (liveLinks p) q) (outcomeOf (probeRun p (trailOf p) x (liveLinks p) (upByLink states) (wanted q)))
+probeOver p x states q = check (wantedChecks (liveLinks p) q) (probeOutcome p x states (wanted q))
 
 -- 12 and 13, then that
 unfoldable pub probeIn : ℕ → List ℕ → List ℕ → Search → Plant → Checked Outcome

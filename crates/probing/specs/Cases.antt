@@ -12,11 +12,11 @@ use Rattle.plant.specs.Links.{plantWith, live}
 use Rattle.answers.specs.Answers.{Answer, given, refused, _>>=_}
 use Rattle.walks.specs.Visit.{scan, visit}
 use Rattle.walks.specs.Arcs.{opposite, tail, head}
-use Rattle.walks.specs.Graph.{arcs, others, visitFrom, visited, connected, bridge, entered, earlier, used, liveLinks}
+use Rattle.walks.specs.Graph.{arcs, others, visitFrom, bridge, liveLinks, usedFrom}
 use Rattle.routes.specs.Distance.{sources, within, dist, hop, hops, route}
 use Rattle.routes.specs.Trail.{near, nearest, legs, trail}
 use Rattle.rings.specs.Packet.{rulesFor}
-use Rattle.rings.specs.Rules.{upBy, inTable, inAll}
+use Rattle.rings.specs.Rules.{upBy, inAll}
 use Rattle.rings.specs.Ring.{readFrom, place, ring}
 use Rattle.rings.specs.Order as orders
 use Rattle.rings.specs.Probe.{outward, probe}
@@ -145,5 +145,5 @@ table =
     ∷ []
 
 as-said : (answer (planning triangle) >>= λ p. given (map (λ r. r .got p) table)) ≡ given (map (λ r. r .said) table)
-unfolding runIn checkIn orderIn outwardIn outSpan probeIn nameIn switchOutOfRange trailDiffers statesShort searchUnsound planningAt notConnected planning ringSpan spanOf listed beginsWith plantWith taken valueOf redundant mapMissing mapUndefined fieldMissing fieldRedundant fieldValues afterPart part listing.valueOutOfRange listing.endOutOfRange listing.selfLink listing.bytesRemain listing.soundLink listing.header listing.link listing.links listing.withLinks listing.linked listing.ended listing.reading out outStretch outFront probeRules ringOf orderOf probeOf probeRun probe outward orders.order readFrom place ring upBy inTable inAll rulesFor trail legs nearest near route hops hop dist within sources arcs others visitFrom visited connected bridge entered earlier used liveLinks opposite tail head scan visit live leastFrom count every
+unfolding runIn checkIn orderIn outwardIn outSpan probeIn nameIn switchOutOfRange trailDiffers statesShort searchUnsound planningAt notConnected planning ringSpan spanOf listed beginsWith plantWith taken valueOf redundant mapMissing mapUndefined fieldMissing fieldRedundant fieldValues afterPart part listing.valueOutOfRange listing.endOutOfRange listing.selfLink listing.bytesRemain listing.soundLink listing.header listing.link listing.links listing.withLinks listing.linked listing.ended listing.reading out outStretch outFront probeRules ringOf orderOf probeOf probeRun probe outward orders.order readFrom place ring upBy inAll rulesFor trail legs nearest near route hops hop dist within sources arcs others visitFrom bridge usedFrom liveLinks opposite tail head scan visit live leastFrom count every
 as-said = refl

@@ -6,7 +6,7 @@ use lib.Dec.{eqb, ltb}
 use lib.ListN.{length}
 use Rattle.plant.specs.declared.Plant.{Plant}
 use Rattle.answers.specs.Checks.{Conditions, Checked, check}
-use Rattle.routes.specs.Plants.{trailOf}
+use Rattle.plan.specs.Plan.{trailOf}
 use Rattle.trail.specs.Filled.{beginsWith}
 use Rattle.search.specs.declared.Search.{Search}
 use Rattle.search.specs.Search.{sound, soundFor, ended, wanted}

@@ -5,6 +5,7 @@ use answers::Verdict;
 use order::Order;
 use order::Span;
 use packet::End;
+use planning::Parts;
 use plant::Plant;
 use search::Asked;
 use search::Outcome;
@@ -21,10 +22,11 @@ ghost use lib.ListN.{length};
 ghost use Rattle.answers.specs.Answers.{given, refused, numberOf};
 ghost use Rattle.answers.specs.Checks.{Judges, answer};
 ghost use Rattle.limits.specs.Sound.{Sound};
-ghost use Rattle.walks.specs.Graph.{Connected, liveLinks};
-ghost use Rattle.routes.specs.Plants.{trailOf};
+ghost use Rattle.lists.specs.Arrays.{flag};
+ghost use Rattle.walks.specs.Graph.{liveLinks};
+ghost use Rattle.plan.specs.Plan.{Connected, used, trailOf};
 ghost use Rattle.rings.specs.Injection.{orderOf};
-ghost use Rattle.trail.specs.Steps.{Planned};
+ghost use Rattle.planning.specs.Plans.{Plan};
 ghost use Rattle.order.specs.Span.{stretchOf, frontOf};
 ghost use Rattle.packet.specs.Asked.{CanProbe};
 ghost use Rattle.packet.specs.Runs.{endOf};
@@ -90,13 +92,11 @@ fn other_length(trail: &[u16], hops: usize) -> bool
 }
 
 // Refusal 12: does the lent trail begin with other hops than the plant's, or has it another length?
-fn differs(p: Plant, used: [bool; Plant::LABELS], trail: &[u16]) -> bool
-    requires { ⌜ Planned p used ⌝ }
-    ensures { λ r. ⌜ r ≡ trailDiffers p (now (trail .entry)) ⌝ }
+fn differs(x: Parts, t: &[[u8; Plant::PLACES]; Plant::PLACES], trail: &[u16]) -> bool
+    requires { ⌜ Plan x (now t) ⌝ }
+    ensures { λ r. ⌜ r ≡ trailDiffers (x .plant) (now (trail .entry)) ⌝ }
 {
-    let t = distance::distances(p, used);
-    let via = trail::first_hops(p, used, t);
-    match trail::compare(p, used, t, &via, trail) {
+    match planning::compare(x, t, trail) {
         Compared::Same(hops) => other_length(trail, hops),
         Compared::Other => true,
     }
@@ -110,12 +110,17 @@ fn too_few(states: &[u8], links: u16) -> bool
 }
 
 // Refusals 12 and 13 of a lent trail and state bytes.
-fn judge_lent(p: Plant, used: [bool; Plant::LABELS], trail: &[u16], states: &[u8]) -> Verdict
-    requires { ⌜ Planned p used ⌝ }
-    ensures { λ r. ⌜ Judges (lentChecks p (now (trail .entry)) (now (states .entry))) r ⌝ }
+fn judge_lent(
+    x: Parts,
+    t: &[[u8; Plant::PLACES]; Plant::PLACES],
+    trail: &[u16],
+    states: &[u8],
+) -> Verdict
+    requires { ⌜ Plan x (now t) ⌝ }
+    ensures { λ r. ⌜ Judges (lentChecks (x .plant) (now (trail .entry)) (now (states .entry))) r ⌝ }
 {
-    let other = differs(p, used, trail);
-    let short = too_few(states, p.count);
+    let other = differs(x, t, trail);
+    let short = too_few(states, x.plant.count);
     if other {
         return Verdict::Refused(Refusal::TrailDiffers);
     }
@@ -148,16 +153,22 @@ fn probe_wanted(p: Plant, search: Search) -> Asked
 
 // ---- a packet that is no probe
 
-// A packet runs in a plant, under the forwarding table alone: refusal 13.
-fn run_in(p: Plant, switch: u8, labels: &[u16], states: &[u8]) -> Ran
-    requires { ⌜ Sound p ⌝ }
-    ensures { λ r. ⌜ ranAnswer r ≡ answer (runIn switch (now (labels .entry)) (now (states .entry)) p) ⌝ }
+// A packet runs under the forwarding table of a plan alone: refusal 13.
+fn run_in(
+    x: Parts,
+    t: &[[u8; Plant::PLACES]; Plant::PLACES],
+    switch: u8,
+    labels: &[u16],
+    states: &[u8],
+) -> Ran
+    requires { ⌜ Plan x (now t) ⌝ }
+    ensures { λ r. ⌜ ranAnswer r ≡ answer (runIn switch (now (labels .entry)) (now (states .entry)) (x .plant)) ⌝ }
 {
-    if too_few(states, p.count) {
+    if too_few(states, x.plant.count) {
         return Ran::Refused(Refusal::StatesShort);
     }
-    let used = graph::arcs_in_use(p);
-    let e = packet::run_on(p, used, states, packet::injected(switch), labels);
+    let used = x.used;
+    let e = packet::run_on(x.plant, used, states, packet::injected(switch), labels);
     if e.ended { Ran::Ended } else { Ran::Lost }
 }
 
@@ -165,13 +176,11 @@ fn run_in(p: Plant, switch: u8, labels: &[u16], states: &[u8]) -> Ran
 pub fn run(listing: &[u8], switch: u8, labels: &[u16], states: &[u8]) -> Ran
     ensures { λ r. ⌜ ranAnswer r ≡ answer (running (now (listing .entry)) switch (now (labels .entry)) (now (states .entry))) ⌝ }
 {
-    let d = planning::plan_at(listing, switch);
+    let mut t = planning::blank();
+    let d = planning::plan_at(listing, switch, &mut t);
     let v = d.verdict;
     match v {
-        Verdict::Accepted => {
-            let p = d.plant;
-            run_in(p, switch, labels, states)
-        }
+        Verdict::Accepted => run_in(d.parts, &t, switch, labels, states),
         Verdict::Refused(k) => Ran::Refused(k),
     }
 }
@@ -188,15 +197,21 @@ fn outcome_of(e: End) -> Outcome
     }
 }
 
-// The full check in a plant that can be planned: refusals 12 and 13.
-fn check_in(p: Plant, switch: u8, trail: &[u16], states: &[u8]) -> Probed
-    requires { ⌜ Sound p × Connected p ⌝ }
-    ensures { λ r. ⌜ probedAnswer r ≡ answer (checkIn switch (now (trail .entry)) (now (states .entry)) p) ⌝ }
+// The full check in a plan: refusals 12 and 13.
+fn check_in(
+    x: Parts,
+    t: &[[u8; Plant::PLACES]; Plant::PLACES],
+    switch: u8,
+    trail: &[u16],
+    states: &[u8],
+) -> Probed
+    requires { ⌜ Plan x (now t) ⌝ }
+    ensures { λ r. ⌜ probedAnswer r ≡ answer (checkIn switch (now (trail .entry)) (now (states .entry)) (x .plant)) ⌝ }
 {
-    let used = graph::arcs_in_use(p);
-    match judge_lent(p, used, trail, states) {
+    let used = x.used;
+    match judge_lent(x, t, trail, states) {
         Verdict::Accepted => {
-            let e = packet::full_check(p, used, states, switch, trail);
+            let e = packet::full_check(x.plant, used, states, switch, trail);
             Probed::Outcome(outcome_of(e))
         }
         Verdict::Refused(k) => Probed::Refused(k),
@@ -207,13 +222,11 @@ fn check_in(p: Plant, switch: u8, trail: &[u16], states: &[u8]) -> Probed
 pub fn full_check(listing: &[u8], switch: u8, trail: &[u16], states: &[u8]) -> Probed
     ensures { λ r. ⌜ probedAnswer r ≡ answer (checking (now (listing .entry)) switch (now (trail .entry)) (now (states .entry))) ⌝ }
 {
-    let d = planning::plan_at(listing, switch);
+    let mut t = planning::blank();
+    let d = planning::plan_at(listing, switch, &mut t);
     let v = d.verdict;
     match v {
-        Verdict::Accepted => {
-            let p = d.plant;
-            check_in(p, switch, trail, states)
-        }
+        Verdict::Accepted => check_in(d.parts, &t, switch, trail, states),
         Verdict::Refused(k) => Probed::Refused(k),
     }
 }
@@ -231,15 +244,20 @@ fn refused_order(k: Refusal) -> Ordered
     }
 }
 
-// The order of links in a plant that can be planned: refusal 12.
-fn order_in(p: Plant, switch: u8, trail: &[u16]) -> Ordered
-    requires { ⌜ Sound p × Connected p ⌝ }
-    ensures { λ r. ⌜ Orders (answer (orderIn switch (now (trail .entry)) p)) r ⌝ }
+// The order of links in a plan: refusal 12.
+fn order_in(
+    x: Parts,
+    t: &[[u8; Plant::PLACES]; Plant::PLACES],
+    switch: u8,
+    trail: &[u16],
+) -> Ordered
+    requires { ⌜ Plan x (now t) ⌝ }
+    ensures { λ r. ⌜ Orders (answer (orderIn switch (now (trail .entry)) (x .plant))) r ⌝ }
 {
-    if differs(p, graph::arcs_in_use(p), trail) {
+    if differs(x, t, trail) {
         return refused_order(Refusal::TrailDiffers);
     }
-    let order = order::order_of(p, switch, trail);
+    let order = order::order_of(x.plant, switch, trail);
     Ordered {
         verdict: Verdict::Accepted,
         order,
@@ -250,13 +268,11 @@ fn order_in(p: Plant, switch: u8, trail: &[u16]) -> Ordered
 pub fn order_of_links(listing: &[u8], switch: u8, trail: &[u16]) -> Ordered
     ensures { λ r. ⌜ Orders (answer (ordering (now (listing .entry)) switch (now (trail .entry)))) r ⌝ }
 {
-    let d = planning::plan_at(listing, switch);
+    let mut t = planning::blank();
+    let d = planning::plan_at(listing, switch, &mut t);
     let v = d.verdict;
     match v {
-        Verdict::Accepted => {
-            let p = d.plant;
-            order_in(p, switch, trail)
-        }
+        Verdict::Accepted => order_in(d.parts, &t, switch, trail),
         Verdict::Refused(k) => refused_order(k),
     }
 }
@@ -278,16 +294,22 @@ fn span_in(p: Plant, switch: u8, trail: &[u16], m: u16) -> Span
     order::span_of(p, switch, trail, m)
 }
 
-// The outward labels in a plant that can be planned: refusals 12, 14 and 15.
-fn outward_in(p: Plant, switch: u8, trail: &[u16], search: Search) -> Outward
-    requires { ⌜ Sound p × Connected p ⌝ }
-    ensures { λ r. ⌜ outwardAnswer r ≡ answer (outwardIn switch (now (trail .entry)) search p) ⌝ }
+// The outward labels in a plan: refusals 12, 14 and 15.
+fn outward_in(
+    x: Parts,
+    t: &[[u8; Plant::PLACES]; Plant::PLACES],
+    switch: u8,
+    trail: &[u16],
+    search: Search,
+) -> Outward
+    requires { ⌜ Plan x (now t) ⌝ }
+    ensures { λ r. ⌜ outwardAnswer r ≡ answer (outwardIn switch (now (trail .entry)) search (x .plant)) ⌝ }
 {
-    if differs(p, graph::arcs_in_use(p), trail) {
+    if differs(x, t, trail) {
         return Outward::Refused(Refusal::TrailDiffers);
     }
-    match probe_wanted(p, search) {
-        Asked::Probe(m) => Outward::Parts(span_in(p, switch, trail, m)),
+    match probe_wanted(x.plant, search) {
+        Asked::Probe(m) => Outward::Parts(span_in(x.plant, switch, trail, m)),
         Asked::Refused(k) => Outward::Refused(k),
     }
 }
@@ -297,13 +319,11 @@ pub fn outward_labels(listing: &[u8], switch: u8, trail: &[u16], search: Search)
     ensures { λ r. ⌜ outwardAnswer r ≡ answer (outgoing (now (listing .entry)) switch (now (trail .entry)) search) ⌝ }
     ensures { λ r. ⌜ OutwardParts (now (listing .entry)) switch (now (trail .entry)) search (outwardAnswer r) ⌝ }
 {
-    let d = planning::plan_at(listing, switch);
+    let mut t = planning::blank();
+    let d = planning::plan_at(listing, switch, &mut t);
     let v = d.verdict;
     match v {
-        Verdict::Accepted => {
-            let p = d.plant;
-            outward_in(p, switch, trail, search)
-        }
+        Verdict::Accepted => outward_in(d.parts, &t, switch, trail, search),
         Verdict::Refused(k) => Outward::Refused(k),
     }
 }
@@ -327,34 +347,42 @@ pub fn front<'a>(trail: &'a [u16], span: Span) -> &'a [u16]
 // The run of the probe wanted over a lent trail that is the plant's, with enough state bytes: refusals 14 and 15.
 fn probe_over(
     p: Plant,
-    used: [bool; Plant::LABELS],
+    table: [bool; Plant::LABELS],
     switch: u8,
     trail: &[u16],
     states: &[u8],
     search: Search,
 ) -> Probed
-    requires { ⌜ CanProbe p used (now states) (now trail) ⌝ }
+    requires { ⌜ CanProbe p table (now states) (now trail) ⌝ }
+    requires { ⌜ flag table ≡ used p ⌝ }
     requires { ⌜ now trail ≡ trailOf p ⌝ }
     ensures { λ r. ⌜ probedAnswer r ≡ answer (probeOver p switch (now (states .entry)) search) ⌝ }
 {
     match probe_wanted(p, search) {
         Asked::Probe(m) => {
             let links = planning::links_in_service(p);
-            let e = packet::probe_run(p, used, states, switch, trail, links, m);
+            let e = packet::probe_run(p, table, states, switch, trail, links, m);
             Probed::Outcome(outcome_of(e))
         }
         Asked::Refused(k) => Probed::Refused(k),
     }
 }
 
-// The run of the probe wanted in a plant that can be planned: refusals 12 to 15.
-fn probe_in(p: Plant, switch: u8, trail: &[u16], states: &[u8], search: Search) -> Probed
-    requires { ⌜ Sound p × Connected p ⌝ }
-    ensures { λ r. ⌜ probedAnswer r ≡ answer (probeIn switch (now (trail .entry)) (now (states .entry)) search p) ⌝ }
+// The run of the probe wanted in a plan: refusals 12 to 15.
+fn probe_in(
+    x: Parts,
+    t: &[[u8; Plant::PLACES]; Plant::PLACES],
+    switch: u8,
+    trail: &[u16],
+    states: &[u8],
+    search: Search,
+) -> Probed
+    requires { ⌜ Plan x (now t) ⌝ }
+    ensures { λ r. ⌜ probedAnswer r ≡ answer (probeIn switch (now (trail .entry)) (now (states .entry)) search (x .plant)) ⌝ }
 {
-    let used = graph::arcs_in_use(p);
-    match judge_lent(p, used, trail, states) {
-        Verdict::Accepted => probe_over(p, used, switch, trail, states, search),
+    let used = x.used;
+    match judge_lent(x, t, trail, states) {
+        Verdict::Accepted => probe_over(x.plant, used, switch, trail, states, search),
         Verdict::Refused(k) => Probed::Refused(k),
     }
 }
@@ -363,13 +391,11 @@ fn probe_in(p: Plant, switch: u8, trail: &[u16], states: &[u8], search: Search) 
 pub fn run_probe(listing: &[u8], switch: u8, trail: &[u16], states: &[u8], search: Search) -> Probed
     ensures { λ r. ⌜ probedAnswer r ≡ answer (probing (now (listing .entry)) switch (now (trail .entry)) (now (states .entry)) search) ⌝ }
 {
-    let d = planning::plan_at(listing, switch);
+    let mut t = planning::blank();
+    let d = planning::plan_at(listing, switch, &mut t);
     let v = d.verdict;
     match v {
-        Verdict::Accepted => {
-            let p = d.plant;
-            probe_in(p, switch, trail, states, search)
-        }
+        Verdict::Accepted => probe_in(d.parts, &t, switch, trail, states, search),
         Verdict::Refused(k) => Probed::Refused(k),
     }
 }
@@ -394,31 +420,35 @@ fn name_of(p: Plant, switch: u8, trail: &[u16], said: Said) -> Named
     }
 }
 
-// What a search names in a plant that can be planned: refusals 12 and 14.
-fn name_in(p: Plant, switch: u8, trail: &[u16], search: Search) -> Named
-    requires { ⌜ Sound p × Connected p ⌝ }
-    ensures { λ r. ⌜ namedAnswer r ≡ answer (nameIn switch (now (trail .entry)) search p) ⌝ }
+// What a search names in a plan: refusals 12 and 14.
+fn name_in(
+    x: Parts,
+    t: &[[u8; Plant::PLACES]; Plant::PLACES],
+    switch: u8,
+    trail: &[u16],
+    search: Search,
+) -> Named
+    requires { ⌜ Plan x (now t) ⌝ }
+    ensures { λ r. ⌜ namedAnswer r ≡ answer (nameIn switch (now (trail .entry)) search (x .plant)) ⌝ }
 {
-    if differs(p, graph::arcs_in_use(p), trail) {
+    if differs(x, t, trail) {
         return Named::Refused(Refusal::TrailDiffers);
     }
-    if unsound(p, search) {
+    if unsound(x.plant, search) {
         return Named::Refused(Refusal::SearchUnsound);
     }
-    name_of(p, switch, trail, search.says())
+    name_of(x.plant, switch, trail, search.says())
 }
 
 // The link that a search names from a switch: refusals 1 to 9, 11, 12 and 14.
 pub fn link_named(listing: &[u8], switch: u8, trail: &[u16], search: Search) -> Named
     ensures { λ r. ⌜ namedAnswer r ≡ answer (naming (now (listing .entry)) switch (now (trail .entry)) search) ⌝ }
 {
-    let d = planning::plan_at(listing, switch);
+    let mut t = planning::blank();
+    let d = planning::plan_at(listing, switch, &mut t);
     let v = d.verdict;
     match v {
-        Verdict::Accepted => {
-            let p = d.plant;
-            name_in(p, switch, trail, search)
-        }
+        Verdict::Accepted => name_in(d.parts, &t, switch, trail, search),
         Verdict::Refused(k) => Named::Refused(k),
     }
 }
@@ -429,11 +459,12 @@ pub fn link_named(listing: &[u8], switch: u8, trail: &[u16], search: Search) -> 
 pub fn new_search(listing: &[u8], switch: u8) -> Begun
     ensures { λ r. ⌜ begunAnswer r ≡ answer (beginning (now (listing .entry)) switch) ⌝ }
 {
-    let d = planning::plan_at(listing, switch);
+    let mut t = planning::blank();
+    let d = planning::plan_at(listing, switch, &mut t);
     let v = d.verdict;
     match v {
         Verdict::Accepted => {
-            let links = planning::links_in_service(d.plant);
+            let links = planning::links_in_service(d.parts.plant);
             Begun::State(Search::new(links))
         }
         Verdict::Refused(k) => Begun::Refused(k),
@@ -459,11 +490,12 @@ pub fn give(search: Search, outcome: Outcome) -> Told
 pub fn perform(listing: &[u8], switch: u8, calls: &[u8]) -> Performed
     ensures { λ r. ⌜ performedAnswer r ≡ answer (performing (now (listing .entry)) switch (callsIn (now (calls .entry)))) ⌝ }
 {
-    let d = planning::plan_at(listing, switch);
+    let mut t = planning::blank();
+    let d = planning::plan_at(listing, switch, &mut t);
     let v = d.verdict;
     match v {
         Verdict::Accepted => {
-            let links = planning::links_in_service(d.plant);
+            let links = planning::links_in_service(d.parts.plant);
             Performed::Done(search::perform(links, calls))
         }
         Verdict::Refused(k) => Performed::Refused(k),

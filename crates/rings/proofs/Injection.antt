@@ -1,5 +1,5 @@
 -- For a closed walk over arcs of a plant, from any root, and an injection switch that it leaves: the switch has a place, its ring is a closed walk, the order has the
--- links that are crossed, each once. Where the walk is over arcs in use, and e is the length of the order: probe m returns exactly if the first m links of the order are
+-- links that are crossed, each once. Where the table has rules for its arcs, and e is the length of the order: probe m returns exactly if the first m links of the order are
 -- up, and so if m is less than the place of the first broken link. Assumes nothing more of the plant.
 use mathlib.Core.Path.{_≡_, refl, sym, ap, _∙_, subst}
 use mathlib.Core.Logic.{_⊎_, inl, inr, ⊎-elim, _↔_}
@@ -18,17 +18,17 @@ use Rattle.plant.specs.declared.Plant.{Plant}
 use Rattle.plant.specs.Links.{live}
 use Rattle.walks.specs.Walk.{Walk}
 use Rattle.walks.specs.Arcs.{tail, head, Arc}
-use Rattle.walks.specs.Graph.{ClosedWalk, used}
+use Rattle.walks.specs.Graph.{ClosedWalk}
 use Rattle.walks.proofs.Labels.{tail-opposite, head-opposite, opposite-arc}
 use Rattle.rings.specs.Packet.{byLink, run, rulesFor}
-use Rattle.rings.specs.Rules.{upByLink, inTable, inAll}
+use Rattle.rings.specs.Rules.{upByLink, inAll}
 use Rattle.rings.specs.Ring.{FirstHop, ring}
 use Rattle.rings.specs.Order.{order}
 use Rattle.rings.specs.Probe.{outward, back, probe}
 use Rattle.rings.proofs.FirstDown.{firstDown, first-take}
 use Rattle.rings.specs.Injection.{probeRules, placeOf, ringOf, orderOf, probeOf, probeRun}
 use Rattle.rings.proofs.Packet.{run-ended, run-clear}
-use Rattle.rings.proofs.Rules.{table-arc, all-arc, bytes-past}
+use Rattle.rings.proofs.Rules.{rule-arc, all-arc, bytes-past}
 use Rattle.rings.proofs.Ring.{place-first, ring-empty, read-labels, read-walk}
 use Rattle.rings.proofs.Order.{order-distinct, label-order, order-label}
 use Rattle.rings.proofs.Probe.{probe-clear, probe-all, probe-walk}
@@ -54,24 +54,25 @@ module _ (p : Plant) (w : List ℕ) (s : ℕ) where
     λ c. subst (λ (k : ℕ). In k (order (ringOf p w s))) (c .2) (label-order (ringOf p w s) (c .0) (ring-labels (c .0) .1 (c .1))),
   )
 
-  module _ (e : ℕ) (up : ℕ → Bool) where
+  module _ (table : ℕ → Bool) (e : ℕ) (up : ℕ → Bool) where
     -- the full check is the whole ring under the forwarding table
-    pub full-run : probeRun p w s e up e ≡ run (inTable p) up (head p) s 0 (ringOf p w s)
+    pub full-run : probeRun p table w s e up e ≡ run (rulesFor table (tail p)) up (head p) s 0 (ringOf p w s)
     unfolding probeRun probeRules probeOf probe
     full-run = rw (eq-eqb e e refl)
 
     -- every other probe goes out and back under all rules
-    pub back-run : (m : ℕ) → (m ≡ e → ⊥) → probeRun p w s e up m ≡ run (inAll p) up (head p) s 0 (outward m (ringOf p w s) ++ back (outward m (ringOf p w s)))
+    pub back-run : (m : ℕ) → (m ≡ e → ⊥) → probeRun p table w s e up m ≡ run (inAll p) up (head p) s 0 (outward m (ringOf p w s) ++ back (outward m (ringOf p w s)))
     unfolding probeRun probeRules probeOf probe
     back-run m n = rw (ne-eqb m e n)
 
   -- state bytes past the links of the plant are not looked at
-  pub probe-bytes : (e : ℕ) (states : List ℕ) (m : ℕ) → probeRun p w s e (upByLink states) m ≡ probeRun p w s e (upByLink (take (p .count) states)) m
+  pub probe-bytes : (table : ℕ → Bool) → ((a : ℕ) → T (table a) → Arc p a) → (e : ℕ) (states : List ℕ) (m : ℕ)
+      → probeRun p table w s e (upByLink states) m ≡ probeRun p table w s e (upByLink (take (p .count) states)) m
   unfolding probeRun probeRules
-  probe-bytes e states m = bytes-past p (probeRules p e m) (arc (eqb m e)) states (head p) (probeOf p w s e m) s 0
+  probe-bytes table arcs e states m = bytes-past p (probeRules p table e m) (arc (eqb m e)) states (head p) (probeOf p w s e m) s 0
     where
-      arc : (t : Bool) (x a : ℕ) → choose t (inTable p) (inAll p) x a ≡ true → Arc p a
-      arc true = table-arc p
+      arc : (t : Bool) (x a : ℕ) → choose t (rulesFor table (tail p)) (inAll p) x a ≡ true → Arc p a
+      arc true = rule-arc p table arcs
       arc false = all-arc p
 
 -- ---- a closed walk and an injection switch
@@ -109,31 +110,31 @@ module _ (p : Plant) (w : List ℕ) (s : ℕ) (at : RingAt p w s) where
     unfolding probeOf
     probe-arcs m = probe-all (Arc p) (opposite-arc p) e m (ringOf p w s) (λ a h. at .closed .arcs-alone a (ring-labels p w s a .0 h))
 
-    -- ---- where the walk is over arcs in use, the full check has rules
+    -- ---- where the table has a rule for each arc of the walk, the full check has rules
 
-    module _ (in-use : (a : ℕ) → In a w → T (used p a)) where
-      full-used : (m : ℕ) → eqb m e ≡ true → (a : ℕ) → In a (probeOf p w s e m) → T (used p a)
+    module _ (table : ℕ → Bool) (in-table : (a : ℕ) → In a w → T (table a)) where
+      full-table : (m : ℕ) → eqb m e ≡ true → (a : ℕ) → In a (probeOf p w s e m) → T (table a)
       unfolding probeOf probe
-      full-used m t a h = in-use a (ring-labels p w s a .0 (rw t at h))
+      full-table m t a h = in-table a (ring-labels p w s a .0 (rw t at h))
 
       -- a probe runs under rules for arcs of a kind that all its labels are of
-      meets : (m : ℕ) → (kind : ℕ → Bool) × (probeRules p e m ≡ rulesFor kind (tail p)) × ((a : ℕ) → In a (probeOf p w s e m) → T (kind a))
-      unfolding probeRules inTable inAll
+      meets : (m : ℕ) → (kind : ℕ → Bool) × (probeRules p table e m ≡ rulesFor kind (tail p)) × ((a : ℕ) → In a (probeOf p w s e m) → T (kind a))
+      unfolding probeRules inAll
       meets m = go (bool? (eqb m e))
         where
           go : (eqb m e ≡ true) ⊎ (eqb m e ≡ false)
-              → (kind : ℕ → Bool) × (probeRules p e m ≡ rulesFor kind (tail p)) × ((a : ℕ) → In a (probeOf p w s e m) → T (kind a))
-          go (inl t) = (used p, rw t, full-used m t)
+              → (kind : ℕ → Bool) × (probeRules p table e m ≡ rulesFor kind (tail p)) × ((a : ℕ) → In a (probeOf p w s e m) → T (kind a))
+          go (inl t) = (table, rw t, full-table m t)
           go (inr t) = (λ a. live p (a / 2), rw t, probe-arcs m)
 
       module _ (up : ℕ → Bool) (m : ℕ) where
         -- so only the states of its labels matter
-        probe-states : probeRun p w s e up m .ended ≡ all up (probeOf p w s e m)
+        probe-states : probeRun p table w s e up m .ended ≡ all up (probeOf p w s e m)
         unfolding probeRun
         probe-states = let k = meets m in rw (k .1) (run-ended (tail p) (head p) (k .0) up (probeOf p w s e m) s s 0 (probe-closed m) (k .2))
 
         -- a probe that returns is back at s, over all its labels
-        pub probe-home : probeRun p w s e up m .ended ≡ true → probeRun p w s e up m ≡ record { ended = true; hops = length (probeOf p w s e m); last = s }
+        pub probe-home : probeRun p table w s e up m .ended ≡ true → probeRun p table w s e up m ≡ record { ended = true; hops = length (probeOf p w s e m); last = s }
         unfolding probeRun
         probe-home t =
             let k = meets m in
@@ -141,12 +142,12 @@ module _ (p : Plant) (w : List ℕ) (s : ℕ) (at : RingAt p w s) where
 
     -- ---- where either label of a link is up if the link is, and e is the length of the order
 
-    module _ (in-use : (a : ℕ) → In a w → T (used p a)) (up : ℕ → Bool) (long : length (orderOf p w s) ≡ e) (m : ℕ) (h : 1 ≤ m) (i : m ≤ e) where
+    module _ (table : ℕ → Bool) (in-table : (a : ℕ) → In a w → T (table a)) (up : ℕ → Bool) (long : length (orderOf p w s) ≡ e) (m : ℕ) (h : 1 ≤ m) (i : m ≤ e) where
       -- probe m returns exactly if the first m links of the order are up
-      pub probe-ended : probeRun p w s e (byLink up) m .ended ≡ all up (take m (orderOf p w s))
+      pub probe-ended : probeRun p table w s e (byLink up) m .ended ≡ all up (take m (orderOf p w s))
       unfolding probeOf orderOf
-      probe-ended = probe-states in-use (byLink up) m ∙ probe-clear up (ringOf p w s) e m long h i
+      probe-ended = probe-states table in-table (byLink up) m ∙ probe-clear up (ringOf p w s) e m long h i
 
       -- so if m is less than the place of the first broken link
-      pub probe-tells : probeRun p w s e (byLink up) m .ended ≡ ltb m (firstDown up (orderOf p w s))
+      pub probe-tells : probeRun p table w s e (byLink up) m .ended ≡ ltb m (firstDown up (orderOf p w s))
       probe-tells = probe-ended ∙ first-take up (orderOf p w s) m (omega (arith, long))

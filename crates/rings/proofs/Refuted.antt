@@ -11,17 +11,16 @@ use Rattle.lists.specs.Count.{count}
 use Rattle.lists.specs.Numbers.{range}
 use Rattle.lists.specs.Least.{leastFrom}
 use Rattle.plant.specs.Links.{live}
-use Rattle.walks.specs.Visit.{scan, visit}
 use Rattle.walks.specs.Arcs.{opposite, tail, head}
-use Rattle.walks.specs.Graph.{arcs, others, visitFrom, visited, bridge, entered, earlier, used, liveLinks}
+use Rattle.walks.specs.Graph.{liveLinks}
 use Rattle.rings.specs.Packet.{run, rulesFor}
-use Rattle.rings.specs.Rules.{upBy, inTable}
+use Rattle.rings.specs.Rules.{upBy}
 use Rattle.rings.specs.Ring as rings
 use Rattle.rings.specs.Order as orders
 use Rattle.rings.specs.Probe.{outward, probe}
 use Rattle.rings.specs.FirstDown.{FirstDown}
 use Rattle.rings.specs.Injection.{ringOf, orderOf, probeOf}
-use Rattle.rings.specs.Cases.{oneLink, ringWithTail}
+use Rattle.rings.specs.Cases.{crossed, oneLink, ringWithTail}
 
 -- link 3 is down. From switch 3 it is the first of the order, and link 0, the first by number, is up
 by-order : FirstDown (upBy (1 ∷ 1 ∷ 1 ∷ 0 ∷ [])) (orderOf (ringWithTail .plant) (ringWithTail .trail) 3) 1
@@ -38,7 +37,8 @@ unfolding liveLinks count live
 by-hops = (omega arith, omega arith)
 
 -- all links are up, and probe 1 is lost on its way back for want of a rule
-back-by-table : run (inTable (ringWithTail .plant)) (λ l. true) (head (ringWithTail .plant)) 0 0 (probeOf (ringWithTail .plant) (ringWithTail .trail) 0 (liveLinks (ringWithTail .plant)) 1)
+back-by-table : run (rulesFor (crossed (ringWithTail .trail)) (tail (ringWithTail .plant))) (λ l. true) (head (ringWithTail .plant)) 0 0
+    (probeOf (ringWithTail .plant) (ringWithTail .trail) 0 (liveLinks (ringWithTail .plant)) 1)
     ≡ record { ended = false; hops = 1; last = 1 }
-unfolding probeOf ringOf probe outward orders.order rings.ring rings.readFrom rings.place leastFrom rulesFor inTable opposite tail head live liveLinks count used bridge entered earlier visited visitFrom arcs others visit scan
+unfolding probeOf ringOf probe outward orders.order rings.ring rings.readFrom rings.place leastFrom rulesFor opposite tail head live liveLinks count
 back-by-table = refl

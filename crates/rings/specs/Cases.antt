@@ -1,20 +1,20 @@
 -- Plants and their trails with what is expected of each injection switch, and one computed test over the table. Assumes nothing.
 use mathlib.Core.Path.{_≡_, refl}
-use mathlib.Core.Bool.{not}
+use mathlib.Core.Bool.{Bool, not}
 use mathlib.Core.List.{List, [], _∷_, map}
 use Prim.Native.Nat.{ℕ}
 use lib.Dec.{eqb}
 use Rattle.lists.specs.Count.{count}
+use Rattle.lists.specs.Members.{memb}
 use Rattle.lists.specs.Numbers.{range, keep}
 use Rattle.lists.specs.Least.{leastFrom}
 use Rattle.plant.specs.declared.Plant.{Plant}
 use Rattle.plant.specs.Links.{live}
-use Rattle.walks.specs.Visit.{scan, visit}
 use Rattle.walks.specs.Arcs.{opposite, tail, head}
-use Rattle.walks.specs.Graph.{arcs, others, visitFrom, visited, bridge, entered, earlier, used, liveLinks}
+use Rattle.walks.specs.Graph.{liveLinks}
 use Rattle.walks.specs.Cases as plants
 use Rattle.rings.specs.Packet.{byLink, rulesFor}
-use Rattle.rings.specs.Rules.{inTable, inAll}
+use Rattle.rings.specs.Rules.{inAll}
 use Rattle.rings.specs.Ring as rings
 use Rattle.rings.specs.Order as orders
 use Rattle.rings.specs.Probe.{outward, probe}
@@ -36,6 +36,10 @@ pub record Row : Type 0 where
   -- its switches, by number
   pub switches : List Switch
 
+-- the forwarding table has a rule for each arc that the trail crosses
+abbrev pub crossed : List ℕ → ℕ → Bool
+crossed w a = memb a w
+
 -- the same by the definitions
 unfoldable pub switchOf : Plant → List ℕ → ℕ → Switch
 switchOf p w s = record {
@@ -43,7 +47,8 @@ switchOf p w s = record {
   ring = ringOf p w s;
   order = orderOf p w s;
   probes = map (probeOf p w s (liveLinks p)) (range 1 (liveLinks p));
-  returned = map (λ down. keep (λ m. probeRun p w s (liveLinks p) (byLink (λ l. not (eqb l down))) m .ended) (range 1 (liveLinks p))) (keep (live p) (range 0 (p .count)));
+  returned = map (λ down. keep (λ m. probeRun p (crossed w) w s (liveLinks p) (byLink (λ l. not (eqb l down))) m .ended) (range 1 (liveLinks p)))
+      (keep (live p) (range 0 (p .count)));
 }
 
 abbrev pub rowOf : Plant → List ℕ → Row
@@ -160,5 +165,5 @@ abbrev pub table : List Row
 table = triangle ∷ oneLink ∷ threeParallel ∷ alone ∷ ringWithTail ∷ []
 
 pub as-expected : map (λ r. rowOf (r .plant) (r .trail)) table ≡ table
-unfolding switchOf probeRun probeRules probeOf orderOf ringOf probe outward orders.order rings.ring rings.readFrom rings.place leastFrom rulesFor inTable inAll opposite tail head live liveLinks count used bridge entered earlier visited visitFrom arcs others visit scan
+unfolding switchOf probeRun probeRules probeOf orderOf ringOf probe outward orders.order rings.ring rings.readFrom rings.place leastFrom rulesFor inAll opposite tail head live liveLinks count
 as-expected = refl

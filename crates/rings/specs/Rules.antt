@@ -8,7 +8,6 @@ use Rattle.lists.specs.Count.{count}
 use Rattle.plant.specs.declared.Plant.{Plant}
 use Rattle.plant.specs.Links.{live}
 use Rattle.walks.specs.Arcs.{tail}
-use Rattle.walks.specs.Graph.{used}
 use Rattle.rings.specs.Packet.{byLink, rulesFor}
 
 -- is link l up, by one byte for each link? 0 is down, any other value up
@@ -20,11 +19,7 @@ abbrev pub upByLink : List ℕ → ℕ → Bool
 upByLink states = byLink (upBy states)
 
 module _ (p : Plant) where
-  -- the forwarding table (rule page) has a rule for each arc in use
-  unfoldable pub inTable : ℕ → ℕ → Bool
-  inTable = rulesFor (used p) (tail p)
-
-  -- with the rules that opposite arcs have of their own there is one for each arc: probes go out and back under these
+  -- with the rules of the forwarding table, and those that opposite arcs have of their own, there is one for each arc: probes go out and back under these
   unfoldable pub inAll : ℕ → ℕ → Bool
   inAll = rulesFor (λ a. live p (a / 2)) (tail p)
 

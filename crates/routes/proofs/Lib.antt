@@ -3,7 +3,6 @@ pub mod Distances
 pub mod Fewest
 pub mod Marks
 pub mod Nearest
-pub mod Steps
 pub mod Trails
 pub mod Legs
 pub mod Plants

@@ -8,7 +8,7 @@ use lib.Dec.{T, T-not, not-T, eqb, eqb→eq, eqb-refl}
 use Rattle.lists.proofs.Tests.{and-left, and-right, and-both, or-left, or-right, or-cases}
 use Rattle.lists.specs.Members.{In}
 use Rattle.lists.specs.Count.{count}
-use Rattle.lists.proofs.Count.{count-le, count-lt}
+use Rattle.lists.proofs.Count.{count-lt}
 use Rattle.routes.specs.Trail.{mark, marks, uncrossed}
 
 module _ (ok : ℕ → Bool) where
@@ -18,11 +18,11 @@ module _ (ok : ℕ → Bool) where
       and-both (ok b) (not (m b)) (and-left (ok b) (not (mark a m b)) t)
       (not-T (m b) (λ u. T-not (mark a m b) (and-right (ok b) (not (mark a m b)) t) (or-right (eqb b a) (m b) u)))
 
-  marks-before : (w : List ℕ) (m : ℕ → Bool) (b : ℕ) → T (uncrossed ok (marks w m) b) → T (uncrossed ok m b)
+  pub marks-before : (w : List ℕ) (m : ℕ → Bool) (b : ℕ) → T (uncrossed ok (marks w m) b) → T (uncrossed ok m b)
   marks-before [] m b t = t
   marks-before (a ∷ w) m b t = mark-before m a b (marks-before w (mark a m) b t)
 
-  mark-same : (m : ℕ → Bool) (a : ℕ) → T (uncrossed ok (mark a m) a) → ⊥
+  pub mark-same : (m : ℕ → Bool) (a : ℕ) → T (uncrossed ok (mark a m) a) → ⊥
   mark-same m a t = T-not (mark a m a) (and-right (ok a) (not (mark a m a)) t) (or-left (eqb a a) (m a) (eqb-refl a))
 
   pub mark-other : (m : ℕ → Bool) (a b : ℕ) → (b ≡ a → ⊥) → T (uncrossed ok m b) → T (uncrossed ok (mark a m) b)
@@ -41,9 +41,6 @@ module _ (ok : ℕ → Bool) where
     -- how many arcs in use are uncrossed
     abbrev pub remaining : (ℕ → Bool) → ℕ
     remaining m = count n (uncrossed ok m)
-
-    pub mark-fewer : (m : ℕ → Bool) (a : ℕ) → remaining (mark a m) ≤ remaining m
-    mark-fewer m a = count-le n (uncrossed ok (mark a m)) (uncrossed ok m) (λ b h t. mark-before m a b t)
 
     -- crossing an uncrossed arc, after those of a list, leaves fewer
     pub marks-less : (w : List ℕ) (m : ℕ → Bool) (a : ℕ) → a < n → T (uncrossed ok m a) → suc (remaining (mark a (marks w m))) ≤ remaining m

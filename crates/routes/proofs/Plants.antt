@@ -1,8 +1,7 @@
--- The laws of distance and trail for a plant: distances over its arcs in use, and from a root the trail of the part that is reached from it. Assumes that the plant
--- is valid and the root a switch of it, and where it says so that it is connected.
-use mathlib.Core.Path.{_≡_, ap, _∙_}
+-- The laws of distance and trail for a plant: distances over its arcs in use from a root, and the trail of the part that is reached from it. Assumes that the plant is
+-- valid, and of the trail that the root is a switch of it.
+use mathlib.Core.Path.{_≡_, _∙_}
 use mathlib.Core.Logic.{inl, inr, ⊎-elim}
-use mathlib.Core.Bool.{Bool}
 use mathlib.Core.List.{List}
 use Prim.Native.Nat.{ℕ, _+_, _-_, _*_, _<_}
 use lib.Dec.{T}
@@ -13,17 +12,15 @@ use Rattle.lists.proofs.Count.{count-both}
 use Rattle.plant.specs.declared.Plant.{Plant}
 use Rattle.plant.specs.Links.{first, live}
 use Rattle.walks.specs.Arcs.{tail, head, Valid}
-use Rattle.walks.specs.Graph.{Crosses, ClosedWalk, Connected, visitedFrom, reachedFrom, usedFrom, linksFrom, bridgesFrom, switchesFrom, arcsUsedFrom, used}
+use Rattle.walks.specs.Graph.{Crosses, ClosedWalk, visitedFrom, reachedFrom, usedFrom, linksFrom, bridgesFrom, switchesFrom, arcsUsedFrom}
 use Rattle.walks.proofs.Walk.{weaken}
 use Rattle.walks.proofs.Labels.{tail-in, arc-below}
 use Rattle.walks.proofs.Visited.{visited-root, visited-keeps, visited-inside}
-use Rattle.walks.proofs.Orientation.{used-is, from-arc, strong, used-arc, used-from}
+use Rattle.walks.proofs.Orientation.{used-is, from-arc, strong}
 use Rattle.walks.proofs.Counting.{one-from, arcs-from}
-use Rattle.routes.specs.Trail.{trail}
-use Rattle.routes.specs.Meaning.{Fewest}
-use Rattle.routes.specs.Plants.{trailFrom, distanceOf, trailOf}
+use Rattle.routes.specs.Meaning.{Fewest, Strong}
+use Rattle.routes.specs.Plants.{distanceFrom, trailFrom}
 use Rattle.routes.proofs.Fewest.{dist-fewest}
-use Rattle.routes.proofs.Steps.{Strong}
 use Rattle.routes.proofs.Trails.{Tour, trail-tour}
 
 module _ (p : Plant) where
@@ -34,14 +31,14 @@ module _ (p : Plant) where
   n = 2 * p .count
 
   -- the arcs in use are labels of the plant
-  pub used-below : (a : ℕ) → T (used p a) → a < 2 * p .count
-  used-below a t = arc-below p a (used-arc p a t)
+  pub used-below : (r a : ℕ) → T (usedFrom p r a) → a < 2 * p .count
+  used-below r a t = arc-below p a (from-arc p r a t)
 
   -- the law of distance: a walk of so many hops over arcs in use exists and none shorter; the number of switches stands for no walk
-  pub distance-fewest : Valid p → (u v : ℕ) → u < p .switches → v < p .switches → Fewest S n (tail p) (head p) (used p) u v (distanceOf p u v)
-  distance-fewest ok u v h i = dist-fewest S n (tail p) (head p) (used p) (λ a j t. tail-in p ok a (used-arc p a t)) u v h i
+  pub distance-fewest : Valid p → (r u v : ℕ) → u < p .switches → v < p .switches → Fewest S n (tail p) (head p) (usedFrom p r) u v (distanceFrom p r u v)
+  distance-fewest ok r u v h i = dist-fewest S n (tail p) (head p) (usedFrom p r) (λ a j t. tail-in p ok a (from-arc p r a t)) u v h i
 
-  -- ---- from a root
+  -- ---- the trail
 
   module _ (ok : Valid p) (r : ℕ) (r-in : r < p .switches) where
     abbrev found : List ℕ
@@ -54,7 +51,7 @@ module _ (p : Plant) where
       tails = λ a i t. in→memb (tail p a) found (used-is p r a .0 t .0);
       heads = λ a i t. in→memb (head p a) found (visited-keeps p ok r r-in a (from-arc p r a t) (used-is p r a .0 t .0));
       starts = in→memb r found (visited-root p ok r r-in);
-      joined = λ x y i k. weaken (λ a t. (arc-below p a (from-arc p r a t), t)) (strong p r ok r-in x y (memb→in x found i) (memb→in y found k));
+      joined = λ x y i k. weaken (λ a t. (used-below r a t, t)) (strong p r ok r-in x y (memb→in x found i) (memb→in y found k));
     }
 
     -- theorem D: the trail is a closed walk from the root, crosses exactly the arcs in use, and has at most so many hops
@@ -69,7 +66,7 @@ module _ (p : Plant) where
     attained = (record { from = r; walk = trail-theorem .closed; arcs-alone = λ a h. from-arc p r a (trail-theorem .in-use a h .1) }, crosses, number)
       where
         on : (a : ℕ) → T (usedFrom p r a) → In a (trailFrom p r)
-        on a t = trail-theorem .crosses a (arc-below p a (from-arc p r a t), t)
+        on a t = trail-theorem .crosses a (used-below r a t, t)
 
         crosses : (l : ℕ) → T (reachedFrom p r (first p l)) → T (live p l) → Crosses l (trailFrom p r)
         crosses l h t = ⊎-elim (λ u. inl (on (2 * l) u)) (λ u. inr (on (2 * l + 1) u)) (one-from p ok r r-in l h t)
@@ -79,12 +76,3 @@ module _ (p : Plant) where
             count-both (2 * p .count) (λ a. memb a (trailFrom p r)) (usedFrom p r)
             (λ a h. (λ t. trail-theorem .in-use a (memb→in a (trailFrom p r) t) .1, λ t. in→memb a (trailFrom p r) (on a t)))
             ∙ arcs-from p ok r r-in
-
-  -- ---- where every switch is reached from the start
-
-  module _ (ok : Valid p) (con : Connected p) where
-    pub used-same : used p ≡ usedFrom p (p .start)
-    used-same = λ i a. used-from p ok con a i
-
-    pub trail-same : trailOf p ≡ trailFrom p (p .start)
-    trail-same = ap (λ (o : ℕ → Bool). trail S n (tail p) (head p) o (p .start)) used-same

@@ -17,13 +17,13 @@ use Rattle.lists.specs.Count.{count}
 use Rattle.lists.proofs.Count.{count-le, count-all}
 use Rattle.walks.specs.Walk.{Walk}
 use Rattle.walks.proofs.Walk.{walk-append}
-use Rattle.routes.specs.Distance.{route}
+use Rattle.routes.specs.Distance.{dist, route}
 use Rattle.routes.specs.Trail.{unmarked, mark, marks, uncrossed, nearest, legs, trail}
-use Rattle.routes.specs.Meaning.{InUse, Way}
+use Rattle.routes.specs.Meaning.{InUse, Way, Strong}
 use Rattle.routes.proofs.Distances.{route-way, route-length}
 use Rattle.routes.proofs.Marks.{mark-other, marks-other, remaining, marks-less}
 use Rattle.routes.proofs.Nearest.{Nearest, Finished, nearest?}
-use Rattle.routes.proofs.Steps.{Strong, dist-lt, nearest-in}
+use Rattle.routes.proofs.Fewest.{dist-part}
 use Rattle.routes.proofs.Legs.{one-leg, last-leg, none-left}
 
 -- w is a closed walk from the start that crosses exactly the arcs in use, with at most so many hops
@@ -40,6 +40,12 @@ module _ (S n : ℕ) (tl hd : ℕ → ℕ) (ok : ℕ → Bool) (start : ℕ) (pa
   abbrev way : ℕ → ℕ → List ℕ
   way u v = route S n tl hd ok u v
 
+  pub dist-lt : (u v : ℕ) → T (part u) → T (part v) → dist S n tl hd ok u v < K
+  dist-lt u v h i = dist-part S n tl hd ok part (st .inside) (st .tails) v i u h (st .joined u v h i)
+
+  nearest-in : (m : ℕ → Bool) (u a : ℕ) → Nearest S n tl hd ok m u a → T (part (tl a)) × T (part (hd a))
+  nearest-in m u a p = let t = and-left (ok a) (not (m a)) (p .is-left) in (st .tails a (p .is-arc) t, st .heads a (p .is-arc) t)
+
   -- w is a walk from u to the start over arcs in use that crosses all that are left, with at most so many hops
   record Finish (m : ℕ → Bool) (u : ℕ) (w : List ℕ) : Type 0 where
     pub is-walk : Walk tl hd w u start
@@ -48,10 +54,10 @@ module _ (S n : ℕ) (tl hd : ℕ → ℕ) (ok : ℕ → Bool) (start : ℕ) (pa
     pub short : length w ≤ K * remaining ok n m + (K - 1)
 
   way-in : (u v : ℕ) → T (part u) → T (part v) → Way S n tl hd ok u v (way u v)
-  way-in u v h i = route-way S n tl hd ok u v (omega (arith, dist-lt S n tl hd ok start part st u v h i, count-all S part))
+  way-in u v h i = route-way S n tl hd ok u v (omega (arith, dist-lt u v h i, count-all S part))
 
   way-short : (u v : ℕ) → T (part u) → T (part v) → length (way u v) < K
-  way-short u v h i = omega (arith, dist-lt S n tl hd ok start part st u v h i, route-length S n tl hd ok u v)
+  way-short u v h i = omega (arith, dist-lt u v h i, route-length S n tl hd ok u v)
 
   last : (m : ℕ → Bool) (u : ℕ) → T (part u) → Finished S n tl hd ok m → Finish m u (way u start)
   last m u h g =
@@ -71,7 +77,7 @@ module _ (S n : ℕ) (tl hd : ℕ → ℕ) (ok : ℕ → Bool) (start : ℕ) (pa
       w = way u (tl a)
 
       t-in : T (part (tl a))
-      t-in = nearest-in S n tl hd ok start part st m u a p .0
+      t-in = nearest-in m u a p .0
 
       to : Way S n tl hd ok u (tl a) w
       to = way-in u (tl a) h t-in
@@ -98,7 +104,7 @@ module _ (S n : ℕ) (tl hd : ℕ → ℕ) (ok : ℕ → Bool) (start : ℕ) (pa
           → Finish m u (legs S n tl hd ok start (suc f) m u)
       go (inl p) rec =
           let m′ = mark a (marks (way u (tl a)) m) in
-          let r = rec m′ (hd a) (nearest-in S n tl hd ok start part st m u a p .1) (omega (arith, marks-less ok n (way u (tl a)) m a (p .is-arc) (p .is-left))) in
+          let r = rec m′ (hd a) (nearest-in m u a p .1) (omega (arith, marks-less ok n (way u (tl a)) m a (p .is-arc) (p .is-left))) in
           subst (Finish m u) (sym (one-leg S n tl hd ok start f m u a p)) (leg m u a _ h p r)
       go (inr g) rec = subst (Finish m u) (sym (last-leg S n tl hd ok start (suc f) m u g)) (last m u h g)
 

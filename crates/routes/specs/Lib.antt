@@ -2,4 +2,3 @@ pub mod Distance
 pub mod Trail
 pub mod Meaning
 pub mod Plants
-pub mod Steps

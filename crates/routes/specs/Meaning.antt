@@ -23,6 +23,14 @@ module _ (S n : ℕ) (tl hd : ℕ → ℕ) (ok : ℕ → Bool) where
     pub is-walk : Walk tl hd w u v
     pub in-use : (a : ℕ) → In a w → InUse n ok a
 
+  -- the arcs in use join switches of a part, the root among them, and each switch of that part leads to each other over them
+  pub record Strong (root : ℕ) (part : ℕ → Bool) : Type 0 where
+    pub inside : (x : ℕ) → T (part x) → x < S
+    pub tails : (a : ℕ) → a < n → T (ok a) → T (part (tl a))
+    pub heads : (a : ℕ) → a < n → T (ok a) → T (part (hd a))
+    pub starts : T (part root)
+    pub joined : (x y : ℕ) → T (part x) → T (part y) → Reached x y
+
   -- d is the fewest hops from u to v over arcs in use, or S if there is no walk
   pub record Fewest (u v d : ℕ) : Type 0 where
     -- some walk has so many hops

@@ -38,7 +38,7 @@ module _ (S n : ℕ) (tl hd : ℕ → ℕ) (ok : ℕ → Bool) where
   near m u = least S (λ k. some n (leavesAt m u k))
 
   -- the lowest label of an uncrossed arc in use that leaves a switch at that distance; n if no arc in use is uncrossed. Where no walk reaches one, it is the
-  -- lowest label of all that are uncrossed: in a connected plant each is reached
+  -- lowest label of all that are uncrossed: of the arcs in use from a root each is reached
   unfoldable pub nearest : (ℕ → Bool) → ℕ → ℕ
   nearest m u = least n (leavesAt m u (near m u))
 

@@ -1,16 +1,12 @@
-// The forwarding table of a plant (document 01's rule page), by value. Inner: the calls are the crates `planner` and `probing`.
+// The forwarding table (document 01's rule page), by value. Inner: the calls are the crates `planner` and `probing`.
 use plant::Plant;
 ghost use mathlib.Core.Path.{_≡_};
 ghost use mathlib.Core.List.{[]};
-ghost use Prim.Native.Nat.{_*_, _<_};
-ghost use Rattle.limits.specs.Limits.{maxLinks};
-ghost use Rattle.limits.specs.Sound.{Sound};
-ghost use Rattle.walks.specs.Graph.{Connected, used};
-ghost use Rattle.graph.specs.Flags.{Flags};
-ghost use Rattle.table.specs.Rules.{tableWith, tableOf};
-
-// A place for each rule that a connected plant can have: one for each link, and one more for each bridge, of which there are fewer than switches.
-pub const RULES: usize = Plant::MAX_LINKS + Plant::PLACES - 1;
+ghost use Prim.Native.Nat.{_*_, _≤_};
+ghost use Rattle.lists.specs.Arrays.{flag, at};
+ghost use Rattle.lists.specs.Count.{count};
+ghost use Rattle.limits.specs.Limits.{maxLinks, maxRules};
+ghost use Rattle.table.specs.Rules.{tableWith, tableIn};
 
 pub struct Rule {
     pub from: u8,
@@ -20,7 +16,7 @@ pub struct Rule {
 
 pub struct Table {
     pub count: u16,
-    pub rules: [Rule; RULES],
+    pub rules: [Rule; Plant::MAX_RULES],
 }
 
 impl Table {
@@ -32,27 +28,32 @@ impl Table {
             label: 0,
             to: 0,
         };
-        let rules = [zero; RULES];
+        let rules = [zero; Plant::MAX_RULES];
         Table { count: 0, rules }
     }
 }
 
-// One rule for each arc in use, by rising label.
-pub fn table_of(p: Plant, flags: [bool; Plant::LABELS]) -> Table
-    requires { ⌜ Sound p × Connected p × Flags (2 * maxLinks) (used p) flags ⌝ }
-    ensures { λ r. ⌜ r ≡ tableOf p ⌝ }
+// One rule for each arc that is flagged as in use, by rising label: of the labels below n, with the tails and the heads of their arcs.
+pub fn table_of(
+    tails: &[u8; Plant::LABELS],
+    heads: &[u8; Plant::LABELS],
+    used: &[bool; Plant::LABELS],
+    n: u16,
+) -> Table
+    requires { ⌜ n ≤ 2 * maxLinks ⌝ }
+    requires { ⌜ count n (flag (now used)) ≤ maxRules ⌝ }
+    ensures { λ r. ⌜ r ≡ tableIn n (at (now (tails .entry))) (at (now (heads .entry))) (flag (now (used .entry))) ⌝ }
 {
     let mut t = Table::empty();
-    let n = 2 * (p.count as usize);
+    let end = n as usize;
     let mut a: usize = 0;
-    while a < n {
-        if flags[a] {
-            let l = p.links[a / 2];
+    while a < end {
+        if used[a] {
             let k = t.count as usize;
             t.rules[k] = Rule {
-                from: plant::tail_of(l, a),
+                from: tails[a],
                 label: a as u16,
-                to: plant::head_of(l, a),
+                to: heads[a],
             };
             t.count += 1;
         }

@@ -54,6 +54,15 @@ pub decimal-more : (n : ℕ) → 10 ≤ n → decimal n ≡ decimal (n / 10) ++ 
 unfolding decimal
 decimal-more n h = digits-same n (suc n) n (omega arith) (omega arith) ∙ digits-more (suc n) n h ∙ ap (λ (l : List ℕ). l ++ (digit (n % 10) ∷ [])) (digits-same n (n / 10) (n / 10) (omega arith) (omega arith))
 
+-- of two digits, and of three
+pub decimal-two : (n : ℕ) → 10 ≤ n → n < 100 → decimal n ≡ digit (n / 10) ∷ digit (n % 10) ∷ []
+decimal-two n h k = decimal-more n h ∙ ap (λ (l : List ℕ). l ++ (digit (n % 10) ∷ [])) (decimal-last (n / 10) (omega arith))
+
+pub decimal-three : (n : ℕ) → 100 ≤ n → n < 1000 → decimal n ≡ digit (n / 100) ∷ digit (n / 10 % 10) ∷ digit (n % 10) ∷ []
+decimal-three n h k =
+    let e : n / 10 / 10 ≡ n / 100 = omega arith in
+    decimal-more n (omega arith) ∙ ap (λ (l : List ℕ). l ++ (digit (n % 10) ∷ [])) (decimal-two (n / 10) (omega arith) (omega arith)) ∙ ap (λ (d : ℕ). digit d ∷ digit (n / 10 % 10) ∷ digit (n % 10) ∷ []) e
+
 pub length-more : (n : ℕ) → 10 ≤ n → length (decimal n) ≡ length (decimal (n / 10)) + 1
 length-more n h = ap length (decimal-more n h) ∙ length-append (decimal (n / 10)) (digit (n % 10) ∷ [])
 

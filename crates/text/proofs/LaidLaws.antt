@@ -32,6 +32,19 @@ module _ {b : List ℕ} {at : ℕ} {xs b′ : List ℕ} {next : ℕ} (l : Laid b
     front = m .front;
   }
 
+-- two bytes, and three
+module _ (b : List ℕ) (at x y : ℕ) where
+  pub laid-two : at + 1 < length b → Laid b at (x ∷ y ∷ []) (set (set b at x) (at + 1) y) (at + 2)
+  laid-two h =
+      let e : at + 2 ≡ at + 1 + 1 = omega arith in
+      rw e (laid-then (laid-byte b at x (omega arith)) (laid-byte (set b at x) (at + 1) y (rw (length-set b at x) h)))
+
+  pub laid-three : (z : ℕ) → at + 2 < length b → Laid b at (x ∷ y ∷ z ∷ []) (set (set (set b at x) (at + 1) y) (at + 2) z) (at + 3)
+  laid-three z h =
+      let e : at + 3 ≡ at + 2 + 1 = omega arith in
+      let l = laid-two (omega arith) in
+      rw e (laid-then l (laid-byte (set (set b at x) (at + 1) y) (at + 2) z (omega (arith, laid-same l))))
+
 -- laid at the front, the bytes are what stands there
 pub laid-front : (b xs b′ : List ℕ) (next : ℕ) → Laid b 0 xs b′ next → take next b′ ≡ xs
 laid-front b xs b′ next l =

@@ -1,3 +1,4 @@
 pub mod DecimalLaws
 pub mod LaidLaws
 pub mod PutLaws
+pub mod SizeLaws

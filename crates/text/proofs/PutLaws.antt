@@ -1,17 +1,14 @@
 -- The loops that lay a word, or pieces such as numbers: what is laid before a turn, and what the turn lays, is what is laid after it. Assumes nothing.
 use mathlib.Core.Path.{_≡_, refl, sym, ap, _∙_}
 use mathlib.Core.List.{List, [], _∷_, _++_, append-nil, append-assoc}
-use Prim.Native.Nat.{ℕ, _+_, _*_, _^_, _≤_, _<_}
-use native.Mathlib.Nat.{mul-le-mul-right}
+use Prim.Native.Nat.{ℕ, zero, suc, _+_, _≤_, _<_}
 use native.Mathlib.Numerals.{add-one}
 use native.Mathlib.Omega.{arith}
-use lib.ListN.{length, getD, set, take}
+use lib.ListN.{length, getD, set, take, length-append}
 use lib.Seq.{length-take-le, take-all, take-suc}
 use Rattle.text.specs.Decimal.{decimal}
 use Rattle.text.specs.Lines.{space, newline, each, spaced, spacedAll, line}
-use Rattle.text.specs.Sizes.{spacedMost}
 use Rattle.text.specs.Laid.{Room, Laid}
-use Rattle.text.proofs.DecimalLaws.{decimal-most}
 use Rattle.lists.proofs.Arrays.{take-next}
 use Rattle.text.proofs.LaidLaws.{laid-none, laid-byte, laid-same, laid-then}
 
@@ -47,40 +44,60 @@ module _ {A : Type 0} (f : A → List ℕ) where
       ∙ each-append (take i xs) (getD xs i d ∷ [])
       ∙ ap (λ (l : List ℕ). each f (take i xs) ++ l) (append-nil (f (getD xs i d)))
 
--- after i turns of a loop that lays the pieces of the first n members of xs, each of at most w bytes, from place `at` of b on
-pub record Turns {A : Type 0} (f : A → List ℕ) (b : List ℕ) (at : ℕ) (xs : List A) (w n : ℕ) (c : List ℕ) (next i : ℕ) : Type 0 where
+  -- the pieces of the first members take no more than those of more of them
+  each-front : (xs : List A) (i n : ℕ) → i ≤ n → length (each f (take i xs)) ≤ length (each f (take n xs))
+  each-front xs zero n h = omega arith
+  each-front [] (suc i) n h = omega arith
+  each-front (x ∷ xs) (suc i) zero h = absurd (omega arith)
+  each-front (x ∷ xs) (suc i) (suc n) h = omega (arith, length-append (f x) (each f (take i xs)), length-append (f x) (each f (take n xs)), each-front xs i n (omega arith))
+
+-- after i turns of a loop that lays the pieces of the first n members of xs from place `at` of b on
+pub record Turns {A : Type 0} (f : A → List ℕ) (b : List ℕ) (at : ℕ) (xs : List A) (n : ℕ) (c : List ℕ) (next i : ℕ) : Type 0 where
   pub count : i ≤ n
   pub laid : Laid b at (each f (take i xs)) c next
-  pub most : next ≤ at + i * w
 
-pub turns-none : {A : Type 0} {f : A → List ℕ} {b : List ℕ} {at : ℕ} {xs : List A} {w n : ℕ} → at + n * w ≤ length b → Turns f b at xs w n b at 0
-turns-none {b = b} {at} room = record { count = omega arith; laid = laid-none b at (omega arith); most = omega arith }
+pub turns-none : {A : Type 0} {f : A → List ℕ} {b : List ℕ} {at : ℕ} {xs : List A} {n : ℕ} → at ≤ length b → Turns f b at xs n b at 0
+turns-none {b = b} {at} room = record { count = omega arith; laid = laid-none b at room }
 
-module _ {A : Type 0} {f : A → List ℕ} {b : List ℕ} {at : ℕ} {xs : List A} {w n : ℕ} {c : List ℕ} {next i : ℕ} (t : Turns f b at xs w n c next i) where
-  pub turns-all : n ≤ i → Laid b at (each f (take n xs)) c next × (next ≤ at + n * w)
-  turns-all h = let e : i ≡ n = omega (arith, t .count) in (rw e at (t .laid), rw e at (t .most))
+module _ {A : Type 0} {f : A → List ℕ} {b : List ℕ} {at : ℕ} {xs : List A} {n : ℕ} {c : List ℕ} {next i : ℕ} (t : Turns f b at xs n c next i) where
+  pub turns-all : n ≤ i → Laid b at (each f (take n xs)) c next
+  turns-all h = let e : i ≡ n = omega (arith, t .count) in rw e at (t .laid)
 
-  -- there is room for one piece more
-  pub turns-room : at + n * w ≤ length b → i < n → next + w ≤ length c
-  turns-room room h = omega (arith, t .most, laid-same (t .laid), mul-le-mul-right {m = i + 1} {n = n} w (omega arith))
+  module _ (d : A) (few : n ≤ length xs) (h : i < n) where
+    -- there is room for the next piece
+    pub turns-room : Room b at (each f (take n xs)) → Room c next (f (getD xs i d))
+    turns-room room =
+        omega (
+          arith,
+          t .laid .place,
+          laid-same (t .laid),
+          each-front f xs (i + 1) n (omega arith),
+          ap length (each-take f xs i d (omega arith)),
+          length-append (each f (take i xs)) (f (getD xs i d)),
+        )
 
-  pub turns-next : (d : A) → n ≤ length xs → i < n → {c′ : List ℕ} {next′ : ℕ} → Laid c next (f (getD xs i d)) c′ next′ → next′ ≤ next + w → Turns f b at xs w n c′ next′ (i + 1)
-  turns-next d few h l small = record {
-    count = omega arith;
-    laid = rw (each-take f xs i d (omega arith)) (laid-then (t .laid) l);
-    most = omega (arith, t .most);
-  }
-
--- numbers of at most w digits
-module _ (w : ℕ) {b : List ℕ} {at : ℕ} {ns : List ℕ} {n : ℕ} {c : List ℕ} {next i : ℕ} (t : Turns spaced b at ns (1 + w) n c next i) (few : n ≤ length ns) (room : at + spacedMost n w ≤ length b) (some : 1 ≤ w) (h : i < n) (small : getD ns i 0 < 10 ^ w) where
-  pub number-room : Room c next (spaced (getD ns i 0))
-  number-room = omega (arith, turns-room t room h, decimal-most (getD ns i 0) w some small)
-
-  pub number-next : {c′ : List ℕ} {next′ : ℕ} → Laid c next (spaced (getD ns i 0)) c′ next′ → Turns spaced b at ns (1 + w) n c′ next′ (i + 1)
-  number-next l = turns-next t 0 few h l (omega (arith, l .place, decimal-most (getD ns i 0) w some small))
+    pub turns-next : {c′ : List ℕ} {next′ : ℕ} → Laid c next (f (getD xs i d)) c′ next′ → Turns f b at xs n c′ next′ (i + 1)
+    turns-next l = record { count = omega arith; laid = rw (each-take f xs i d (omega arith)) (laid-then (t .laid) l) }
 
 -- ---- a line
 
 pub line-laid : {b : List ℕ} {at : ℕ} (word ns : List ℕ) {c d e : List ℕ} {i j k : ℕ} → Laid b at word c i → Laid c i (spacedAll ns) d j → Laid d j (newline ∷ []) e k → Laid b at (line word ns) e k
 unfolding line
 line-laid word ns l m n = laid-then l (laid-then m n)
+
+-- the bytes of its parts
+pub line-size : (word ns : List ℕ) → length (line word ns) ≡ length word + length (spacedAll ns) + 1
+unfolding line
+line-size word ns = omega (arith, length-append word (spacedAll ns ++ (newline ∷ [])), length-append (spacedAll ns) (newline ∷ []))
+
+-- where there is room for a line, there is room for its parts
+module _ (b : List ℕ) (at : ℕ) (word ns : List ℕ) (room : Room b at (line word ns)) where
+  pub line-word : Room b at word
+  line-word = omega (arith, line-size word ns)
+
+  module _ {c : List ℕ} {i : ℕ} (l : Laid b at word c i) where
+    pub line-numbers : Room c i (spacedAll ns)
+    line-numbers = omega (arith, line-size word ns, l .place, laid-same l)
+
+    pub line-end : {d : List ℕ} {j : ℕ} → Laid c i (spacedAll ns) d j → Room d j (newline ∷ [])
+    line-end m = omega (arith, line-size word ns, l .place, laid-same l, m .place, laid-same m)

@@ -1,12 +1,12 @@
 -- The most bytes that a line takes, by its letters, its numbers and their digits. Assumes nothing.
 use Prim.Native.Nat.{ℕ, _+_, _*_}
 
--- the most digits of a number of 16 bits, and of 32 bits
+-- the most digits of a number below 1000, and of a number of 16 bits
+abbrev pub digitsShort : ℕ
+digitsShort = 3
+
 abbrev pub digits16 : ℕ
 digits16 = 5
-
-abbrev pub digits32 : ℕ
-digits32 = 10
 
 -- so many numbers of so many digits, each after a space
 abbrev pub spacedMost : ℕ → ℕ → ℕ
@@ -16,17 +16,17 @@ spacedMost numbers digits = numbers * (1 + digits)
 abbrev pub lineMost : ℕ → ℕ → ℕ → ℕ
 lineMost letters numbers digits = letters + spacedMost numbers digits + 1
 
--- ---- the lines of the output: with numbers of 32 bits, and of 16 bits in the trail
+-- ---- the lines of the output: the first line with numbers of 16 bits, the others with numbers below 1000
 
 abbrev pub summaryMost : ℕ
-summaryMost = lineMost 5 5 digits32
+summaryMost = lineMost 5 5 digits16
 
 abbrev pub ruleMost : ℕ
-ruleMost = lineMost 4 3 digits32
+ruleMost = lineMost 4 3 digitsShort
 
 -- with so many labels
 abbrev pub trailMost : ℕ → ℕ
-trailMost labels = lineMost 5 labels digits16
+trailMost labels = lineMost 5 labels digitsShort
 
 abbrev pub refusalMost : ℕ
-refusalMost = lineMost 7 1 digits32
+refusalMost = lineMost 7 1 digitsShort

@@ -1,26 +1,29 @@
 // The lines that the program `rules` prints (document 01, "Edges and marked cases"), laid into a lent buffer of bytes.
 // Each function lays its bytes from place `at` on and answers the place after them. Inner: each asks for room.
-ghost use Prim.Native.Nat.{_+_, _≤_};
+ghost use Prim.Native.Nat.{_+_, _≤_, _<_};
 ghost use mathlib.Core.List.{_∷_, []};
 ghost use lib.ListN.{length, take};
 ghost use Rattle.text.specs.Decimal.{decimal};
 ghost use Rattle.text.specs.Lines.{newline, spaced, spacedAll, line, summaryLine, ruleLine, trailLine, refusalOf};
-ghost use Rattle.text.specs.Sizes.{digits16, digits32, spacedMost, lineMost, summaryMost, ruleMost, trailMost, refusalMost};
+ghost use Rattle.text.specs.Sizes.{summaryMost, refusalMost};
 ghost use Rattle.text.specs.Laid.{Room, Laid};
 
-// The most digits of a number of 16 bits, and of 32 bits.
+// The most digits of a number below 1000, and of a number of 16 bits.
+const DIGITS_SHORT: usize = 3;
+
 const DIGITS_16: usize = 5;
 
-const DIGITS_32: usize = 10;
+// The most bytes of a line: its word, its numbers, each after a space, and its end. In a rule and in the trail they are below 1000; the trail line takes TRAIL, and
+// LABEL for each label.
+pub const SUMMARY: usize = 5 + 5 * (1 + DIGITS_16) + 1;
 
-// The most bytes of a line: its word, its numbers, each after a space, and its end. The trail line takes TRAIL, and LABEL for each label.
-pub const SUMMARY: usize = 5 + 5 * (1 + DIGITS_32) + 1;
-
-pub const RULE: usize = 4 + 3 * (1 + DIGITS_32) + 1;
+pub const RULE: usize = 4 + 3 * (1 + DIGITS_SHORT) + 1;
 
 pub const TRAIL: usize = 5 + 1;
 
-pub const LABEL: usize = 1 + DIGITS_16;
+pub const LABEL: usize = 1 + DIGITS_SHORT;
+
+pub const REFUSAL: usize = 7 + (1 + DIGITS_SHORT) + 1;
 
 // The bytes of a word.
 fn put_word(buf: &mut [u8], at: usize, word: &[u8]) -> usize
@@ -37,26 +40,48 @@ fn put_word(buf: &mut [u8], at: usize, word: &[u8]) -> usize
     next
 }
 
-// A number in decimal.
-fn put_decimal(buf: &mut [u8], at: usize, n: u32) -> usize
-    requires { ⌜ Room (now buf) at (decimal n) ⌝ }
+// A number below 1000 in decimal: one, two or three digits.
+fn put_short(buf: &mut [u8], at: usize, n: u32) -> usize
+    requires { ⌜ (n < 1000) × Room (now buf) at (decimal n) ⌝ }
     ensures { λ r. ⌜ Laid (now (buf .entry)) at (decimal n) (now (buf .exit)) r ⌝ }
 {
     if n < 10 {
         buf[at] = 48 + n as u8;
         return at + 1;
     }
+    if n < 100 {
+        buf[at] = 48 + (n / 10) as u8;
+        buf[at + 1] = 48 + (n % 10) as u8;
+        return at + 2;
+    }
+    buf[at] = 48 + (n / 100) as u8;
+    buf[at + 1] = 48 + (n / 10 % 10) as u8;
+    buf[at + 2] = 48 + (n % 10) as u8;
+    at + 3
+}
+
+// A number in decimal: any other is its tenth, rounded down, and then its last digit.
+fn put_decimal(buf: &mut [u8], at: usize, n: u32) -> usize
+    requires { ⌜ Room (now buf) at (decimal n) ⌝ }
+    ensures { λ r. ⌜ Laid (now (buf .entry)) at (decimal n) (now (buf .exit)) r ⌝ }
+{
+    if n < 1000 {
+        return put_short(buf, at, n);
+    }
     let last = put_decimal(buf, at, n / 10);
     buf[last] = 48 + (n % 10) as u8;
     last + 1
 }
 
-// A space and a number.
+// A space and a number, which most often is short.
 fn put_number(buf: &mut [u8], at: usize, n: u32) -> usize
     requires { ⌜ Room (now buf) at (spaced n) ⌝ }
     ensures { λ r. ⌜ Laid (now (buf .entry)) at (spaced n) (now (buf .exit)) r ⌝ }
 {
     buf[at] = b' ';
+    if n < 1000 {
+        return put_short(buf, at + 1, n);
+    }
     put_decimal(buf, at + 1, n)
 }
 
@@ -71,9 +96,8 @@ fn end_line(buf: &mut [u8], at: usize) -> usize
 
 // Numbers, each after a space.
 fn put_numbers(buf: &mut [u8], at: usize, ns: &[u32]) -> usize
-    requires { ⌜ at + spacedMost (length (now ns)) digits32 ≤ length (now buf) ⌝ }
+    requires { ⌜ Room (now buf) at (spacedAll (now ns)) ⌝ }
     ensures { λ r. ⌜ Laid (now (buf .entry)) at (spacedAll (now (ns .entry))) (now (buf .exit)) r ⌝ }
-    ensures { λ r. ⌜ r ≤ at + spacedMost (length (now (ns .entry))) digits32 ⌝ }
 {
     let mut next = at;
     let mut i: usize = 0;
@@ -86,9 +110,8 @@ fn put_numbers(buf: &mut [u8], at: usize, ns: &[u32]) -> usize
 
 // The first `count` of these labels, each after a space.
 fn put_labels(buf: &mut [u8], at: usize, labels: &[u16], count: usize) -> usize
-    requires { ⌜ (count ≤ length (now labels)) × (at + spacedMost count digits16 ≤ length (now buf)) ⌝ }
+    requires { ⌜ (count ≤ length (now labels)) × Room (now buf) at (spacedAll (take count (now labels))) ⌝ }
     ensures { λ r. ⌜ Laid (now (buf .entry)) at (spacedAll (take count (now (labels .entry)))) (now (buf .exit)) r ⌝ }
-    ensures { λ r. ⌜ r ≤ at + spacedMost count digits16 ⌝ }
 {
     let mut next = at;
     let mut i: usize = 0;
@@ -101,7 +124,7 @@ fn put_labels(buf: &mut [u8], at: usize, labels: &[u16], count: usize) -> usize
 
 // The trail line of the first `count` of these labels.
 pub fn put_trail(buf: &mut [u8], at: usize, labels: &[u16], count: usize) -> usize
-    requires { ⌜ (count ≤ length (now labels)) × (at + trailMost count ≤ length (now buf)) ⌝ }
+    requires { ⌜ (count ≤ length (now labels)) × Room (now buf) at (trailLine (take count (now labels))) ⌝ }
     ensures { λ r. ⌜ Laid (now (buf .entry)) at (trailLine (take count (now (labels .entry)))) (now (buf .exit)) r ⌝ }
 {
     let first = put_word(buf, at, b"trail");
@@ -111,9 +134,8 @@ pub fn put_trail(buf: &mut [u8], at: usize, labels: &[u16], count: usize) -> usi
 
 // A line of a word and numbers.
 fn put_line(buf: &mut [u8], at: usize, word: &[u8], ns: &[u32]) -> usize
-    requires { ⌜ at + lineMost (length (now word)) (length (now ns)) digits32 ≤ length (now buf) ⌝ }
+    requires { ⌜ Room (now buf) at (line (now word) (now ns)) ⌝ }
     ensures { λ r. ⌜ Laid (now (buf .entry)) at (line (now (word .entry)) (now (ns .entry))) (now (buf .exit)) r ⌝ }
-    ensures { λ r. ⌜ r ≤ at + lineMost (length (now (word .entry))) (length (now (ns .entry))) digits32 ⌝ }
 {
     let numbers = put_word(buf, at, word);
     let end = put_numbers(buf, numbers, ns);
@@ -124,36 +146,40 @@ fn put_line(buf: &mut [u8], at: usize, word: &[u8], ns: &[u32]) -> usize
 pub fn put_summary(
     buf: &mut [u8],
     at: usize,
-    switches: u32,
-    links: u32,
-    bridges: u32,
-    rules: u32,
-    hops: u32,
+    switches: u16,
+    links: u16,
+    bridges: u16,
+    rules: u16,
+    hops: u16,
 ) -> usize
     requires { ⌜ at + summaryMost ≤ length (now buf) ⌝ }
     ensures { λ r. ⌜ Laid (now (buf .entry)) at (summaryLine switches links bridges rules hops) (now (buf .exit)) r ⌝ }
     ensures { λ r. ⌜ r ≤ at + summaryMost ⌝ }
 {
-    let ns = [switches, links, bridges, rules, hops];
+    let ns = [
+        switches as u32,
+        links as u32,
+        bridges as u32,
+        rules as u32,
+        hops as u32,
+    ];
     put_line(buf, at, b"plant", &ns)
 }
 
 // The line of a rule.
 pub fn put_rule(buf: &mut [u8], at: usize, from: u32, label: u32, to: u32) -> usize
-    requires { ⌜ at + ruleMost ≤ length (now buf) ⌝ }
+    requires { ⌜ Room (now buf) at (ruleLine from label to) ⌝ }
     ensures { λ r. ⌜ Laid (now (buf .entry)) at (ruleLine from label to) (now (buf .exit)) r ⌝ }
-    ensures { λ r. ⌜ r ≤ at + ruleMost ⌝ }
 {
     let ns = [from, label, to];
     put_line(buf, at, b"rule", &ns)
 }
 
 // The output of a refusal, at the front of the buffer.
-pub fn put_refusal(buf: &mut [u8], n: u32) -> usize
+pub fn put_refusal(buf: &mut [u8], n: u8) -> usize
     requires { ⌜ refusalMost ≤ length (now buf) ⌝ }
     ensures { λ r. ⌜ Laid (now (buf .entry)) 0 (refusalOf n) (now (buf .exit)) r ⌝ }
-    ensures { λ r. ⌜ r ≤ refusalMost ⌝ }
 {
-    let ns = [n];
+    let ns = [n as u32];
     put_line(buf, 0, b"refused", &ns)
 }

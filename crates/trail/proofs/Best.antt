@@ -1,71 +1,74 @@
--- The search for the nearest uncrossed arc in use, label by label: the best of the labels below a. Assumes nothing.
-use mathlib.Core.Path.{_≡_, refl, sym, ap₂, _∙_, subst}
+-- The search for the nearest uncrossed arc in use, switch by switch, where `low` tells what is uncrossed: the best of the arcs that leave switches below y.
+-- Assumes that the arcs in use join switches of the network.
+use mathlib.Core.Path.{_≡_, refl, sym, ap, _∙_, subst}
 use mathlib.Core.Logic.{_⊎_, inl, inr, ⊎-elim}
-use mathlib.Core.Bool.{Bool, true, false, not, _&&_}
-use Prim.Native.Nat.{ℕ, _+_, _≤_, _<_}
+use mathlib.Core.Bool.{Bool, not}
+use Prim.Native.Nat.{ℕ, _+_, _*_, _≤_, _<_}
 use native.Mathlib.Omega.{arith}
-use lib.Dec.{T, T-not}
-use Rattle.lists.proofs.Stepwise.{upto}
-use Rattle.lists.proofs.Tests.{true-T, false-T, and-left, and-right}
+use lib.Dec.{T}
+use Rattle.lists.proofs.Tests.{eq?, and-left}
+use Rattle.limits.specs.Limits.{maxLinks}
 use Rattle.routes.specs.Distance.{dist}
 use Rattle.routes.specs.Trail.{uncrossed, nearest}
-use Rattle.routes.proofs.Distances.{dist-top}
+use Rattle.routes.proofs.Distances.{dist-top, dist-self, dist-zero}
 use Rattle.routes.proofs.Nearest.{nearest-none, nearest-is}
+use Rattle.trail.specs.Legs.{Lows}
+use Rattle.trail.proofs.Lows.{low-left, low-le}
 
--- is arc a left?
-module _ (ok m : ℕ → Bool) (a : ℕ) where
-  pub left-yes : ok a ≡ true → m a ≡ false → T (uncrossed ok m a)
-  left-yes e f = true-T (uncrossed ok m a) (ap₂ (λ (x y : Bool). x && not y) e f)
-
-  pub left-unused : ok a ≡ false → T (uncrossed ok m a) → ⊥
-  left-unused e t = false-T (ok a) e (and-left (ok a) (not (m a)) t)
-
-  pub left-crossed : m a ≡ true → T (uncrossed ok m a) → ⊥
-  left-crossed e t = T-not (m a) (and-right (ok a) (not (m a)) t) (true-T (m a) e)
-
-module _ (S n : ℕ) (tl hd : ℕ → ℕ) (ok m : ℕ → Bool) (u : ℕ) where
-  abbrev U : ℕ → Type 0
-  U a = T (uncrossed ok m a)
-
+module _ (S n : ℕ) (tl hd : ℕ → ℕ) (ok : ℕ → Bool) (low : ℕ → ℕ) (u : ℕ) where
   abbrev D : ℕ → ℕ
-  D a = dist S n tl hd ok u (tl a)
+  D y = dist S n tl hd ok u y
 
-  -- of the arcs below a that are left, r is the nearest and d its distance; or none is left, r is n and d above every distance
-  pub record Best (a r d : ℕ) : Type 0 where
-    pub found : ((r < a) × U r × (d ≡ D r)) ⊎ ((r ≡ n) × (d ≡ S + 1))
-    pub closest : (b : ℕ) → b < a → U b → d ≤ D b
-    pub lowest : (b : ℕ) → b < r → b < a → U b → D b ≡ d → ⊥
+  module _ (m : ℕ → Bool) where
+    -- what the search goes by: the distance, then the label
+    abbrev pub key : ℕ → ℕ
+    key b = D (tl b) * (2 * maxLinks) + b
 
-  pub best-none : Best 0 n (S + 1)
-  best-none = record { found = inr (refl, refl); closest = λ b h. absurd (omega arith); lowest = λ b _ h. absurd (omega arith) }
+    -- of the uncrossed arcs that leave switches below y, r is the one with the least key, k; or there is none, and k is above every key
+    pub record Best (y r k : ℕ) : Type 0 where
+      pub found : ((r < n) × T (uncrossed ok m r) × (k ≡ key r)) ⊎ ((r ≡ n) × (k ≡ S * (2 * maxLinks) + n))
+      pub first : (b : ℕ) → b < n → T (uncrossed ok m b) → tl b < y → k ≤ key b
 
-  -- arc a is not left, or no nearer
-  pub best-stay : (a r d r′ d′ : ℕ) → r′ ≡ r → d′ ≡ d → (U a → d ≤ D a) → Best a r d → Best (a + 1) r′ d′
-  best-stay a r d r′ d′ e f k p = subst (λ (x : ℕ). Best (a + 1) x d′) (sym e) (subst (Best (a + 1) r) (sym f) (record {
-    found = ⊎-elim (λ q. inl (omega (arith, q .0), q .1, q .2)) inr (p .found);
-    closest = upto {P = (λ b. U b → d ≤ D b)} {i = a} (p .closest) k;
-    lowest = λ b h _ t z. p .lowest b h (⊎-elim (λ q. omega (arith, h, q .0)) (λ q. absurd (omega (arith, q .1, z, dist-top S n tl hd ok u (tl b)))) (p .found)) t z;
-  }))
+    module _ (lows : Lows S n tl ok low m) where
+      -- one that leaves u itself is nearest
+      pub here : u < S → low u < n → low u ≡ nearest S n tl hd ok m u
+      here h i =
+          let z : D (tl (low u)) ≡ 0 = ap D (lows .labels u h i .1) ∙ dist-self S n tl hd ok u in
+          sym (nearest-is S n tl hd ok m u (low u) (record {
+            is-arc = i;
+            is-left = low-left lows u h i;
+            closest = λ b k t. omega (arith, z);
+            lowest = λ b k t e. omega (arith, k, low-le lows u b (omega (arith, k, i)) t (sym (dist-zero S n tl hd ok u (tl b) (omega arith) (e ∙ z))));
+          }))
 
-  -- arc a is left and nearer
-  pub best-new : (a r d r′ d′ : ℕ) → r′ ≡ a → d′ ≡ D a → d′ < d → U a → Best a r d → Best (a + 1) r′ d′
-  best-new a r d r′ d′ e f l t p = subst (λ (x : ℕ). Best (a + 1) x d′) (sym e) (record {
-    found = inl (omega arith, t, f);
-    closest = upto {P = (λ b. U b → d′ ≤ D b)} {i = a} (λ b h v. omega (arith, l, p .closest b h v)) (λ _. omega arith);
-    lowest = λ b h _ v z. omega (arith, l, z, p .closest b h v);
-  })
+      pub best-none : Best 0 n (S * (2 * maxLinks) + n)
+      best-none = record { found = inr (refl, refl); first = λ b l t h. absurd (omega arith) }
 
-  -- a label, or the number of labels
-  pub best-top : (a r d : ℕ) → a ≤ n → Best a r d → r ≤ n
-  best-top a r d h p = ⊎-elim (λ q. omega (arith, h, q .0)) (λ q. omega (arith, q .0)) (p .found)
+      module _ (y r k : ℕ) (best : Best y r k) where
+        -- the arcs of switch y are no better, or the lowest of them is the best
+        pub best-stay : (r′ k′ : ℕ) → r′ ≡ r → k′ ≡ k → (low y < n → k ≤ D y * (2 * maxLinks) + low y) → Best (y + 1) r′ k′
+        best-stay r′ k′ e f h = subst (λ (q : ℕ). Best (y + 1) q k′) (sym e) (subst (Best (y + 1) r) (sym f) (record {
+          found = best .found;
+          first = λ b l t i.
+              ⊎-elim (λ q. let v = low-le lows y b l t q in omega (arith, ap D q, v, h (omega (arith, v, l)))) (λ q. best .first b l t (omega (arith, q))) (eq? (tl b) y);
+        }))
 
-  pub best-all : (a r d : ℕ) → a ≡ n → Best a r d → r ≡ nearest S n tl hd ok m u
-  best-all a r d e p = ⊎-elim
-      (λ q. sym (nearest-is S n tl hd ok m u r (record {
-        is-arc = omega (arith, q .0);
-        is-left = q .1;
-        closest = λ b h v. omega (arith, q .2, p .closest b (omega arith) v);
-        lowest = λ b h v z. p .lowest b h (omega (arith, h, q .0)) v (z ∙ sym (q .2));
-      })))
-      (λ q. q .0 ∙ sym (nearest-none S n tl hd ok m u (λ b h v. omega (arith, q .1, p .closest b (omega arith) v, dist-top S n tl hd ok u (tl b)))))
-      (p .found)
+        pub best-new : (r′ k′ : ℕ) → r′ ≡ low y → k′ ≡ D y * (2 * maxLinks) + low y → k′ < k → y < S → low y < n → Best (y + 1) r′ k′
+        best-new r′ k′ e f h i j = subst (λ (q : ℕ). Best (y + 1) q k′) (sym e) (record {
+          found = inl (j, low-left lows y i j, omega (arith, f, ap D (lows .labels y i j .1)));
+          first = λ b l t o. ⊎-elim (λ q. omega (arith, f, ap D q, low-le lows y b l t q)) (λ q. omega (arith, h, best .first b l t (omega (arith, q)))) (eq? (tl b) y);
+        })
+
+      pub best-all : n ≤ 2 * maxLinks → ((b : ℕ) → b < n → T (ok b) → tl b < S) → (y r k : ℕ) → S ≤ y → Best y r k → r ≡ nearest S n tl hd ok m u
+      best-all few inside y r k h best = ⊎-elim
+          (λ q. sym (nearest-is S n tl hd ok m u r (record {
+            is-arc = q .0;
+            is-left = q .1;
+            closest = λ b i t. omega (arith, q .2, few, q .0, i, least b i t);
+            lowest = λ b i t e. omega (arith, q .2, i, e, least b (omega (arith, i, q .0)) t);
+          })))
+          (λ q. q .0 ∙ sym (nearest-none S n tl hd ok m u (λ b i t. omega (arith, q .1, i, least b i t, dist-top S n tl hd ok u (tl b)))))
+          (best .found)
+        where
+          least : (b : ℕ) → b < n → T (uncrossed ok m b) → k ≤ key b
+          least b i t = best .first b i t (omega (arith, h, inside b i (and-left (ok b) (not (m b)) t)))

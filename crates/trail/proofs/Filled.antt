@@ -1,44 +1,123 @@
--- A buffer that is filled and a list that is compared, place by place; a list that begins with another of its length is that. Assumes nothing.
+-- A buffer that is filled and a list that is compared, place by place and list by list; a list that begins with another of its length is that. Assumes nothing.
 use mathlib.Core.Path.{_≡_, refl, sym, ap, ap₂, _∙_, subst}
 use mathlib.Core.Logic.{_↔_}
-use mathlib.Core.Bool.{Bool, true, false, _&&_}
-use mathlib.Core.List.{List, [], _∷_}
+use mathlib.Core.Bool.{Bool, true, false, _&&_, and-assoc}
+use mathlib.Core.List.{List, [], _∷_, _++_}
 use Prim.Native.Nat.{ℕ, _+_, _≤_, _<_}
 use native.Mathlib.Omega.{arith}
 use native.Mathlib.Numerals.{add-one}
 use borrow.Author.Tests.{eqb-true, eq-eqb, ne-eqb}
 use lib.Dec.{eqb}
-use lib.ListN.{length, getD, set, drop, drop-of-length-le}
-use lib.Seq.{sets, drop-cons}
+use lib.ListN.{length, getD, set, drop, length-set, length-append, drop-of-length-le}
+use lib.Seq.{sets, drop-cons, drop-drop}
+use Rattle.lists.proofs.Arrays.{sets-append, sets-front, laid}
 use Rattle.lists.proofs.Tests.{and-true}
-use Rattle.trail.specs.Filled.{beginsWith}
+use Rattle.trail.specs.declared.Compared.{Compared}
+use Rattle.trail.specs.declared.Compared.the-variants.{Same, Other}
+use Rattle.trail.specs.Filled.{filledWith, beginsWith, Tells}
+use Rattle.trail.specs.Legs.{Laid, TellsFrom}
 
--- a list stored from place i on: its first, then the others
-pub store-one : (b w v : List ℕ) (i a : ℕ) → w ≡ a ∷ v → sets b i w ≡ sets (set b i a) (i + 1) v
-store-one b w v i a e = ap (sets b i) e ∙ ap (λ (k : ℕ). sets (set b i a) k v) (sym (add-one i))
+-- the list l is w and then v
+pub record Splits (l w v : List ℕ) : Type 0 where
+  pub is : l ≡ w ++ v
 
--- ---- a lent list compared from place i on
+-- ---- what is left to store
 
-module _ (l w v : List ℕ) (i a : ℕ) (e : w ≡ a ∷ v) where
-  pub begins-short : length l ≤ i → beginsWith (drop i l) w ≡ false
-  unfolding beginsWith
-  begins-short h = ap₂ beginsWith (drop-of-length-le l h) e
+-- to store w into b from place i on makes what w₀ makes in b₀ from place i₀ on
+pub record Stored (b₀ : List ℕ) (i₀ : ℕ) (w₀ b : List ℕ) (i : ℕ) (w : List ℕ) : Type 0 where
+  pub long : length b ≡ length b₀
+  pub counted : i + length w ≡ i₀ + length w₀
+  pub makes : sets b i w ≡ sets b₀ i₀ w₀
 
-  module _ (h : i < length l) where
-    -- by what the first comparison says
-    first : (b : Bool) → eqb (getD l i 0) a ≡ b → beginsWith (drop i l) w ≡ b && beginsWith (drop (i + 1) l) v
-    unfolding beginsWith
-    first b q = ap₂ beginsWith (drop-cons l i 0 h) e ∙ ap₂ (λ (c : Bool) (k : ℕ). c && beginsWith (drop k l) v) q (sym (add-one i))
+module _ {b₀ : List ℕ} {i₀ : ℕ} {w₀ : List ℕ} where
+  pub stored-none : {w : List ℕ} → w₀ ≡ w → Stored b₀ i₀ w₀ b₀ i₀ w
+  stored-none e = record { long = refl; counted = omega (arith, ap length e); makes = ap (sets b₀ i₀) (sym e) }
 
-    pub begins-differs : (getD l i 0 ≡ a → ⊥) → beginsWith (drop i l) w ≡ false
-    begins-differs f = first false (ne-eqb (getD l i 0) a f)
+  module _ {b : List ℕ} {i : ℕ} {w : List ℕ} (s : Stored b₀ i₀ w₀ b i w) where
+    pub stored-one : {a : ℕ} {v : List ℕ} → w ≡ a ∷ v → Stored b₀ i₀ w₀ (set b i a) (i + 1) v
+    stored-one {a} {v} e = record {
+      long = length-set b i a ∙ s .long;
+      counted = omega (arith, s .counted, ap length e);
+      makes = ap (λ (k : ℕ). sets (set b i a) k v) (add-one i) ∙ ap (sets b i) (sym e) ∙ s .makes;
+    }
 
-    pub begins-one : getD l i 0 ≡ a → beginsWith (drop i l) w ≡ beginsWith (drop (i + 1) l) v
-    begins-one f = first true (eq-eqb (getD l i 0) a f)
+    pub stored-room : {x v : List ℕ} → Splits w x v → i₀ + length w₀ ≤ length b₀ → i + length x ≤ length b
+    stored-room {x} {v} e h = omega (arith, s .long, s .counted, ap length (e .is), length-append x v)
 
-pub begins-none : (l w : List ℕ) → w ≡ [] → beginsWith l w ≡ true
+    pub stored-list : {x v b′ : List ℕ} {j : ℕ} → Splits w x v → Laid x b i b′ j → Stored b₀ i₀ w₀ b′ j v
+    stored-list {x} {v} {b′} {j} e l = record {
+      long = laid b b′ i x (l .makes) ∙ s .long;
+      counted = omega (arith, s .counted, ap length (e .is), length-append x v, l .after);
+      makes = ap₂ (λ (c : List ℕ) (k : ℕ). sets c k v) (l .makes) (l .after) ∙ sets-append b i x v ∙ ap (sets b i) (sym (e .is)) ∙ s .makes;
+    }
+
+    pub stored-all : w ≡ [] → Laid w₀ b₀ i₀ b i
+    stored-all e = record { makes = sym (ap (sets b i) e) ∙ s .makes; after = omega (arith, s .counted, ap length e) }
+
+pub laid-front : {w b b′ : List ℕ} {j : ℕ} → Laid w b 0 b′ j → length w ≤ length b → b′ ≡ filledWith w b
+laid-front {w} {b} l h = l .makes ∙ sets-front b w h
+
+-- ---- what is left to compare
+
+-- l begins with w at place i just where it begins with w₀ at place i₀
+pub record Met (l : List ℕ) (i₀ : ℕ) (w₀ : List ℕ) (i : ℕ) (w : List ℕ) : Type 0 where
+  pub counted : i + length w ≡ i₀ + length w₀
+  pub begins : beginsWith (drop i l) w ≡ beginsWith (drop i₀ l) w₀
+
+begins-append : (l w v : List ℕ) → beginsWith l (w ++ v) ≡ beginsWith l w && beginsWith (drop (length w) l) v
 unfolding beginsWith
-begins-none l w e = rw e
+begins-append l [] v = refl
+begins-append [] (a ∷ w) v = refl
+begins-append (x ∷ l) (a ∷ w) v = ap (λ (c : Bool). eqb x a && c) (begins-append l w v) ∙ sym (and-assoc (eqb x a) (beginsWith l w) (beginsWith (drop (length w) l) v))
+
+module _ {l : List ℕ} {i₀ : ℕ} {w₀ : List ℕ} where
+  pub met-none : {w : List ℕ} → w₀ ≡ w → Met l i₀ w₀ i₀ w
+  met-none e = record { counted = omega (arith, ap length e); begins = ap (beginsWith (drop i₀ l)) (sym e) }
+
+  module _ {i : ℕ} {w : List ℕ} (m : Met l i₀ w₀ i w) where
+    module _ {a : ℕ} {v : List ℕ} (e : w ≡ a ∷ v) where
+      pub met-short : length l ≤ i → TellsFrom i₀ l w₀ Other
+      unfolding beginsWith
+      met-short h = sym (m .begins) ∙ ap₂ beginsWith (drop-of-length-le l h) e
+
+      -- by what the first comparison says
+      first : (b : Bool) → i < length l → eqb (getD l i 0) a ≡ b → beginsWith (drop i₀ l) w₀ ≡ b && beginsWith (drop (i + 1) l) v
+      unfolding beginsWith
+      first b h q = sym (m .begins) ∙ ap₂ beginsWith (drop-cons l i 0 h) e ∙ ap₂ (λ (c : Bool) (k : ℕ). c && beginsWith (drop k l) v) q (sym (add-one i))
+
+      pub met-differs : i < length l → (getD l i 0 ≡ a → ⊥) → TellsFrom i₀ l w₀ Other
+      met-differs h f = first false h (ne-eqb (getD l i 0) a f)
+
+      pub met-one : i < length l → getD l i 0 ≡ a → Met l i₀ w₀ (i + 1) v
+      met-one h f = record { counted = omega (arith, m .counted, ap length e); begins = sym (first true h (eq-eqb (getD l i 0) a f)) }
+
+    module _ {x v : List ℕ} (e : Splits w x v) (r : Compared) (t : TellsFrom i l x r) where
+      -- by what is told of x
+      by : (b : Bool) → beginsWith (drop i l) x ≡ b → beginsWith (drop i₀ l) w₀ ≡ b && beginsWith (drop (i + length x) l) v
+      by b q =
+          sym (m .begins)
+          ∙ ap (beginsWith (drop i l)) (e .is)
+          ∙ begins-append (drop i l) x v
+          ∙ ap₂ (λ (c : Bool) (k : List ℕ). c && beginsWith k v) q (drop-drop (length x) i l)
+
+      pub met-other : r ≡ Other → TellsFrom i₀ l w₀ Other
+      met-other q = by false (subst (TellsFrom i l x) q t)
+
+      pub met-list : {j : ℕ} → r ≡ Same j → Met l i₀ w₀ j v
+      met-list {j} q =
+          let f : (beginsWith (drop i l) x ≡ true) × (j ≡ i + length x) = subst (TellsFrom i l x) q t in record {
+            counted = omega (arith, f .1, m .counted, ap length (e .is), length-append x v);
+            begins = sym (by true (f .0) ∙ ap (λ (k : ℕ). beginsWith (drop k l) v) (sym (f .1)));
+          }
+
+    pub met-all : w ≡ [] → TellsFrom i₀ l w₀ (Same i)
+    unfolding beginsWith
+    met-all e = (sym (m .begins) ∙ ap (beginsWith (drop i l)) e, omega (arith, m .counted, ap length e))
+
+-- what is told of the last list is told of all
+pub met-last : {l w v x : List ℕ} {i : ℕ} → Met l 0 w i v → Splits v x [] → (r : Compared) → TellsFrom i l x r → Tells l w r
+met-last m e (Same j) t = let q = met-all (met-list m e (Same j) t refl) refl in (q .0, omega (arith, q .1))
+met-last m e Other t = met-other m e Other t refl
 
 -- ---- a list that begins with another and has its length is the other, and so is no other list
 

@@ -1,8 +1,7 @@
-pub mod Rows
-pub mod FirstHops
-pub mod Best
-pub mod Trails
-pub mod Walkers
-pub mod OnTheWay
-pub mod Rest
 pub mod Filled
+pub mod Lows
+pub mod Best
+pub mod Tried
+pub mod Aims
+pub mod Ways
+pub mod Along

@@ -1,4 +1,4 @@
--- The trails of document 01's starred plants and of the program's example, and one computed test over the table. Assumes nothing.
+-- The trails of document 01's starred plants and of the program's example, from switch 0, and one computed test over the table. Assumes nothing.
 use mathlib.Core.Path.{_≡_, refl}
 use mathlib.Core.List.{List, [], _∷_, map}
 use Prim.Native.Nat.{ℕ}
@@ -8,11 +8,11 @@ use Rattle.plant.specs.declared.Plant.{Plant}
 use Rattle.plant.specs.Links.{live}
 use Rattle.walks.specs.Visit.{scan, visit}
 use Rattle.walks.specs.Arcs.{tail, head}
-use Rattle.walks.specs.Graph.{arcs, others, visitFrom, visited, bridge, entered, earlier, used}
+use Rattle.walks.specs.Graph.{arcs, others, visitFrom, bridge, usedFrom}
 use Rattle.walks.specs.Cases as plants
 use Rattle.routes.specs.Distance.{sources, within, dist, hop, hops, route}
 use Rattle.routes.specs.Trail.{near, nearest, legs, trail}
-use Rattle.routes.specs.Plants.{trailOf}
+use Rattle.routes.specs.Plants.{trailFrom}
 
 pub record Row : Type 0 where
   pub plant : Plant
@@ -39,6 +39,6 @@ ringWithTail = record { plant = plants.ringWithTail .plant; labels = 0 ∷ 2 ∷
 abbrev pub table : List Row
 table = alone ∷ oneLink ∷ triangle ∷ threeParallel ∷ ringWithTail ∷ []
 
-pub as-expected : map (λ r. trailOf (r .plant)) table ≡ map (λ r. r .labels) table
-unfolding trail legs nearest near route hops hop dist within sources leastFrom count used bridge entered earlier visited visitFrom arcs others visit scan tail head live
+pub as-expected : map (λ r. trailFrom (r .plant) 0) table ≡ map (λ r. r .labels) table
+unfolding trail legs nearest near route hops hop dist within sources leastFrom count usedFrom bridge visitFrom arcs others visit scan tail head live
 as-expected = refl

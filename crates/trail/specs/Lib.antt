@@ -1,5 +1,3 @@
-pub mod Rows
-pub mod Steps
+pub mod Legs
 pub mod Filled
-pub mod Trails
 pub mod Cases

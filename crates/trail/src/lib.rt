@@ -1,33 +1,21 @@
-// The trail of a plant: the table of first hops, a walker that goes hop by hop, and the trail counted, written to a lent buffer, and compared with a lent
-// one. Inner: the functions ask of their callers what those have shown, and no call of document 01 is here. The flags of the arcs in use and the table of
-// distances are the caller's.
-ghost use mathlib.Core.Path.{_≡_};
-ghost use mathlib.Core.Bool.{true, false};
-ghost use Prim.Native.Nat.{_*_, _≤_, _<_};
-ghost use lib.Dec.{eqb};
-ghost use lib.ListN.{length, set, replicate};
-ghost use Rattle.lists.specs.Tests.{choose};
-ghost use Rattle.limits.specs.Limits.{maxSwitches, maxLinks};
-ghost use Rattle.limits.specs.Sound.{Sound};
-ghost use Rattle.walks.specs.Arcs.{head};
-ghost use Rattle.routes.specs.Plants.{trailFrom, trailOf};
-ghost use Rattle.distance.specs.Table.{cell};
-ghost use Rattle.distance.specs.Distances.{distancesIn};
-ghost use Rattle.trail.specs.Rows.{Lowered};
-ghost use Rattle.trail.specs.Steps.{Rooted, Planned, firstHopsIn, nearestIn, walkerAt, Stands};
-ghost use Rattle.trail.specs.Filled.{filledWith, Tells};
+// The trail of a network from its root, leg by leg: the legs are found, and from them the trail is laid into a lent buffer or compared with a lent one. Inner: the functions
+// ask of their callers what those have shown, and no call of document 01 is here.
+use arcs::Net;
 use plant::Plant;
-use plant::head_of;
-use plant::tail_of;
+ghost use mathlib.Core.Path.{_≡_};
+ghost use Prim.Native.Nat.{_+_, _≤_, _<_};
+ghost use lib.ListN.{length};
+ghost use Rattle.arcs.specs.Net.{Within};
+ghost use Rattle.arcs.specs.Table.{distancesIn, trailIn};
+ghost use Rattle.arcs.specs.Parts.{Parts};
+ghost use Rattle.trail.specs.Filled.{filledWith, Tells};
+ghost use Rattle.trail.specs.Legs.{routeIn, hopIn, Joined, NearestBy, LegsOf, Laid, TellsFrom};
 
-// A walker on the trail: the switch that it is at, the switch that it goes to, the nearest uncrossed arc in use, the label of its next hop, and the arcs
-// crossed. The number of labels stands for no arc and for no hop.
-pub struct Walker {
-    pub at: u8,
-    pub to: u8,
-    pub aim: u16,
-    pub next: u16,
-    pub crossed: [bool; Plant::LABELS],
+// The legs of a trail: the arc that each crosses at its end, and the hops of the whole. The last leg, back to the root, crosses none.
+pub struct Legs {
+    pub count: u16,
+    pub hops: u16,
+    pub aims: [u16; Plant::MAX_RULES],
 }
 
 // A lent slice that begins with the trail, of so many hops, or another.
@@ -36,301 +24,260 @@ pub enum Compared {
     Other,
 }
 
-// A row of first hops, with label a in each place where the distance from the arc's head, `near`, is less than that from its tail, `far`.
-fn lower(
-    near: [u8; Plant::PLACES],
-    far: [u8; Plant::PLACES],
-    row: [u16; Plant::PLACES],
-    a: u16,
-) -> [u16; Plant::PLACES]
-    ensures { λ r. ⌜ Lowered near far row a maxSwitches r ⌝ }
-{
-    let mut r = row;
-    let mut v: usize = 0;
-    while v < Plant::PLACES {
-        if near[v] < far[v] {
-            r[v] = a;
-        }
-        v += 1;
-    }
-    r
-}
-
-// From each switch to each, the lowest label of an arc in use that lessens the distance; the number of labels where there is none. The labels are tried
-// from the highest on, and a lower one takes the place of a higher.
-pub fn first_hops(
-    p: Plant,
-    used: [bool; Plant::LABELS],
-    t: [[u8; Plant::PLACES]; Plant::PLACES],
-) -> [[u16; Plant::PLACES]; Plant::PLACES]
-    requires { ⌜ Sound p ⌝ }
-    requires { ⌜ t ≡ distancesIn p used ⌝ }
-    ensures { λ r. ⌜ r ≡ firstHopsIn p used ⌝ }
-{
-    let n = 2 * p.count;
-    let none = [n; Plant::PLACES];
-    let mut h = [none; Plant::PLACES];
-    let mut a = n as usize;
-    while 0 < a {
-        a -= 1;
-        if used[a] {
-            let l = p.links[a / 2];
-            let x = tail_of(l, a) as usize;
-            let y = head_of(l, a) as usize;
-            h[x] = lower(t[y], t[x], h[x], a as u16);
-        }
-    }
-    h
-}
-
-// The uncrossed arc in use that is nearest to u, by distance and then by label; the number of labels if there is none.
+// The uncrossed arc in use that is nearest to u, by distance and then by label; the number of labels if there is none. `low` has the lowest uncrossed label of each switch.
 fn nearest(
-    p: Plant,
-    used: [bool; Plant::LABELS],
-    t: [[u8; Plant::PLACES]; Plant::PLACES],
-    crossed: [bool; Plant::LABELS],
+    net: Net,
+    tails: &[u8; Plant::LABELS],
+    heads: &[u8; Plant::LABELS],
+    used: &[bool; Plant::LABELS],
+    t: &[[u8; Plant::PLACES]; Plant::PLACES],
+    low: &[u16; Plant::PLACES],
     u: u8,
 ) -> u16
-    requires { ⌜ Sound p ⌝ }
-    requires { ⌜ t ≡ distancesIn p used ⌝ }
-    requires { ⌜ u < p .switches ⌝ }
-    ensures { λ r. ⌜ r ≡ nearestIn p used crossed u ⌝ }
+    requires { ⌜ Within net (now tails) (now heads) (now used) ⌝ }
+    requires { ⌜ now t ≡ distancesIn net (now tails) (now heads) (now used) ⌝ }
+    requires { ⌜ u < net .switches ⌝ }
+    ensures { λ r. ⌜ NearestBy net (now (tails .entry)) (now (heads .entry)) (now (used .entry)) (now (low .entry)) u r ⌝ }
 {
-    let n = 2 * p.count as usize;
+    let n = net.labels;
+    let m = net.switches as usize;
     let x = u as usize;
+    if low[x] < n {
+        return low[x];
+    }
     let mut best = n;
-    let mut least = p.switches + 1;
-    let mut a: usize = 0;
-    while a < n {
-        if used[a] {
-            if !crossed[a] {
-                let l = p.links[a / 2];
-                let y = tail_of(l, a) as usize;
-                let d = t[x][y];
-                if d < least {
-                    best = a;
-                    least = d;
-                }
+    let mut least = m * Plant::LABELS + n as usize;
+    let mut y: usize = 0;
+    while y < m {
+        let a = low[y];
+        if a < n {
+            let key = t[x][y] as usize * Plant::LABELS + a as usize;
+            if key < least {
+                best = a;
+                least = key;
             }
         }
-        a += 1;
+        y += 1;
     }
-    best as u16
+    best
 }
 
-// The label of the next hop from u: the nearest arc, if it is where the trail goes, else the first hop to there.
-fn next(via: &[[u16; Plant::PLACES]; Plant::PLACES], u: u8, to: u8, aim: u16) -> u16
-    requires { ⌜ u < maxSwitches ⌝ }
-    requires { ⌜ to < maxSwitches ⌝ }
-    ensures { λ r. ⌜ r ≡ choose (eqb u to) aim (cell (now (via .entry)) u to) ⌝ }
+// A copy of a number for each switch.
+fn copied(l: &[u16; Plant::PLACES]) -> [u16; Plant::PLACES]
+    ensures { λ r. ⌜ r ≡ now (l .entry) ⌝ }
 {
-    if u == to {
-        return aim;
-    }
-    let x = u as usize;
-    let y = to as usize;
-    via[x][y]
+    *l
 }
 
-// A walker at u that looks for the nearest arc anew. With none left it goes to the root.
-fn aimed(
-    p: Plant,
-    used: [bool; Plant::LABELS],
+// The legs of the trail. What is uncrossed is kept as the lowest uncrossed label of each switch.
+pub fn legs_of(
+    net: Net,
+    tails: &[u8; Plant::LABELS],
+    heads: &[u8; Plant::LABELS],
+    used: &[bool; Plant::LABELS],
+    first: &[u16; Plant::PLACES],
+    after: &[u16; Plant::LABELS],
     t: [[u8; Plant::PLACES]; Plant::PLACES],
-    via: &[[u16; Plant::PLACES]; Plant::PLACES],
-    root: u8,
-    crossed: [bool; Plant::LABELS],
-    u: u8,
-) -> Walker
-    requires { ⌜ Sound p ⌝ }
-    requires { ⌜ t ≡ distancesIn p used ⌝ }
-    requires { ⌜ now via ≡ firstHopsIn p used ⌝ }
-    requires { ⌜ root < p .switches ⌝ }
-    requires { ⌜ u < p .switches ⌝ }
-    ensures { λ r. ⌜ r ≡ walkerAt p used root crossed u ⌝ }
+) -> Legs
+    requires { ⌜ Parts net (now tails) (now heads) (now used) (now first) (now after) t ⌝ }
+    ensures { λ r. ⌜ LegsOf net (now (tails .entry)) (now (heads .entry)) (now (used .entry)) r ⌝ }
 {
-    let a = nearest(p, used, t, crossed, u);
-    let mut to = root;
-    if a < 2 * p.count {
+    let none = net.labels;
+    let root = net.root as usize;
+    let mut low = copied(first);
+    let mut aims = [0u16; Plant::MAX_RULES];
+    let mut k: usize = 0;
+    let mut hops: u16 = 0;
+    let mut u = net.root;
+    let mut a = nearest(net, tails, heads, used, &t, &low, u);
+    while a < none {
         let i = a as usize;
-        to = tail_of(p.links[i / 2], i);
+        let x = tails[i] as usize;
+        aims[k] = a;
+        k += 1;
+        hops += t[u as usize][x] as u16 + 1;
+        low[x] = after[i];
+        u = heads[i];
+        a = nearest(net, tails, heads, used, &t, &low, u);
     }
-    Walker {
-        at: u,
-        to,
-        aim: a,
-        next: next(via, u, to, a),
-        crossed,
+    Legs {
+        count: k as u16,
+        hops: hops + t[u as usize][root] as u16,
+        aims,
     }
 }
 
-// The walker crosses its next arc. On the way to the nearest arc that arc stays the nearest; once it is crossed, the walker looks for another.
-fn step(
-    p: Plant,
-    used: [bool; Plant::LABELS],
-    t: [[u8; Plant::PLACES]; Plant::PLACES],
-    via: &[[u16; Plant::PLACES]; Plant::PLACES],
-    root: u8,
-    w: Walker,
-) -> Walker
-    requires { ⌜ Rooted p root used ⌝ }
-    requires { ⌜ t ≡ distancesIn p used ⌝ }
-    requires { ⌜ now via ≡ firstHopsIn p used ⌝ }
-    requires { ⌜ Stands p used root w ⌝ }
-    requires { ⌜ w .next < 2 * p .count ⌝ }
-    ensures { λ r. ⌜ r ≡ walkerAt p used root (set (w .crossed) (w .next) true) (head p (w .next)) ⌝ }
-{
-    let a = w.next as usize;
-    let at = head_of(p.links[a / 2], a);
-    let mut v = w;
-    v.crossed[a] = true;
-    if v.next == v.aim {
-        return aimed(p, used, t, via, root, v.crossed, at);
-    }
-    v.at = at;
-    v.next = next(via, at, v.to, v.aim);
-    v
-}
-
-// The walker at the root, with no arc crossed.
-fn begin(
-    p: Plant,
-    used: [bool; Plant::LABELS],
-    t: [[u8; Plant::PLACES]; Plant::PLACES],
-    via: &[[u16; Plant::PLACES]; Plant::PLACES],
-    root: u8,
-) -> Walker
-    requires { ⌜ Sound p ⌝ }
-    requires { ⌜ t ≡ distancesIn p used ⌝ }
-    requires { ⌜ now via ≡ firstHopsIn p used ⌝ }
-    requires { ⌜ root < p .switches ⌝ }
-    ensures { λ r. ⌜ r ≡ walkerAt p used root (replicate (2 * maxLinks) false) root ⌝ }
-{
-    aimed(p, used, t, via, root, [false; Plant::LABELS], root)
-}
-
-// The number of hops of the trail from the root.
-fn hops_from(
-    p: Plant,
-    used: [bool; Plant::LABELS],
-    t: [[u8; Plant::PLACES]; Plant::PLACES],
-    via: &[[u16; Plant::PLACES]; Plant::PLACES],
-    root: u8,
+// The lowest label of an arc in use that leaves u and lessens the distance to `to`; the number of labels if there is none.
+fn hop(
+    net: Net,
+    tails: &[u8; Plant::LABELS],
+    heads: &[u8; Plant::LABELS],
+    used: &[bool; Plant::LABELS],
+    first: &[u16; Plant::PLACES],
+    after: &[u16; Plant::LABELS],
+    t: &[[u8; Plant::PLACES]; Plant::PLACES],
+    u: u8,
+    to: u8,
 ) -> u16
-    requires { ⌜ Rooted p root used ⌝ }
-    requires { ⌜ t ≡ distancesIn p used ⌝ }
-    requires { ⌜ now via ≡ firstHopsIn p used ⌝ }
-    ensures { λ r. ⌜ r ≡ length (trailFrom p root) ⌝ }
+    requires { ⌜ Parts net (now tails) (now heads) (now used) (now first) (now after) (now t) ⌝ }
+    requires { ⌜ Joined net (now tails) (now heads) (now used) u to ⌝ }
+    ensures { λ r. ⌜ r ≡ hopIn net (now (tails .entry)) (now (heads .entry)) (now (used .entry)) u to ⌝ }
 {
-    let n = 2 * p.count;
-    let mut w = begin(p, used, t, via, root);
-    let mut count: u16 = 0;
-    while w.next < n {
-        w = step(p, used, t, via, root, w);
-        count += 1;
+    let n = net.labels;
+    let x = u as usize;
+    let j = to as usize;
+    let d = t[x][j];
+    let mut a = first[x];
+    while a < n {
+        let y = heads[a as usize] as usize;
+        if t[y][j] < d {
+            return a;
+        }
+        a = after[a as usize];
     }
-    count
+    a
 }
 
-// The trail from the root into the front of a lent buffer that has room for it; the places after it keep their contents.
-fn fill_from(
-    p: Plant,
-    used: [bool; Plant::LABELS],
-    t: [[u8; Plant::PLACES]; Plant::PLACES],
-    via: &[[u16; Plant::PLACES]; Plant::PLACES],
-    root: u8,
+// The way from u to `to` into the buffer from place `from` on; answers the place after it.
+fn lay_way(
+    net: Net,
+    tails: &[u8; Plant::LABELS],
+    heads: &[u8; Plant::LABELS],
+    used: &[bool; Plant::LABELS],
+    first: &[u16; Plant::PLACES],
+    after: &[u16; Plant::LABELS],
+    t: &[[u8; Plant::PLACES]; Plant::PLACES],
+    u: u8,
+    to: u8,
+    buf: &mut [u16],
+    from: usize,
+) -> usize
+    requires { ⌜ Parts net (now tails) (now heads) (now used) (now first) (now after) (now t) ⌝ }
+    requires { ⌜ Joined net (now tails) (now heads) (now used) u to ⌝ }
+    requires { ⌜ from + length (routeIn net (now tails) (now heads) (now used) u to) ≤ length (now buf) ⌝ }
+    ensures { λ r. ⌜ Laid (routeIn net (now (tails .entry)) (now (heads .entry)) (now (used .entry)) u to) (now (buf .entry)) from (now (buf .exit)) r ⌝ }
+{
+    let mut at = from;
+    let mut x = u;
+    while x != to {
+        let a = hop(net, tails, heads, used, first, after, t, x, to);
+        buf[at] = a;
+        at += 1;
+        x = heads[a as usize];
+    }
+    at
+}
+
+// The trail into the front of a lent buffer that has room for it; the places after it keep their contents.
+pub fn lay(
+    net: Net,
+    tails: &[u8; Plant::LABELS],
+    heads: &[u8; Plant::LABELS],
+    used: &[bool; Plant::LABELS],
+    first: &[u16; Plant::PLACES],
+    after: &[u16; Plant::LABELS],
+    t: &[[u8; Plant::PLACES]; Plant::PLACES],
+    legs: Legs,
     buf: &mut [u16],
 )
-    requires { ⌜ Rooted p root used ⌝ }
-    requires { ⌜ t ≡ distancesIn p used ⌝ }
-    requires { ⌜ now via ≡ firstHopsIn p used ⌝ }
-    requires { ⌜ length (trailFrom p root) ≤ length (now buf) ⌝ }
-    ensures { λ _. ⌜ now (buf .exit) ≡ filledWith (trailFrom p root) (now (buf .entry)) ⌝ }
+    requires { ⌜ Parts net (now tails) (now heads) (now used) (now first) (now after) (now t) ⌝ }
+    requires { ⌜ LegsOf net (now tails) (now heads) (now used) legs ⌝ }
+    requires { ⌜ length (trailIn net (now tails) (now heads) (now used)) ≤ length (now buf) ⌝ }
+    ensures { λ _. ⌜ now (buf .exit) ≡ filledWith (trailIn net (now (tails .entry)) (now (heads .entry)) (now (used .entry))) (now (buf .entry)) ⌝ }
 {
-    let end = 2 * p.count;
-    let mut w = begin(p, used, t, via, root);
-    let mut i: usize = 0;
-    while w.next < end {
-        buf[i] = w.next;
-        w = step(p, used, t, via, root, w);
-        i += 1;
-    }
-}
-
-// Does the lent slice begin with the hops of the trail from the root? Places past them are not looked at.
-fn compare_from(
-    p: Plant,
-    used: [bool; Plant::LABELS],
-    t: [[u8; Plant::PLACES]; Plant::PLACES],
-    via: &[[u16; Plant::PLACES]; Plant::PLACES],
-    root: u8,
-    lent: &[u16],
-) -> Compared
-    requires { ⌜ Rooted p root used ⌝ }
-    requires { ⌜ t ≡ distancesIn p used ⌝ }
-    requires { ⌜ now via ≡ firstHopsIn p used ⌝ }
-    ensures { λ r. ⌜ Tells (now (lent .entry)) (trailFrom p root) r ⌝ }
-{
-    let n = 2 * p.count;
-    let mut w = begin(p, used, t, via, root);
+    let root = net.root;
+    let m = legs.count as usize;
+    let mut j: usize = 0;
+    let mut u = root;
     let mut k: usize = 0;
-    while w.next < n {
-        if lent.len() <= k {
-            return Compared::Other;
-        }
-        if lent[k] != w.next {
-            return Compared::Other;
-        }
-        w = step(p, used, t, via, root, w);
+    while k < m {
+        let a = legs.aims[k];
+        let x = a as usize;
+        let to = tails[x];
+        j = lay_way(net, tails, heads, used, first, after, t, u, to, buf, j);
+        buf[j] = a;
+        j += 1;
+        u = heads[x];
         k += 1;
     }
-    Compared::Same(k)
+    lay_way(net, tails, heads, used, first, after, t, u, root, buf, j);
 }
 
-// The number of hops of the trail of a connected plant.
-pub fn hops(
-    p: Plant,
-    used: [bool; Plant::LABELS],
-    t: [[u8; Plant::PLACES]; Plant::PLACES],
-    via: &[[u16; Plant::PLACES]; Plant::PLACES],
-) -> u16
-    requires { ⌜ Planned p used ⌝ }
-    requires { ⌜ t ≡ distancesIn p used ⌝ }
-    requires { ⌜ now via ≡ firstHopsIn p used ⌝ }
-    ensures { λ r. ⌜ r ≡ length (trailOf p) ⌝ }
+// Do the labels of the lent slice from place `from` on begin with the way from u to `to`? Then the place after it.
+fn compare_way(
+    net: Net,
+    tails: &[u8; Plant::LABELS],
+    heads: &[u8; Plant::LABELS],
+    used: &[bool; Plant::LABELS],
+    first: &[u16; Plant::PLACES],
+    after: &[u16; Plant::LABELS],
+    t: &[[u8; Plant::PLACES]; Plant::PLACES],
+    u: u8,
+    to: u8,
+    lent: &[u16],
+    from: usize,
+) -> Compared
+    requires { ⌜ Parts net (now tails) (now heads) (now used) (now first) (now after) (now t) ⌝ }
+    requires { ⌜ Joined net (now tails) (now heads) (now used) u to ⌝ }
+    ensures { λ r. ⌜ TellsFrom from (now (lent .entry)) (routeIn net (now (tails .entry)) (now (heads .entry)) (now (used .entry)) u to) r ⌝ }
 {
-    hops_from(p, used, t, via, p.start)
+    let mut i = from;
+    let mut x = u;
+    while x != to {
+        if lent.len() <= i {
+            return Compared::Other;
+        }
+        let a = hop(net, tails, heads, used, first, after, t, x, to);
+        if lent[i] != a {
+            return Compared::Other;
+        }
+        i += 1;
+        x = heads[a as usize];
+    }
+    Compared::Same(i)
 }
 
-// The trail of a connected plant into the front of a lent buffer that has room for it.
-pub fn fill(
-    p: Plant,
-    used: [bool; Plant::LABELS],
-    t: [[u8; Plant::PLACES]; Plant::PLACES],
-    via: &[[u16; Plant::PLACES]; Plant::PLACES],
-    buf: &mut [u16],
-)
-    requires { ⌜ Planned p used ⌝ }
-    requires { ⌜ t ≡ distancesIn p used ⌝ }
-    requires { ⌜ now via ≡ firstHopsIn p used ⌝ }
-    requires { ⌜ length (trailOf p) ≤ length (now buf) ⌝ }
-    ensures { λ _. ⌜ now (buf .exit) ≡ filledWith (trailOf p) (now (buf .entry)) ⌝ }
-{
-    fill_from(p, used, t, via, p.start, buf);
-}
-
-// Does the lent slice begin with the hops of the trail of a connected plant?
+// Does the lent slice begin with the hops of the trail? Places past them are not looked at.
 pub fn compare(
-    p: Plant,
-    used: [bool; Plant::LABELS],
-    t: [[u8; Plant::PLACES]; Plant::PLACES],
-    via: &[[u16; Plant::PLACES]; Plant::PLACES],
+    net: Net,
+    tails: &[u8; Plant::LABELS],
+    heads: &[u8; Plant::LABELS],
+    used: &[bool; Plant::LABELS],
+    first: &[u16; Plant::PLACES],
+    after: &[u16; Plant::LABELS],
+    t: &[[u8; Plant::PLACES]; Plant::PLACES],
+    legs: Legs,
     lent: &[u16],
 ) -> Compared
-    requires { ⌜ Planned p used ⌝ }
-    requires { ⌜ t ≡ distancesIn p used ⌝ }
-    requires { ⌜ now via ≡ firstHopsIn p used ⌝ }
-    ensures { λ r. ⌜ Tells (now (lent .entry)) (trailOf p) r ⌝ }
+    requires { ⌜ Parts net (now tails) (now heads) (now used) (now first) (now after) (now t) ⌝ }
+    requires { ⌜ LegsOf net (now tails) (now heads) (now used) legs ⌝ }
+    ensures { λ r. ⌜ Tells (now (lent .entry)) (trailIn net (now (tails .entry)) (now (heads .entry)) (now (used .entry))) r ⌝ }
 {
-    compare_from(p, used, t, via, p.start, lent)
+    let root = net.root;
+    let end = legs.count as usize;
+    let mut i: usize = 0;
+    let mut u = root;
+    let mut k: usize = 0;
+    while k < end {
+        let a = legs.aims[k];
+        let x = a as usize;
+        let to = tails[x];
+        match compare_way(net, tails, heads, used, first, after, t, u, to, lent, i) {
+            Compared::Same(j) => {
+                if lent.len() <= j {
+                    return Compared::Other;
+                }
+                if lent[j] != a {
+                    return Compared::Other;
+                }
+                i = j + 1;
+            }
+            Compared::Other => {
+                return Compared::Other;
+            }
+        }
+        u = heads[x];
+        k += 1;
+    }
+    compare_way(net, tails, heads, used, first, after, t, u, root, lent, i)
 }

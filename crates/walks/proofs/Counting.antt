@@ -10,7 +10,7 @@ use lib.Dec.{T}
 use lib.ListN.{length-map}
 use Rattle.lists.specs.Tests.{choose}
 use Rattle.lists.proofs.Agree.{in-map}
-use Rattle.lists.proofs.Tests.{T-or, T-true, and-left, and-right, and-both}
+use Rattle.lists.proofs.Tests.{T-or, T-true, T-same, and-left, and-right, and-both}
 use Rattle.lists.specs.Members.{In, memb}
 use Rattle.lists.proofs.Members.{memb→in, in→memb}
 use Rattle.lists.specs.Count.{bit, count}
@@ -21,12 +21,11 @@ use Rattle.walks.proofs.Walk.{trans, weaken}
 use Rattle.walks.specs.Visit.{rank}
 use Rattle.walks.proofs.Visit.{rank-inj}
 use Rattle.walks.specs.Arcs.{opposite, tail, head, Arc, Avoid, Valid}
-use Rattle.walks.specs.Graph.{Crosses, AllFrom, Connected, visitedFrom, reachedFrom, enteredFrom, earlierFrom, chosenFrom, usedFrom, linksFrom, bridgesFrom, arcsUsedFrom, switchesFrom, bridge, used, liveLinks, bridges, arcsUsed}
-use Rattle.walks.proofs.Live.{all-live}
-use Rattle.walks.proofs.Labels.{even-half, odd-half, opposite-half, opposite-even, crosses, crosses?, crossed-is, tail-even, head-even, tail-opposite, head-opposite, ends, ends-apart, even-arc, opposite-avoid}
-use Rattle.walks.proofs.Visited.{visited-keeps, visited-good, entered-arc, visited-reach, visited-number, visited-finds, switches-all}
+use Rattle.walks.specs.Graph.{Crosses, AllFrom, visitedFrom, reachedFrom, enteredFrom, earlierFrom, chosenFrom, usedFrom, bridgeFrom, linksFrom, bridgesFrom, arcsUsedFrom, switchesFrom, bridge, liveLinks, bridges}
+use Rattle.walks.proofs.Labels.{even-half, odd-half, opposite-half, opposite-even, crosses, crosses?, crossed-is, tail-even, head-even, tail-opposite, head-opposite, ends, ends-apart, tail-in, even-arc, opposite-avoid}
+use Rattle.walks.proofs.Visited.{visited-keeps, visited-good, entered-arc, visited-reach, visited-number, visited-finds, visited-all}
 use Rattle.walks.proofs.Tests.{walk-back, bridge-live, bridge-is}
-use Rattle.walks.proofs.Orientation.{Used, used-is, from-arc, start-in, used-from}
+use Rattle.walks.proofs.Orientation.{Used, chosen-arc, used-is, from-arc}
 
 -- of an arc and the opposite one: l tells whether the link takes part, b whether it is a bridge, c whether it was entered, x and y which end was visited first
 bits : (l b c x y : Bool) → T l → bit x + bit y ≡ 1 → bit (l && (b || choose c x y)) + bit (l && (b || choose c y x)) ≡ suc (bit b)
@@ -154,7 +153,7 @@ module _ (p : Plant) (ok : Valid p) (r : ℕ) (r-in : r < p .switches) where
   -- ---- where every switch is reached
 
   module _ (all : AllFrom p r) where
-    all-reached : (l : ℕ) → T (live p l) → T (reachedFrom p r (first p l))
+    pub all-reached : (l : ℕ) → T (live p l) → T (reachedFrom p r (first p l))
     all-reached l t = visited-finds p ok r r-in (first p l) .1 (all (first p l) (ok .first-in l t))
 
     pub links-all : linksFrom p r ≡ liveLinks p
@@ -163,33 +162,26 @@ module _ (p : Plant) (ok : Valid p) (r : ℕ) (r-in : r < p .switches) where
         count-both (p .count) (λ l. reachedFrom p r (first p l) && live p l) (live p)
         (λ l h. (and-right (reachedFrom p r (first p l)) (live p l), λ t. and-both (reachedFrom p r (first p l)) (live p l) (all-reached l t) t))
 
+    -- every bridge is reached
+    pub bridge-all : (l : ℕ) → bridgeFrom p r l ≡ bridge p l
+    bridge-all l =
+        T-same (bridgeFrom p r l) (bridge p l) (and-right (reachedFrom p r (first p l)) (bridge p l))
+        (λ t. and-both (reachedFrom p r (first p l)) (bridge p l) (all-reached l (bridge-live p l t)) t)
+
     pub bridges-all : bridgesFrom p r ≡ bridges p
     unfolding bridgesFrom bridges
-    bridges-all =
-        count-both (p .count) (λ l. reachedFrom p r (first p l) && bridge p l) (bridge p)
-        (λ l h. (and-right (reachedFrom p r (first p l)) (bridge p l), λ t. and-both (reachedFrom p r (first p l)) (bridge p l) (all-reached l (bridge-live p l t)) t))
+    bridges-all = ap (count (p .count)) (λ i l. bridge-all l i)
 
--- ---- a connected plant
+    -- the arcs in use are those that the rule chooses
+    pub used-chosen : (a : ℕ) → usedFrom p r a ≡ chosenFrom p r a
+    used-chosen a =
+        T-same (usedFrom p r a) (chosenFrom p r a) (λ t. used-is p r a .0 t .1)
+        (λ t. used-is p r a .1 (visited-all p ok r r-in all (tail p a) (tail-in p ok a (chosen-arc p r a t)), t))
 
-module _ (p : Plant) (ok : Valid p) where
-  -- an arc of each link is in use
-  pub one-used : Connected p → (l : ℕ) → T (live p l) → T (used p (2 * l)) ⊎ T (used p (2 * l + 1))
-  one-used con l t =
-      let j = start-in p ok con (first p l) (ok .first-in l t) in
-      rw (used-from p ok con (2 * l), used-from p ok con (2 * l + 1)) (one-from p ok (p .start) j l (all-reached p ok (p .start) j con l t) t)
-
-  module _ (start : p .start < p .switches) (con : Connected p) where
-    arcs-all : arcsUsed p ≡ arcsUsedFrom p (p .start)
-    unfolding arcsUsed arcsUsedFrom
-    arcs-all = ap (count (2 * p .count)) (λ i a. used-from p ok con a i)
+    -- an arc of each link is in use
+    pub one-used : (l : ℕ) → T (live p l) → T (usedFrom p r (2 * l)) ⊎ T (usedFrom p r (2 * l + 1))
+    one-used l t = one-from l (all-reached l t) t
 
     -- theorem B for all links
-    pub arcs-in-use : arcsUsed p ≡ liveLinks p + bridges p
-    arcs-in-use = omega (arith, arcs-all, arcs-from p ok (p .start) start, links-all p ok (p .start) start con, bridges-all p ok (p .start) start con)
-
-    pub arcs-in-use-all : arcsUsed p ≡ p .count + bridges p
-    arcs-in-use-all = omega (arith, arcs-in-use, all-live p)
-
-    -- the bridges are fewer than the switches
-    pub few-bridges : bridges p < p .switches
-    few-bridges = omega (arith, bridges-few p ok (p .start) start, bridges-all p ok (p .start) start con, switches-all p ok (p .start) start con)
+    pub arcs-all : arcsUsedFrom p r ≡ liveLinks p + bridges p
+    arcs-all = omega (arith, arcs-from, links-all, bridges-all)

@@ -12,3 +12,5 @@ pub mod Cycles
 pub mod Fewest
 pub mod ByLinks
 pub mod Valid
+pub mod Limits
+pub mod Rising

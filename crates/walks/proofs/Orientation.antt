@@ -6,20 +6,20 @@ use mathlib.Core.List.{List}
 use Prim.Native.Nat.{ℕ, _/_, _<_}
 use native.Mathlib.Omega.{arith}
 use lib.Dec.{T, lt→ltb}
-use Rattle.lists.proofs.Tests.{T-or, T-same, choose-true, choose-false, and-left, and-right, and-both, or-left, or-right}
+use Rattle.lists.proofs.Tests.{T-or, choose-true, choose-false, and-left, and-right, and-both, or-left, or-right}
 use Rattle.lists.specs.Members.{In}
 use Rattle.lists.proofs.Members.{memb→in, in→memb}
 use Rattle.plant.specs.declared.Plant.{Plant}
 use Rattle.plant.specs.Links.{live}
-use Rattle.walks.specs.Walk.{Walk, here, step}
+use Rattle.walks.specs.Walk.{here}
 use Rattle.walks.proofs.Walk.{trans, weaken, one, back}
 use Rattle.walks.specs.Visit.{rank}
 use Rattle.walks.proofs.Visit.{ext-refl, returns}
 use Rattle.walks.specs.Arcs.{opposite, tail, head, Arc, Valid}
-use Rattle.walks.specs.Graph.{To, Connected, arcs, visitedFrom, reachedFrom, enteredFrom, earlierFrom, chosenFrom, usedFrom, bridge, used}
-use Rattle.walks.proofs.Labels.{crosses, crossed-is, crosses-arc, opposite-half, tail-opposite, head-opposite, opposite-arc, arcs-are, tail-in}
-use Rattle.walks.proofs.Visited.{visited-run, visited-good, entered-arc, visited-reach, visited-all}
-use Rattle.walks.proofs.Tests.{to-walk, no-bridge-arc}
+use Rattle.walks.specs.Graph.{To, arcs, visitedFrom, reachedFrom, enteredFrom, earlierFrom, chosenFrom, usedFrom, bridge}
+use Rattle.walks.proofs.Labels.{crosses, crossed-is, crosses-arc, opposite-half, tail-opposite, head-opposite, opposite-arc, arcs-are}
+use Rattle.walks.proofs.Visited.{visited-run, visited-good, entered-arc, visited-reach}
+use Rattle.walks.proofs.Tests.{no-bridge-arc}
 
 module _ (p : Plant) (r : ℕ) where
   -- the switches that the visit found, and the arcs that it entered
@@ -104,34 +104,3 @@ module _ (p : Plant) (r : ℕ) where
     -- theorem A: between every two switches that are reached there is a walk over arcs in use
     pub strong : (x y : ℕ) → In x found → In y found → To p Used x y
     strong x y h i = trans (back up (visited-reach p ok r r-in x h)) (weaken use-entered (visited-reach p ok r r-in y i))
-
--- ---- a connected plant
-
-module _ (p : Plant) where
-  pub used-arc : (a : ℕ) → T (used p a) → Arc p a
-  unfolding used
-  used-arc a t = chosen-arc p (p .start) a t
-
-  module _ (ok : Valid p) (con : Connected p) where
-    -- a start that reaches a switch is a switch
-    pub start-in : (x : ℕ) → x < p .switches → p .start < p .switches
-    start-in x h = go (con x h)
-      where
-        go : To p (Arc p) (p .start) x → p .start < p .switches
-        go (here e) = omega arith
-        go (step a i e w) = omega (arith, tail-in p ok a i)
-
-    -- its arcs in use are those from its start
-    pub used-from : (a : ℕ) → used p a ≡ usedFrom p (p .start) a
-    unfolding used
-    used-from a = T-same (chosenFrom p (p .start) a) (usedFrom p (p .start) a) (λ t. used-is p (p .start) a .1 (leaves (chosen-arc p (p .start) a t), t)) (λ t. used-is p (p .start) a .0 t .1)
-      where
-        leaves : Arc p a → In (tail p a) (visitedFrom p (p .start) .ord)
-        leaves h = let i = tail-in p ok a h in visited-all p ok (p .start) (start-in (tail p a) i) con (tail p a) i
-
-    -- theorem A for every two switches
-    pub strongly-connected : (x y : ℕ) → x < p .switches → y < p .switches → (w : List ℕ) × Walk (tail p) (head p) w x y × ((a : ℕ) → In a w → T (used p a))
-    strongly-connected x y h i =
-        let j = start-in x h in
-        let all = visited-all p ok (p .start) j con in
-        to-walk p .0 (weaken (λ a t. subst T (sym (used-from a)) t) (strong p (p .start) ok j x y (all x h) (all y i)))

@@ -1,4 +1,4 @@
--- Each test against its meaning: visited or not, connected or not, a bridge or not, in terms of what is reached and of walks as lists of labels.
+-- Each test against its meaning: visited or not, all switches reached or not, a bridge or not, in terms of what is reached and of walks as lists of labels.
 -- Assumes a valid plant.
 use mathlib.Core.Path.{_≡_, sym, _∙_}
 use mathlib.Core.Logic.{_⊎_, inl, inr, ⊎-elim, _↔_}
@@ -8,13 +8,14 @@ use Prim.Native.Nat.{ℕ, _+_, _*_, _/_, _<_}
 use lib.Dec.{T, T-not, not-T}
 use Rattle.lists.proofs.Tests.{T-or, and-left, and-right, and-both}
 use Rattle.lists.specs.Members.{In, memb}
+use Rattle.lists.specs.Numbers.{every}
 use Rattle.lists.proofs.Numbers.{every-at, at-every}
 use Rattle.plant.specs.declared.Plant.{Plant}
 use Rattle.plant.specs.Links.{first, second, live}
 use Rattle.walks.specs.Walk.{Walk}
 use Rattle.walks.proofs.Walk.{weaken, one, back, walk→reach, reach→walk}
 use Rattle.walks.specs.Arcs.{opposite, tail, head, Arc, Avoid, Valid}
-use Rattle.walks.specs.Graph.{Crosses, To, Connected, Bridge, others, visitFrom, reachedFrom, connected, bridge}
+use Rattle.walks.specs.Graph.{Crosses, To, AllFrom, Bridge, others, visitFrom, reachedFrom, bridge}
 use Rattle.walks.proofs.Labels.{even-half, odd-half, crosses, crosses?, tail-even, head-even, tail-odd, head-odd, tail-opposite, head-opposite, ends, even-arc, odd-arc, opposite-avoid, others-are}
 use Rattle.walks.proofs.Visited.{finds, visited-finds}
 
@@ -35,13 +36,12 @@ module _ (p : Plant) where
   bridge-live l t = and-left (live p l) (not (memb (second p l) (visitFrom p (first p l) (others p l) .ord))) t
 
 module _ (p : Plant) (ok : Valid p) where
-  -- ---- connected
+  -- ---- every switch is reached
 
-  pub connected-is : p .start < p .switches → T (connected p) ↔ Connected p
-  unfolding connected
-  connected-is start-in = (
-    λ t x h. visited-finds p ok (p .start) start-in x .0 (every-at (p .switches) (reachedFrom p (p .start)) t x h),
-    λ con. at-every (p .switches) (reachedFrom p (p .start)) (λ x h. visited-finds p ok (p .start) start-in x .1 (con x h)),
+  pub all-is : (r : ℕ) → r < p .switches → T (every (p .switches) (reachedFrom p r)) ↔ AllFrom p r
+  all-is r r-in = (
+    λ t x h. visited-finds p ok r r-in x .0 (every-at (p .switches) (reachedFrom p r) t x h),
+    λ all. at-every (p .switches) (reachedFrom p r) (λ x h. visited-finds p ok r r-in x .1 (all x h)),
   )
 
   -- ---- a bridge

@@ -9,7 +9,7 @@ use lib.Dec.{T}
 use lib.ListN.{length}
 use Rattle.lists.specs.Members.{In, memb, Distinct}
 use Rattle.lists.proofs.Members.{memb→in, in→memb}
-use Rattle.lists.proofs.Count.{count-every, distinct-count}
+use Rattle.lists.proofs.Count.{distinct-count}
 use Rattle.plant.specs.declared.Plant.{Plant}
 use Rattle.walks.specs.Walk.{here}
 use Rattle.walks.proofs.Walk.{weaken, keeps}
@@ -133,7 +133,3 @@ module _ (p : Plant) (ok : Valid p) where
     module _ (all : AllFrom p r) where
       pub visited-all : (x : ℕ) → x < p .switches → In x (visitedFrom p r .ord)
       visited-all x h = memb→in x (visitedFrom p r .ord) (visited-finds x .1 (all x h))
-
-      pub switches-all : switchesFrom p r ≡ p .switches
-      unfolding switchesFrom
-      switches-all = count-every (p .switches) (reachedFrom p r) (λ x h. visited-finds x .1 (all x h))

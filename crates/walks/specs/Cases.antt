@@ -10,36 +10,40 @@ use Rattle.plant.specs.declared.Plant.{Plant}
 use Rattle.plant.specs.Links.{live}
 use Rattle.walks.specs.Visit.{scan, visit}
 use Rattle.walks.specs.Arcs.{tail, head}
-use Rattle.walks.specs.Graph.{arcs, others, visitFrom, visited, connected, bridge, used}
+use Rattle.walks.specs.Graph.{arcs, others, visitFrom, bridge, visitedFrom, reachedFrom, usedFrom}
 
--- the ends of the links, first and second
-abbrev pub plantOf : ℕ → ℕ → List (ℕ × ℕ) → Plant
-plantOf switches start ends = record { switches = switches; count = length ends; start = start; links = map (λ e. record { first = e .0; second = e .1; tag = 0 }) ends }
+-- the ends of the links, first and second. Its start plays no part here
+abbrev pub plantOf : ℕ → List (ℕ × ℕ) → Plant
+plantOf switches ends = record { switches = switches; count = length ends; start = 0; links = map (λ e. record { first = e .0; second = e .1; tag = 0 }) ends }
 
 pub record Row : Type 0 where
   pub plant : Plant
-  -- is it connected?
+  -- the switch that it is visited from
+  pub root : ℕ
+  -- is every switch reached?
   pub joined : Bool
   -- its bridges, by link number
   pub bridging : List ℕ
-  -- the labels of its arcs in use
+  -- the labels of the arcs in use
   pub in-use : List ℕ
-  -- its switches in the order of the visit
+  -- the switches in the order of the visit
   pub order : List ℕ
 
--- the row of a plant by the definitions
-unfoldable pub rowOf : Plant → Row
-rowOf p = record {
+-- the row of a plant and a root by the definitions
+unfoldable pub rowOf : Plant → ℕ → Row
+rowOf p r = record {
   plant = p;
-  joined = connected p;
+  root = r;
+  joined = every (p .switches) (reachedFrom p r);
   bridging = keep (bridge p) (range 0 (p .count));
-  in-use = keep (used p) (range 0 (2 * p .count));
-  order = reverse (visited p .ord);
+  in-use = keep (usedFrom p r) (range 0 (2 * p .count));
+  order = reverse (visitedFrom p r .ord);
 }
 
 abbrev pub triangle : Row
 triangle = record {
-  plant = plantOf 3 0 ((0, 1) ∷ (1, 2) ∷ (2, 0) ∷ []);
+  plant = plantOf 3 ((0, 1) ∷ (1, 2) ∷ (2, 0) ∷ []);
+  root = 0;
   joined = true;
   bridging = [];
   in-use = 0 ∷ 2 ∷ 4 ∷ [];
@@ -48,7 +52,8 @@ triangle = record {
 
 abbrev pub oneLink : Row
 oneLink = record {
-  plant = plantOf 2 0 ((0, 1) ∷ []);
+  plant = plantOf 2 ((0, 1) ∷ []);
+  root = 0;
   joined = true;
   bridging = 0 ∷ [];
   in-use = 0 ∷ 1 ∷ [];
@@ -57,7 +62,8 @@ oneLink = record {
 
 abbrev pub threeParallel : Row
 threeParallel = record {
-  plant = plantOf 2 0 ((0, 1) ∷ (0, 1) ∷ (0, 1) ∷ []);
+  plant = plantOf 2 ((0, 1) ∷ (0, 1) ∷ (0, 1) ∷ []);
+  root = 0;
   joined = true;
   bridging = [];
   in-use = 0 ∷ 3 ∷ 5 ∷ [];
@@ -66,7 +72,8 @@ threeParallel = record {
 
 abbrev pub alone : Row
 alone = record {
-  plant = plantOf 1 0 [];
+  plant = plantOf 1 [];
+  root = 0;
   joined = true;
   bridging = [];
   in-use = [];
@@ -76,7 +83,8 @@ alone = record {
 -- four switches in a row, begun at the third
 abbrev pub path : Row
 path = record {
-  plant = plantOf 4 2 ((0, 1) ∷ (1, 2) ∷ (2, 3) ∷ []);
+  plant = plantOf 4 ((0, 1) ∷ (1, 2) ∷ (2, 3) ∷ []);
+  root = 2;
   joined = true;
   bridging = 0 ∷ 1 ∷ 2 ∷ [];
   in-use = 0 ∷ 1 ∷ 2 ∷ 3 ∷ 4 ∷ 5 ∷ [];
@@ -85,7 +93,8 @@ path = record {
 
 abbrev pub ringWithTail : Row
 ringWithTail = record {
-  plant = plantOf 4 0 ((0, 1) ∷ (1, 2) ∷ (2, 0) ∷ (0, 3) ∷ []);
+  plant = plantOf 4 ((0, 1) ∷ (1, 2) ∷ (2, 0) ∷ (0, 3) ∷ []);
+  root = 0;
   joined = true;
   bridging = 3 ∷ [];
   in-use = 0 ∷ 2 ∷ 4 ∷ 6 ∷ 7 ∷ [];
@@ -95,7 +104,8 @@ ringWithTail = record {
 -- the plant of source document 003's Table I: switches s1 to s7 are 0 to 6
 abbrev pub tableOne : Row
 tableOne = record {
-  plant = plantOf 7 0 ((0, 4) ∷ (4, 1) ∷ (1, 2) ∷ (2, 5) ∷ (5, 6) ∷ (6, 3) ∷ (3, 2) ∷ (5, 4) ∷ (1, 0) ∷ []);
+  plant = plantOf 7 ((0, 4) ∷ (4, 1) ∷ (1, 2) ∷ (2, 5) ∷ (5, 6) ∷ (6, 3) ∷ (3, 2) ∷ (5, 4) ∷ (1, 0) ∷ []);
+  root = 0;
   joined = true;
   bridging = [];
   in-use = 0 ∷ 2 ∷ 4 ∷ 6 ∷ 8 ∷ 10 ∷ 12 ∷ 14 ∷ 16 ∷ [];
@@ -105,7 +115,8 @@ tableOne = record {
 -- switch 2 is joined to nothing
 abbrev pub apart : Row
 apart = record {
-  plant = plantOf 3 0 ((0, 1) ∷ []);
+  plant = plantOf 3 ((0, 1) ∷ []);
+  root = 0;
   joined = false;
   bridging = 0 ∷ [];
   in-use = 0 ∷ 1 ∷ [];
@@ -115,6 +126,6 @@ apart = record {
 abbrev pub table : List Row
 table = triangle ∷ oneLink ∷ threeParallel ∷ alone ∷ path ∷ ringWithTail ∷ tableOne ∷ apart ∷ []
 
-pub as-expected : map (λ r. rowOf (r .plant)) table ≡ table
-unfolding rowOf connected bridge used visited visitFrom arcs others visit scan tail head live every
+pub as-expected : map (λ r. rowOf (r .plant) (r .root)) table ≡ table
+unfolding rowOf bridge usedFrom visitFrom arcs others visit scan tail head live every
 as-expected = refl

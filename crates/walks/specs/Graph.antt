@@ -8,7 +8,7 @@ use lib.Dec.{eqb, ltb}
 use Rattle.lists.specs.Tests.{choose}
 use Rattle.lists.specs.Members.{In, memb}
 use Rattle.lists.specs.Count.{count}
-use Rattle.lists.specs.Numbers.{range, keep, every}
+use Rattle.lists.specs.Numbers.{range, keep}
 use Rattle.plant.specs.declared.Plant.{Plant}
 use Rattle.plant.specs.Links.{first, second, live}
 use Rattle.walks.specs.Walk.{Walk, Reach}
@@ -38,10 +38,6 @@ module _ (p : Plant) where
   abbrev pub AllFrom : ℕ → Type 0
   AllFrom r = (x : ℕ) → x < p .switches → To (Arc p) r x
 
-  -- every switch is reached from the start
-  abbrev pub Connected : Type 0
-  Connected = AllFrom (p .start)
-
   -- without link l its two ends are not joined
   abbrev pub Bridge : ℕ → Type 0
   Bridge l = To (Avoid p l) (first p l) (second p l) → ⊥
@@ -61,6 +57,13 @@ module _ (p : Plant) where
   -- without link l its ends are not joined
   unfoldable pub bridge : ℕ → Bool
   bridge l = live p l && not (memb (second p l) (visitFrom (first p l) (others l) .ord))
+
+  -- how many links take part, and how many are bridges
+  unfoldable pub liveLinks : ℕ
+  liveLinks = count (p .count) (live p)
+
+  unfoldable pub bridges : ℕ
+  bridges = count (p .count) bridge
 
   -- ---- the part of the plant that is reached from the switch r, its root
 
@@ -90,6 +93,10 @@ module _ (p : Plant) where
     unfoldable pub usedFrom : ℕ → Bool
     usedFrom a = reachedFrom (tail p a) && chosenFrom a
 
+    -- a bridge that joins reached switches
+    abbrev pub bridgeFrom : ℕ → Bool
+    bridgeFrom l = reachedFrom (first p l) && bridge l
+
     -- how many switches are reached, how many links join them, how many of these are bridges, and how many arcs are in use
     unfoldable pub switchesFrom : ℕ
     switchesFrom = count (p .switches) reachedFrom
@@ -98,35 +105,7 @@ module _ (p : Plant) where
     linksFrom = count (p .count) (λ l. reachedFrom (first p l) && live p l)
 
     unfoldable pub bridgesFrom : ℕ
-    bridgesFrom = count (p .count) (λ l. reachedFrom (first p l) && bridge l)
+    bridgesFrom = count (p .count) bridgeFrom
 
     unfoldable pub arcsUsedFrom : ℕ
     arcsUsedFrom = count (2 * p .count) usedFrom
-
-  -- ---- from the start
-
-  unfoldable pub visited : St
-  visited = visitedFrom (p .start)
-
-  unfoldable pub connected : Bool
-  connected = every (p .switches) (reachedFrom (p .start))
-
-  unfoldable pub entered : ℕ → Bool
-  entered = enteredFrom (p .start)
-
-  unfoldable pub earlier : ℕ → ℕ → Bool
-  earlier = earlierFrom (p .start)
-
-  -- the arcs in use of a plant whose switches are all reached from its start
-  unfoldable pub used : ℕ → Bool
-  used = chosenFrom (p .start)
-
-  -- how many links take part, how many are bridges, and how many arcs are in use
-  unfoldable pub liveLinks : ℕ
-  liveLinks = count (p .count) (live p)
-
-  unfoldable pub bridges : ℕ
-  bridges = count (p .count) bridge
-
-  unfoldable pub arcsUsed : ℕ
-  arcsUsed = count (2 * p .count) used

@@ -20,19 +20,18 @@ mul-n c =
 
 add-n : tie.Need-add-n Inv-loop μ-loop
 add-n c =
-    let k = c .before .before .before in
-    let r = from-room _ _ _ _ _ (k .before .before .pre .0) (c .before .before .loop-test .taken) (k .loop .inv) in
+    let k = c .before .before in
+    let r = from-room _ _ _ _ _ (k .before .before .pre .0) (c .before .loop-test .taken) (k .loop .inv) in
     omega arith
 
 loop-again : tie.Need-loop-again Inv-loop μ-loop
 loop-again c =
-    let k = c .before .before .before in
-    from-next _ _ _ _ _ _ (k .before .before .pre .1) (c .before .before .loop-test .taken) (c .wide .ensures .0) (c .wide .ensures .1) (k .loop .inv)
+    from-next _ _ _ _ _ _ (c .before .loop-test .taken) (c .byte-at .ensures .0) (c .byte-at .ensures .1) (c .before .before .loop .inv)
 
 returns : tie.Need-returns Inv-loop μ-loop
 returns c = from-start _ _ _ _ _ (c .loop-test .left) (c .before .loop .inv)
 
 pub number-at-spec : {M : Type 1} → statement M
 number-at-spec =
-    tie.close (tie.spec Inv-loop μ-loop loop-holds mul-n (λ c. omega arith) (λ c. omega arith) (λ c. omega arith) (λ c κs. search needs) add-n
+    tie.close (tie.spec Inv-loop μ-loop loop-holds mul-n (λ c. omega arith) (λ c. omega (arith, c .before .before .before .pre)) (λ c κs. search needs) add-n
     (λ c. omega arith) (λ c. omega arith) loop-again returns)

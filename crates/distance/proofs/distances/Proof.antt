@@ -1,37 +1,42 @@
--- The table of distances, level by level: after k levels the distances up to k are known. Assumes nothing.
-use mathlib.Core.Path.{_≡_, _∙_}
-use Prim.Native.Nat.{_≤_, _+_, _-_}
+-- The table of distances: the switches are tried in turn as a way. The invariant: no hops are fewer than the distance, and the switches below k have been tried. Assumes nothing.
+use Prim.Native.Nat.{_≤_, _-_}
 use native.Mathlib.Omega.{arith}
 use borrow.Author.Needs.{needs}
-use Rattle.distance.specs.Levels.{knownOf}
-use Rattle.distance.proofs.Levels.{known-none, known-all}
+use Rattle.lists.specs.Arrays.{flag, at}
+use Rattle.distance.proofs.Between.{Between, between-none, between-by, between-all}
 use Rattle.distance.proofs.distances.Statement.{statement}
 use Rattle.distance.proofs.distances.Tie as tie
 
 abbrev Inv-loop : tie.InvT-loop
-Inv-loop p used s t₀ k₀ t k = (k + 1 ≤ p .switches) × (t ≡ knownOf p used k)
+Inv-loop net tails heads used t₀ m k₀ t k = (k ≤ net .switches) × Between (net .switches) (net .labels) (at tails) (at heads) (flag used) k t
 
 abbrev μ-loop : tie.MeasureT-loop
-μ-loop p used s t₀ k₀ t k = p .switches - k
+μ-loop net tails heads used t₀ m k₀ t k = net .switches - k
 
 loop-holds : tie.Need-loop-holds Inv-loop μ-loop
-loop-holds c = let s = c .before in (omega (arith, s .pre .some-switch), c .apart .ensures ∙ known-none _ _ _ _ _ (s .pre .some-switch))
+loop-holds c =
+    let w = c .before .before .before .pre in
+    (omega arith, between-none _ _ _ _ _ (w .few-switches) (w .tail-in) (w .head-in) _ _ (c .before .before .adjacent .ensures) (c .before .diagonal .ensures))
 
-sub-loop : tie.Need-sub-loop Inv-loop μ-loop
-sub-loop c = c .before .before .pre .some-switch
-
-level-requires : tie.Need-level-requires Inv-loop μ-loop
-level-requires c κs = let s = c .before .before .before in (s .pre, (omega arith, c .before .loop .inv .1))
-
-add-k : tie.Need-add-k Inv-loop μ-loop
-add-k c = omega (arith, c .before .before .before .before .pre .few-switches, c .before .before .loop .inv .0)
+through-requires : tie.Need-through-requires Inv-loop μ-loop
+through-requires c κs =
+    let k = c .before .before .loop in
+    let few = c .before .before .before .before .before .before .pre .few-switches in
+    (few, (omega (arith, few, c .before .loop-test .taken), record { rows = k .inv .1 .near .shape .long; few = λ i h j l. omega (arith, few, k .inv .1 .near .top i j h l) }))
 
 loop-again : tie.Need-loop-again Inv-loop μ-loop
-loop-again c = (omega arith, c .level .ensures)
+loop-again c =
+    let k = c .before .before .before .loop in
+    let w = c .before .before .before .before .before .before .before .pre in
+    (omega arith, between-by _ _ _ _ _ (w .few-switches) (w .tail-in) (w .head-in) (k .k) (k .t) (k .inv .1) (c .before .before .loop-test .taken) _ (c .through .ensures))
 
 returns : tie.Need-returns Inv-loop μ-loop
-returns c = let k = c .before .loop in k .inv .1 ∙ known-all _ _ _ _ _ (k .k) (omega arith)
+returns c =
+    let k = c .before .loop in
+    let w = c .before .before .before .before .before .pre in
+    between-all _ _ _ _ _ (w .few-switches) (w .tail-in) (w .head-in) (k .k) (k .t) (k .inv .1) (omega arith)
 
 pub distances-spec : {M : Type 1} → statement M
 distances-spec =
-    tie.close (tie.spec Inv-loop μ-loop (λ c κs. search needs) loop-holds sub-loop level-requires add-k (λ c. search needs) loop-again returns)
+    tie.close (tie.spec Inv-loop μ-loop (λ c κs. search needs) (λ c κs. search needs) (λ c. search needs) loop-holds through-requires
+    (λ c. search needs) (λ c. search needs) loop-again returns)

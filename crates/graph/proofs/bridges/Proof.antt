@@ -1,45 +1,53 @@
--- `graph::bridges` meets its contract. The loop's invariant: the flags are filled below l. Assumes nothing.
-use Prim.Native.Nat.{_-_, _≤_}
+-- `graph::bridges` meets its contract. The loop's invariant: the flags below l are laid. Assumes nothing.
+use mathlib.Core.Path.{_∙_}
+use mathlib.Core.Logic.{⊎-elim}
+use mathlib.Core.Bool.{Bool, false, not, _&&_}
+use mathlib.Core.List.{List}
+use Prim.Native.Nat.{ℕ, _-_, _≤_}
 use native.Mathlib.Omega.{arith}
+use Rattle.lists.specs.Arrays.{flag}
+use Rattle.lists.proofs.Laid.{Laid, laid-none, laid-put, laid-all}
 use Rattle.limits.specs.Limits.{maxLinks}
-use Rattle.walks.specs.Graph.{bridge}
-use Rattle.lists.proofs.Filled.{Filled, filled-none, filled-put, filled-all}
 use Rattle.graph.proofs.Uses.{bridge-past}
+use Rattle.graph.proofs.Cycles.{bridge-flag}
 use Rattle.graph.proofs.bridges.Statement.{statement}
 use Rattle.graph.proofs.bridges.Tie as tie
 
+-- link l is entered, and on no cycle
+abbrev alone : List Bool → List Bool → ℕ → Bool
+alone entered c l = flag entered l && not (flag c l)
+
 abbrev Inv-loop : tie.InvT-loop
-Inv-loop p v c b₀ n l₀ b l = (l ≤ n) × Filled maxLinks (bridge p) l b
+Inv-loop tails heads v c b₀ n l₀ b l = (l ≤ n) × Laid false maxLinks (alone (v .entered) c) l b
 
 abbrev μ-loop : tie.MeasureT-loop
-μ-loop p v c b₀ n l₀ b l = n - l
-
-loop-holds : tie.Need-loop-holds Inv-loop μ-loop
-loop-holds c = (omega arith, filled-none maxLinks (bridge (c .before .before .before .before .args .p)))
-
-is-bridge-by-requires : tie.Need-is-bridge-by-requires Inv-loop μ-loop
-is-bridge-by-requires c κs =
-    let s = c .before .before .before .before .before in
-    (s .before .pre, (s .visit-all .ensures, (c .before .before .before .covered-links .ensures, omega (arith, s .before .pre .few-links))))
+μ-loop tails heads v c b₀ n l₀ b l = n - l
 
 loop-again : tie.Need-loop-again Inv-loop μ-loop
 loop-again c =
-    let k = c .before .before .loop in
-    let s = c .before .before .before .before .before .before .before in
-    (omega arith, filled-put maxLinks (bridge (s .args .p)) (k .l) (k .b) (k .inv .1) _ (omega (arith, s .pre .few-links)) (c .is-bridge-by .ensures))
+    let k = c .before .before .before in
+    let s = k .before .before .before .before in (
+      omega arith,
+      laid-put false maxLinks _ (k .loop .l) (k .loop .b) (k .loop .inv .1) _ (omega (arith, s .pre .0 .few-links, c .before .before .loop-test .taken))
+          (⊎-elim (λ w. rw (w .0 .taken) (w .1)) (λ w. rw (w .0 .left) (w .1 ∙ w .0 .left)) (c .if1 .came)),
+    )
 
 returns : tie.Need-returns Inv-loop μ-loop
 returns c =
-    let k = c .before .loop in
-    let s = c .before .before .before .before .before .before in
+    let k = c .before in
+    let s = k .before .before .before .before in
+    let same = bridge-flag (s .pre .0) (s .pre .1 .1) (k .before .covered-links .ensures) in
     record {
-      places = k .inv .1 .places;
-      tells = filled-all maxLinks (bridge (s .args .p)) (k .l) (k .b) (k .inv .1) (λ l h. bridge-past (s .args .p) l (omega arith));
+      places = k .loop .inv .1 .places;
+      tells = λ i. laid-all false maxLinks _ (k .loop .l) (k .loop .b) (k .loop .inv .1) (λ j h. same j ∙ bridge-past _ _ j (omega (arith, c .loop-test .left))) i ∙ same i;
     }
 
 pub bridges-spec : {M : Type 1} → statement M
 bridges-spec =
-    tie.close (tie.spec Inv-loop μ-loop (λ c κs. (c .pre, c .pre .start-in)) (λ c κs. (c .before .pre, c .visit-all .ensures))
-    (λ c κs. (c .before .before .pre, (c .before .visit-all .ensures, c .entry-links .ensures))) (λ c. omega arith) loop-holds
-    is-bridge-by-requires (λ c. omega (arith, c .before .before .before .before .before .before .before .pre .few-links)) (λ c. omega arith)
-    (λ c. omega arith) loop-again returns)
+    tie.close (tie.spec Inv-loop μ-loop (λ c κs. (c .pre .0, (c .pre .1 .0, c .pre .1 .1)))
+    (λ c κs. let h = c .before .before .pre in (h .0, (h .1 .0, (h .1 .1, c .before .entry-links .ensures))))
+    (λ c. omega (arith, c .before .before .before .pre .0 .few-links)) (λ c. (omega arith, laid-none false maxLinks _))
+    (λ c. omega (arith, c .before .before .before .before .before .pre .0 .few-links))
+    (λ c. omega (arith, c .before .before .loop-test .taken, c .before .before .before .before .before .before .before .pre .0 .few-links))
+    (λ c. omega (arith, c .before .before .loop-test .taken, c .before .before .before .before .before .before .before .pre .0 .few-links))
+    (λ c. omega (arith, c .before .before .loop-test .taken, c .before .before .before .before .before .before .before .pre .0 .few-links)) (λ c. omega arith) loop-again returns)

@@ -1,59 +1,95 @@
--- `graph::climb` meets its contract. The loop's invariant: what the climb has come to. Assumes nothing.
-use mathlib.Core.Path.{sym}
-use Prim.Native.Nat.{ℕ, _+_, _<_}
+-- `graph::climb` meets its contract. The loop does not read the plant, so its invariant is: of whatever plant the arrays are, what the climb has come to is right if
+-- what it began with is. Assumes nothing.
+use mathlib.Core.Path.{_≡_, refl, sym}
+use Prim.Native.Nat.{ℕ, _+_, _*_, _<_}
 use native.Mathlib.Omega.{arith}
 use lib.ListN.{getD}
-use Rattle.limits.specs.Limits.{maxSwitches}
-use Rattle.graph.proofs.Cycles.{seen-place, Climbing, climb-begin, climb-flip, Back, climb-back, climb-end}
+use Rattle.lists.specs.Arrays.{at}
+use Rattle.plant.specs.declared.Plant.{Plant}
+use Rattle.limits.specs.Limits.{maxSwitches, maxLinks}
+use Rattle.graph.specs.Inner.{acrossOf}
+use Rattle.graph.proofs.Ends.{first-end, second-end}
+use Rattle.graph.proofs.Cycles.{seen-place, Climbing, Given, climb-begin, climb-flip, Back, climb-back, climb-end}
 use Rattle.graph.proofs.climb.Statement.{statement}
 use Rattle.graph.proofs.climb.Tie as tie
 
 abbrev Inv-loop : tie.InvT-loop
-Inv-loop k p v up c₀ x₀ y₀ c x y = Climbing p (p .start) k c x y
+Inv-loop tails heads up c₀ k v x₀ y₀ c x y = (p : Plant) → Given p tails heads v up → Climbing p (v .root) k c₀ x₀ y₀ → Climbing p (v .root) k c x y
 
 abbrev μ-loop : tie.MeasureT-loop
-μ-loop k p v up c₀ x₀ y₀ c x y = getD (v .rank) x 0 + getD (v .rank) y 0
+μ-loop tails heads up c₀ k v x₀ y₀ c x y = getD (v .rank) x 0 + getD (v .rank) y 0
 
-loop-holds : tie.Need-loop-holds Inv-loop μ-loop
-loop-holds c =
-    let h = c .before .pre in
-    climb-begin _ _ (h .0) (h .0 .start-in) (h .1 .1 .1 .1 .0) (h .1 .1 .1 .1 .1)
+-- the plant is one whose arrays they are, and the climb begins rightly
+given : (c : tie.Start Inv-loop μ-loop) → let s = c .args in Given (s .p) (s .tails .now) (s .heads .now) (s .t4) (s .up .now)
+given c = let h = c .pre in record { sound = h .0; arrays = h .1 .0; visits = h .1 .1 .0; entries = h .1 .1 .1 .0 }
 
--- the two are switches
-ends : (c : tie.At-loop Inv-loop μ-loop) → (c .loop .x < maxSwitches) × (c .loop .y < maxSwitches)
-ends c = (seen-place _ _ (c .before .before .pre .0) (c .before .before .pre .0 .start-in) (c .loop .inv .x-in), seen-place _ _ (c .before .before .pre .0) (c .before .before .pre .0 .start-in) (c .loop .inv .y-in))
+begins : (c : tie.Start Inv-loop μ-loop)
+    → let s = c .args in Climbing (s .p) (s .t4 .root) (s .k) (s .c .now) (at (s .tails .now) (2 * s .k)) (at (s .heads .now) (2 * s .k))
+begins c =
+    let s = c .args in
+    let g = given c in
+    rw (first-end (s .p) (s .tails .now) (g .arrays .tails-are) (s .k), second-end (s .p) (s .heads .now) (g .arrays .heads-are) (s .k))
+    (climb-begin (g .sound) (g .visits) (c .pre .1 .1 .1 .1 .1 .0) (c .pre .1 .1 .1 .1 .1 .1))
+
+-- the two are switches that there can be
+places : (c : tie.At-loop Inv-loop μ-loop) → (c .loop .x < maxSwitches) × (c .loop .y < maxSwitches)
+places c =
+    let s = c .before .before .before in
+    let g = given s in
+    let k = c .loop .inv (s .args .p) g (begins s) in
+    (seen-place (g .sound) (g .visits) (k .x-in), seen-place (g .sound) (g .visits) (k .y-in))
+
+-- of whatever plant the arrays are: x goes back to z, if what the climb began with is right
+abbrev Goes : tie.At-loop Inv-loop μ-loop → ℕ → ℕ → ℕ → Type 0
+Goes c x y z =
+    let s = c .before .before .before .args in
+    (p : Plant) → Given p (s .tails .now) (s .heads .now) (s .t4) (s .up .now)
+    → Climbing p (s .t4 .root) (s .k) (s .c .now) (at (s .tails .now) (2 * s .k)) (at (s .heads .now) (2 * s .k))
+    → Back p (s .t4 .root) (s .t4) (s .up .now) (s .k) (c .loop .c) x y z
+
+-- and so of the plant
+here : (c : tie.At-loop Inv-loop μ-loop) (x y z : ℕ) → Goes c x y z
+    → let s = c .before .before .before .args in Back (s .p) (s .t4 .root) (s .t4) (s .up .now) (s .k) (c .loop .c) x y z
+here c x y z f = let s = c .before .before .before in f (s .args .p) (given s) (begins s)
+
+-- where the code goes from x
+abbrev Across : tie.At-loop Inv-loop μ-loop → ℕ → ℕ → Type 0
+Across c x z = let s = c .before .before .before .args in z ≡ acrossOf (at (s .tails .now)) (at (s .heads .now)) (at (s .up .now) x) x
 
 -- y goes back, or x does
-abbrev Goes : tie.At-loop Inv-loop μ-loop → ℕ → ℕ → Type 0
-Goes c x y = let s = c .before .before .args in Back (s .t1) (s .t1 .start) (s .t2) (s .t3) (s .k) (c .loop .c) x y
-
-y-back : (c : tie.Then1 Inv-loop μ-loop) → let l = c .before .before .before .before in Goes l (l .loop .y) (l .loop .x)
-y-back c =
+y-back : (c : tie.Then1 Inv-loop μ-loop) (z : ℕ) → let l = c .before .before .before .before in Across l (l .loop .y) z → Goes l (l .loop .y) (l .loop .x) z
+y-back c z e p g b =
     let n = c .before .before .before in
-    let h = n .before .before .before .pre in
-    climb-back _ _ (h .0) (h .0 .start-in) (h .1 .0) (h .1 .1 .0) (climb-flip _ _ (h .0) (h .0 .start-in) (n .before .loop .inv)) (λ e. n .loop-test .taken (sym e)) (omega (arith, c .if1 .taken))
+    climb-back (g .sound) (g .visits) (g .arrays) (g .entries) (climb-flip (g .sound) (g .visits) (n .before .loop .inv p g b)) (λ q. n .loop-test .taken (sym q))
+    (omega (arith, c .if1 .taken)) e
 
-x-back : (c : tie.Else1 Inv-loop μ-loop) → let l = c .before .before .before .before in Goes l (l .loop .x) (l .loop .y)
-x-back c =
+x-back : (c : tie.Else1 Inv-loop μ-loop) (z : ℕ) → let l = c .before .before .before .before in Across l (l .loop .x) z → Goes l (l .loop .x) (l .loop .y) z
+x-back c z e p g b =
     let n = c .before .before .before in
-    let h = n .before .before .before .pre in
-    climb-back _ _ (h .0) (h .0 .start-in) (h .1 .0) (h .1 .1 .0) (n .before .loop .inv) (n .loop-test .taken) (c .if1 .left)
+    climb-back (g .sound) (g .visits) (g .arrays) (g .entries) (n .before .loop .inv p g b) (n .loop-test .taken) (c .if1 .left) e
 
-loop-again : tie.Need-loop-again Inv-loop μ-loop
-loop-again c =
-    rw (c .far .ensures) (climb-flip _ _ (c .before .before .before .before .before .before .before .before .pre .0) (c .before .before .before .before .before .before .before .before .pre .0 .start-in) (y-back (c .before .before) .step))
+-- there is a place for the flag
+y-place : (c : tie.Then1 Inv-loop μ-loop) → let l = c .before .before .before .before in at (l .before .before .before .args .up .now) (l .loop .y) < maxLinks
+y-place c = here (c .before .before .before .before) _ _ _ (y-back c _ refl) .place
+
+x-place : (c : tie.Else1 Inv-loop μ-loop) → let l = c .before .before .before .before in at (l .before .before .before .args .up .now) (l .loop .x) < maxLinks
+x-place c = here (c .before .before .before .before) _ _ _ (x-back c _ refl) .place
 
 returns : tie.Need-returns Inv-loop μ-loop
-returns c = climb-end _ _ (c .before .before .before .pre .0) (c .before .before .before .pre .0 .start-in) (c .before .loop .inv) (c .loop-test .left)
+returns c =
+    let s = c .before .before .before .before in
+    let g = given s in
+    climb-end (g .sound) (g .visits) (c .before .loop .inv (s .args .p) g (begins s)) (c .loop-test .left)
 
 pub climb-spec : {M : Type 1} → statement M
 climb-spec =
-    tie.close (tie.spec Inv-loop μ-loop (λ c. omega (arith, c .pre .1 .1 .1 .0)) (λ c. c .pre .1 .1 .1 .0) loop-holds
-    (λ c. omega (arith, ends (c .before) .0)) (λ c. omega (arith, ends (c .before) .1)) (λ c. ends (c .before) .0)
-    (λ c. ends (c .before .before) .1) (λ c. omega (arith, ends (c .before .before .before .before) .1))
-    (λ c. ends (c .before .before .before .before) .1) (λ c. y-back c .place) (λ c. omega (arith, y-back c .place)) (λ c. y-back c .place)
-    (λ c κs. tt) (λ c. rw (c .far .ensures) (omega (arith, y-back (c .before .before) .less))) loop-again
-    (λ c. omega (arith, ends (c .before .before .before .before) .0)) (λ c. ends (c .before .before .before .before) .0) (λ c. x-back c .place)
-    (λ c. omega (arith, x-back c .place)) (λ c. x-back c .place) (λ c κs. tt)
-    (λ c. rw (c .far2 .ensures) (omega (arith, x-back (c .before .before) .less))) (λ c. rw (c .far2 .ensures) (x-back (c .before .before) .step))
-    returns)
+    tie.close (tie.spec Inv-loop μ-loop (λ c. omega (arith, c .pre .1 .1 .1 .1 .0)) (λ c. omega (arith, c .pre .1 .1 .1 .1 .0)) (λ c. omega (arith, c .before .pre .1 .1 .1 .1 .0))
+    (λ c. omega (arith, c .before .pre .1 .1 .1 .1 .0)) (λ c p g b. b) (λ c. omega (arith, places (c .before) .0)) (λ c. omega (arith, places (c .before) .1))
+    (λ c. places (c .before) .0) (λ c. places (c .before .before) .1) (λ c. omega (arith, places (c .before .before .before .before) .1))
+    (λ c. places (c .before .before .before .before) .1) (λ c. y-place (c .before)) (λ c κs. y-place (c .before))
+    (λ c. omega (arith, here (c .before .before .before .before .before .before) _ _ _ (y-back (c .before .before) _ (c .across .ensures)) .less))
+    (λ c p g b. climb-flip (g .sound) (g .visits) (y-back (c .before .before) _ (c .across .ensures) p g b .step))
+    (λ c. omega (arith, places (c .before .before .before .before) .0)) (λ c. places (c .before .before .before .before) .0)
+    (λ c. x-place (c .before)) (λ c κs. x-place (c .before))
+    (λ c. omega (arith, here (c .before .before .before .before .before .before) _ _ _ (x-back (c .before .before) _ (c .across2 .ensures)) .less))
+    (λ c p g b. x-back (c .before .before) _ (c .across2 .ensures) p g b .step) returns)

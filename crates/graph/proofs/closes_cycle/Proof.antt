@@ -1,8 +1,10 @@
 -- `graph::closes_cycle` meets its contract. Assumes nothing.
 use mathlib.Core.Path.{sym, _∙_}
+use Prim.Native.Nat.{_*_}
+use native.Mathlib.Omega.{arith}
 use borrow.Author.Needs.{needs}
 use borrow.Author.Tests.{not-true, not-false}
-use Rattle.graph.proofs.Uses.{first-place}
+use Rattle.graph.proofs.Ends.{first-end, tail-place}
 use Rattle.graph.proofs.Cycles.{closes-dead, closes-entered, closes-seen}
 use Rattle.graph.proofs.closes_cycle.Statement.{statement}
 use Rattle.graph.proofs.closes_cycle.Tie as tie
@@ -10,23 +12,28 @@ use Rattle.graph.proofs.closes_cycle.Tie as tie
 returns : tie.Need-returns
 returns c =
     let s = c .before .before in
-    sym (closes-dead _ _ (s .pre .0) (s .pre .0 .start-in) _ (sym (c .before .is-live .ensures) ∙ not-true _ (c .if1 .taken)))
+    sym (closes-dead (s .pre .0) (s .pre .1 .1 .0) _ (sym (c .before .is-live .ensures) ∙ not-true _ (c .if1 .taken)))
 
 returns-2 : tie.Need-returns-2
 returns-2 c =
-    let s = c .before .before .before .before in
-    sym (closes-entered _ _ (s .pre .0) (s .pre .0 .start-in) (s .args .l) (s .pre .1 .0) (sym (c .before .before .before .is-live .ensures) ∙ not-false _ (c .before .before .if1 .left)) (c .if2 .taken))
+    let n = c .before .before in
+    let s = n .before .before in
+    sym (closes-entered (s .pre .0) (s .pre .1 .1 .0) _ (sym (n .before .is-live .ensures) ∙ not-false _ (n .if1 .left)) (c .if2 .taken))
 
 element-copy-out-result : tie.Need-element-copy-out-result
-element-copy-out-result c = let s = c .before .before .before .before .before .before in first-place (s .args .t1) (s .args .l) (s .pre .0)
+element-copy-out-result c =
+    let s = c .before .before .before .before .before in
+    tail-place (s .args .p) (s .args .tails .now) (s .pre .1 .0) (s .pre .0) (2 * s .args .l)
 
 returns-3 : tie.Need-returns-3
 returns-3 c =
-    let s = c .before .before .before .before .before .before .before in
-    closes-seen _ _ (s .pre .0) (s .pre .0 .start-in) (s .args .l) (s .pre .1 .0)
-    (sym (c .before .before .before .before .before .before .is-live .ensures) ∙ not-false _ (c .before .before .before .before .before .if1 .left)) (c .before .before .before .if2 .left)
+    let e = c .before .before in
+    let n = e .before .before in
+    let s = n .before .before in
+    closes-seen (s .pre .0) (s .pre .1 .1 .0) _ (sym (n .before .is-live .ensures) ∙ not-false _ (n .if1 .left))
+    (first-end (s .args .p) (s .args .tails .now) (s .pre .1 .0) (s .args .l)) (e .if2 .left)
 
 pub closes-cycle-spec : {M : Type 1} → statement M
 closes-cycle-spec =
-    tie.close (tie.spec (λ c κs. search needs) returns (λ c. search needs) returns-2 (λ c. search needs) (λ c. search needs) (λ c. search needs)
-    element-copy-out-result returns-3)
+    tie.close (tie.spec (λ c κs. search needs) returns (λ c. search needs) returns-2 (λ c. search needs) (λ c. search needs)
+    (λ c. omega (arith, element-copy-out-result c)) element-copy-out-result returns-3)

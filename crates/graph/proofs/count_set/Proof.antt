@@ -32,7 +32,8 @@ loop-again c =
     let k = c .before .before .before .loop in
     let flag : ℕ → _ = λ j. getD (c .before .before .before .before .args .flags .now) j false in (
       omega arith,
-      ⊎-elim (λ w. w .1 ∙ ap (λ (m : ℕ). m + 1) (k .inv .1) ∙ sym (count-yes flag (k .i) (w .0 .taken))) (λ w. w .1 ∙ k .inv .1 ∙ sym (count-no flag (k .i) (w .0 .left))) (c .if1 .came),
+      ⊎-elim (λ w. w .1 ∙ ap (λ (m : ℕ). m + 1) (k .inv .1) ∙ sym (count-yes flag (k .i) (w .0 .taken)))
+          (λ w. w .1 ∙ k .inv .1 ∙ sym (count-no flag (k .i) (w .0 .left))) (c .if1 .came),
     )
 
 returns : tie.Need-returns Inv-loop μ-loop

@@ -1,15 +1,27 @@
 -- `graph::visit` meets its contract: the state that the visit shows is the only one that the visit's relation leads to. Assumes nothing.
 use native.Mathlib.Omega.{arith}
-use Rattle.graph.proofs.Whole.{begin-at, end-shows}
+use borrow.Author.Needs.{needs}
+use Rattle.graph.proofs.Whole.{begin-at, tails-in, heads-in, whole}
 use Rattle.graph.proofs.visit.Statement.{statement}
 use Rattle.graph.proofs.visit.Tie as tie
 
+chains-of-requires : tie.Need-chains-of-requires
+chains-of-requires c κs = let h = c .before .before .before .pre in (omega (arith, h .0 .few-links), tails-in _ (h .0) (h .1 .0) (c .before .all-arcs .ensures))
+
+visit-from-requires : tie.Need-visit-from-requires
+visit-from-requires c κs =
+    let d = c .before .before .before .before .before .before in
+    let a = d .before .before in
+    let h = a .before .before .pre in (
+      omega (arith, h .0 .few-links),
+      (heads-in _ (h .0) (h .1 .0) (a .all-arcs .ensures), (d .chains-of .ensures, rw (c .begin .ensures) (begin-at _ (omega (arith, h .0 .few-switches))))),
+    )
+
 returns : tie.Need-returns
 returns c =
-    let s = c .before .before in
-    end-shows (s .args .p) (s .args .skip) (s .args .from) (s .pre .0) (s .pre .1) _ (rw (c .before .begin .ensures) at (c .visit-from .ensures))
+    let a = c .before .before .before .before .before .before .before .before .before in
+    let h = a .before .before .pre in
+    whole _ (h .0) (h .1 .0) (a .all-arcs .ensures) _ (h .1 .1) _ (rw (c .before .begin .ensures) at (c .visit-from .ensures))
 
 pub visit-spec : {M : Type 1} → statement M
-visit-spec =
-    tie.close (tie.spec (λ c κs. omega (arith, c .pre .0 .few-switches))
-    (λ c κs. (c .before .pre .0, rw (c .begin .ensures) (begin-at _ _ (c .before .pre .0) (c .before .pre .1)))) returns)
+visit-spec = tie.close (tie.spec (λ c. search needs) (λ c κs. search needs) chains-of-requires (λ c κs. search needs) visit-from-requires returns)

@@ -1,13 +1,12 @@
 -- `listing::judge_links` meets its contract: the links from i on are judged as all of them are. Assumes nothing.
 use mathlib.Core.Path.{_≡_, refl, _∙_}
 use Prim.Native.Nat.{_-_, _≤_}
+use native.Mathlib.Omega.{arith}
 use borrow.Author.Needs.{needs}
 use lib.ListN.{drop}
 use Rattle.answers.specs.Checks.{answer}
-use Rattle.limits.specs.Limits.{maxLinks}
 use Rattle.listing.specs.Listing.{linksOf}
 use Rattle.listing.specs.Writing.{soundLinks}
-use Rattle.lists.proofs.Arrays.{sized}
 use Rattle.listing.proofs.WriteLaws.{judge-on, judge-refused, judge-all}
 use Rattle.listing.proofs.judge_links.Statement.{statement}
 use Rattle.listing.proofs.judge_links.Tie as tie
@@ -24,25 +23,24 @@ loop-holds c = (search needs, refl)
 
 returns : tie.Need-returns Inv-loop μ-loop
 returns c =
-    let k = c .before .before .before .before .before .before .before .before in
-    let long = sized _ (k .before .args .t1 .links) maxLinks (k .before .good .0 .1 .1 .1 .1 .1 .0 .1 .0 .1) in
-    judge-refused (k .before .args .t1) long (k .before .pre) (k .loop .i) _ (c .before .before .before .judge-ends .ensures _) (c .before .before .before .before .before .before .before .loop-test .taken) _ (c .before .k .given .1)
+    let t = c .before .before .before .before .before .before .before in
+    let k = t .before in
+    judge-refused (k .before .before .args .t1) (k .loop .i) _ (c .before .before .before .judge-ends .ensures _) (omega (arith, t .loop-test .taken, k .before .links-held .ensures .0)) _ (c .before .k .given .1)
     ∙ k .loop .inv .1
 
 loop-again : tie.Need-loop-again Inv-loop μ-loop
 loop-again c =
-    let k = c .before .before .before .before .before .before .before in
-    let long = sized _ (k .before .args .t1 .links) maxLinks (k .before .good .0 .1 .1 .1 .1 .1 .0 .1 .0 .1) in (
+    let t = c .before .before .before .before .before .before in
+    let k = t .before in (
       search needs,
-      judge-on (k .before .args .t1) long (k .before .pre) (k .loop .i) _ (c .before .before .judge-ends .ensures _) (c .before .before .before .before .before .before .loop-test .taken) (c .enum-told .given .1)
+      judge-on (k .before .before .args .t1) (k .loop .i) _ (c .before .before .judge-ends .ensures _) (omega (arith, t .loop-test .taken, k .before .links-held .ensures .0)) (c .enum-told .given .1)
           ∙ k .loop .inv .1,
     )
 
 returns-2 : tie.Need-returns-2 Inv-loop μ-loop
 returns-2 c =
     let k = c .before in
-    let long = sized _ (k .before .args .t1 .links) maxLinks (k .before .good .0 .1 .1 .1 .1 .1 .0 .1 .0 .1) in
-    judge-all (k .before .args .t1) long (k .before .pre) (k .loop .i) (c .loop-test .left) ∙ k .loop .inv .1
+    judge-all (k .before .before .args .t1) (k .loop .i) (omega (arith, c .loop-test .left, k .before .links-held .ensures .0)) ∙ k .loop .inv .1
 
 pub judge-links-spec : {M : Type 1} → statement M
 judge-links-spec =

@@ -1,7 +1,6 @@
 -- `listing::judge_plant` meets its contract. Assumes nothing.
 use mathlib.Core.Path.{sym, _∙_}
 use borrow.Author.Tests.{not-true, not-false}
-use Rattle.listing.proofs.SoundLaws.{in-range}
 use Rattle.listing.proofs.WriteLaws.{plant-range, plant-places, plant-links}
 use borrow.Author.Needs.{needs}
 use Rattle.listing.proofs.judge_plant.Statement.{statement}
@@ -14,9 +13,6 @@ returns-2 : tie.Need-returns-2
 returns-2 c =
     plant-places _ (sym (c .before .before .before .out-of-range .ensures) ∙ c .before .before .if1 .left) (sym (c .before .places-zero .ensures) ∙ not-true _ (c .if2 .taken))
 
-judge-links-requires : tie.Need-judge-links-requires
-judge-links-requires c κs = in-range _ _ _ (sym (c .before .before .before .out-of-range .ensures) ∙ c .before .before .if1 .left) .few-links
-
 returns-3 : tie.Need-returns-3
 returns-3 c =
     c .judge-links .ensures
@@ -25,4 +21,4 @@ returns-3 c =
 pub judge-plant-spec : {M : Type 1} → statement M
 judge-plant-spec =
     tie.close (tie.spec (λ c. search needs) (λ c. search needs) (λ c. search needs) (λ c κs. search needs) returns (λ c κs. search needs) returns-2
-    judge-links-requires returns-3)
+    (λ c κs. search needs) returns-3)

@@ -4,10 +4,8 @@ use Prim.Native.Nat.{_+_, _-_, _*_, _≤_}
 use native.Mathlib.Omega.{arith}
 use borrow.Author.Needs.{needs}
 use lib.ListN.{length, drop}
-use Rattle.lists.proofs.Arrays.{sized}
 use Rattle.plant.specs.declared.Link.{Link}
 use Rattle.plant.specs.Links.{linkAt}
-use Rattle.limits.specs.Limits.{maxLinks}
 use Rattle.listing.specs.Listing.{linksOf, linksBytes, encode}
 use Rattle.listing.proofs.WriteLaws.{header-by, link-by, size-next, left-none, encode-size}
 use Rattle.listing.proofs.listing_size.Statement.{statement}
@@ -24,7 +22,7 @@ loop-holds : tie.Need-loop-holds Inv-loop μ-loop
 loop-holds c =
     let z = c .before in
     let y = z .before .before in
-    let p = y .before .args .t1 in
+    let p = y .before .before .args .t1 in
     let e = z .part-size .ensures .0 ∙ ap length (header-by p (y .header-layout .ensures) (z .before .header-values .ensures)) in
     (omega arith, omega (arith, z .part-size .ensures .1, y .header-layout .ensures .proper .few), omega (arith, encode-size p, ap (λ (l : Link). length (linksBytes l (linksOf p))) (c .zero .ensures)))
 
@@ -36,17 +34,17 @@ loop-again c =
     let y = c .before .before in
     let k = y .before .before .before in
     let a = k .before .before .before .before .before in
-    let e = c .part-size2 .ensures .0 ∙ ap length (link-by (k .loop .before) (linkAt (a .args .t1) (k .loop .i)) (y .link-layout .ensures) (c .before .link-values .ensures)) in (
+    let e = c .part-size2 .ensures .0 ∙ ap length (link-by (k .loop .before) (linkAt (a .before .args .t1) (k .loop .i)) (y .link-layout .ensures) (c .before .link-values .ensures)) in (
       omega arith,
       omega (arith, c .part-size2 .ensures .1, y .link-layout .ensures .proper .few, k .loop .inv .1),
-      omega (arith, k .loop .inv .2, size-next (a .args .t1) (sized _ (a .args .t1 .links) maxLinks (a .good .0 .1 .1 .1 .1 .1 .0 .1 .0 .1)) (a .pre) (k .loop .i) (k .loop .before) (y .before .before .loop-test .taken)),
+      omega (arith, k .loop .inv .2, size-next (a .before .args .t1) (k .loop .i) (k .loop .before) (omega (arith, y .before .before .loop-test .taken, a .links-held .ensures .0))),
     )
 
 returns : tie.Need-returns Inv-loop μ-loop
 returns c =
     let k = c .before in
     let a = k .before .before .before .before .before in
-    omega (arith, k .loop .inv .2, ap length (left-none (a .args .t1) (sized _ (a .args .t1 .links) maxLinks (a .good .0 .1 .1 .1 .1 .1 .0 .1 .0 .1)) (a .pre) (k .loop .i) (k .loop .before) (c .loop-test .left)))
+    omega (arith, k .loop .inv .2, ap length (left-none (a .before .args .t1) (k .loop .i) (k .loop .before) (omega (arith, c .loop-test .left, a .links-held .ensures .0))))
 
 pub listing-size-spec : {M : Type 1} → statement M
 listing-size-spec =

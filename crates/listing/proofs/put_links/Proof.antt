@@ -3,9 +3,7 @@ use Prim.Native.Nat.{_+_, _-_, _≤_}
 use native.Mathlib.Omega.{arith}
 use borrow.Author.Needs.{needs}
 use lib.ListN.{drop}
-use Rattle.lists.proofs.Arrays.{sized}
 use Rattle.plant.specs.Links.{zeroLink, linkAt}
-use Rattle.limits.specs.Limits.{maxLinks}
 use Rattle.codec.proofs.PutLaws.{Laid, laid-none, laid-room, laid-one, laid-all}
 use Rattle.listing.specs.Listing.{linksOf, linkBytes, linksBytes}
 use Rattle.listing.proofs.WriteLaws.{link-by, left-next, left-none}
@@ -26,11 +24,11 @@ put-part-requires : tie.Need-put-part-requires Inv-loop μ-loop
 put-part-requires c κs =
     let y = c .before in
     let k = y .before .before .before .before in
-    let a = k .before .before .before in
-    let l = linkAt (a .args .t1) (k .loop .i) in (
+    let a = k .before .before in
+    let l = linkAt (a .before .before .args .t1) (k .loop .i) in (
       y .link-layout .ensures .proper,
       rw (link-by (k .loop .before) l (y .link-layout .ensures) (c .link-values .ensures))
-          (laid-room _ _ _ _ (linkBytes (k .loop .before) l) (linksBytes l (drop (k .loop .i + 1) (linksOf (a .args .t1)))) _ _ (k .loop .inv .1) (left-next (a .args .t1) (sized _ (a .args .t1 .links) maxLinks (a .good .0 .1 .1 .1 .1 .1 .0 .1 .0 .1)) (a .pre .0) (k .loop .i) (k .loop .before) (y .before .before .before .loop-test .taken)) (a .pre .1)),
+          (laid-room _ _ _ _ (linkBytes (k .loop .before) l) (linksBytes l (drop (k .loop .i + 1) (linksOf (a .before .before .args .t1)))) _ _ (k .loop .inv .1) (left-next (a .before .before .args .t1) (k .loop .i) (k .loop .before) (omega (arith, y .before .before .before .loop-test .taken, a .links-held .ensures .0))) (a .before .before .pre)),
     )
 
 loop-again : tie.Need-loop-again Inv-loop μ-loop
@@ -38,11 +36,11 @@ loop-again c =
     let w = c .before .before in
     let y = w .before .before in
     let k = y .before .before .before .before in
-    let a = k .before .before .before in
-    let l = linkAt (a .args .t1) (k .loop .i) in
+    let a = k .before .before in
+    let l = linkAt (a .before .before .args .t1) (k .loop .i) in
     let e = link-by (k .loop .before) l (y .link-layout .ensures) (w .before .link-values .ensures) in (
       omega arith,
-      laid-one _ _ _ _ (linkBytes (k .loop .before) l) (linksBytes l (drop (k .loop .i + 1) (linksOf (a .args .t1)))) _ _ (k .loop .inv .1) (left-next (a .args .t1) (sized _ (a .args .t1 .links) maxLinks (a .good .0 .1 .1 .1 .1 .1 .0 .1 .0 .1)) (a .pre .0) (k .loop .i) (k .loop .before) (y .before .before .before .loop-test .taken))
+      laid-one _ _ _ _ (linkBytes (k .loop .before) l) (linksBytes l (drop (k .loop .i + 1) (linksOf (a .before .before .args .t1)))) _ _ (k .loop .inv .1) (left-next (a .before .before .args .t1) (k .loop .i) (k .loop .before) (omega (arith, y .before .before .before .loop-test .taken, a .links-held .ensures .0)))
           _ _ (rw e at (w .put-part .ensures .0)) (rw e at (w .put-part .ensures .1)),
     )
 
@@ -52,8 +50,8 @@ same-length c = c .before .loop .inv .1 .same
 returns : tie.Need-returns Inv-loop μ-loop
 returns c =
     let k = c .before in
-    let a = k .before .before .before in
-    laid-all _ _ _ _ _ (rw (left-none (a .args .t1) (sized _ (a .args .t1 .links) maxLinks (a .good .0 .1 .1 .1 .1 .1 .0 .1 .0 .1)) (a .pre .0) (k .loop .i) (k .loop .before) (c .loop-test .left)) at (k .loop .inv .1)) .1
+    let a = k .before .before in
+    laid-all _ _ _ _ _ (rw (left-none (a .before .before .args .t1) (k .loop .i) (k .loop .before) (omega (arith, c .loop-test .left, a .links-held .ensures .0))) at (k .loop .inv .1)) .1
 
 pub put-links-spec : {M : Type 1} → statement M
 put-links-spec =

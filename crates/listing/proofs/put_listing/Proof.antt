@@ -12,17 +12,15 @@ put-part-requires : tie.Need-put-part-requires
 put-part-requires c κs =
     let y = c .before in
     let k = y .before .before .before in
-    (y .header-layout .ensures .proper, rw (header-by (k .args .p) (y .header-layout .ensures) (c .header-values .ensures)) (omega (arith, k .pre .1, encode-size (k .args .p))))
+    (y .header-layout .ensures .proper, rw (header-by (k .args .p) (y .header-layout .ensures) (c .header-values .ensures)) (omega (arith, k .pre, encode-size (k .args .p))))
 
 put-links-requires : tie.Need-put-links-requires
 put-links-requires c κs =
     let h = c .before .before .before in
     let y = h .before .before in
     let k = y .before .before .before in
-    let e = header-by (k .args .p) (y .header-layout .ensures) (h .before .header-values .ensures) in (
-      k .pre .0,
-      omega (arith, k .pre .1, encode-size (k .args .p), rw e at (h .put-part .ensures .0), laid (k .args .buf .now) (h .put-part .last .0) 0 (headerBytes (k .args .p)) (rw e at (h .put-part .ensures .1))),
-    )
+    let e = header-by (k .args .p) (y .header-layout .ensures) (h .before .header-values .ensures) in
+    omega (arith, k .pre, encode-size (k .args .p), rw e at (h .put-part .ensures .0), laid (k .args .buf .now) (h .put-part .last .0) 0 (headerBytes (k .args .p)) (rw e at (h .put-part .ensures .1)))
 
 returns : tie.Need-returns
 returns c =

@@ -5,7 +5,6 @@ use lib.Seq.{length-take-le}
 use borrow.Author.Needs.{needs}
 use Rattle.order.proofs.Rings.{place-in}
 use Rattle.packet.specs.Runs.{endOf}
-use Rattle.packet.proofs.Rules.{probe-runs}
 use Rattle.packet.proofs.Probes.{rest-length, injected-hops, after-hops, ring-is}
 use Rattle.packet.proofs.full_check.Statement.{statement}
 use Rattle.packet.proofs.full_check.Tie as tie
@@ -14,7 +13,7 @@ run-on-requires : tie.Need-run-on-requires
 run-on-requires c κs =
     let at = c .before .before in
     let s = at .before .before .before in (
-      probe-runs _ _ _ _ (s .pre),
+      s .pre .runs,
       omega (arith, injected-hops _ _ (c .before .injected .ensures), rest-length (s .args .trail .now) (at .place-of .result)),
     )
 
@@ -28,7 +27,7 @@ run-on-requires-2 : tie.Need-run-on-requires-2
 run-on-requires-2 c κs =
     let at = c .before .before .before .before in
     let s = at .before .before .before in (
-      probe-runs _ _ _ _ (s .pre),
+      s .pre .runs,
       omega (
         arith,
         injected-hops _ _ (c .before .before .before .injected .ensures),
@@ -42,7 +41,7 @@ returns : tie.Need-returns
 returns c =
     let at = c .before .before .before .before .before in
     let s = at .before .before .before in
-    ring-is (s .args .p) (s .args .table) (s .args .states .now) (s .args .trail .now) (s .args .s) (s .pre .used) (at .place-of .result)
+    ring-is (s .args .p) (s .args .table) (s .args .states .now) (s .args .trail .now) (s .args .s) (at .place-of .result)
     (endOf (c .before .before .before .before .injected .result)) (endOf (c .before .before .run-on .result)) _ (at .place-of .ensures)
     (c .before .before .before .before .injected .ensures) (c .before .before .run-on .ensures) (c .run-on2 .ensures)
 

@@ -18,7 +18,7 @@ returns c =
 span-of-requires : tie.Need-span-of-requires
 span-of-requires c κs =
     let s = c .before .before .before in
-    (s .pre .0 .sound, (s .pre .0 .trail, s .pre .1))
+    (s .pre .0 .runs .sound, (s .pre .0 .trail, s .pre .1))
 
 there-and-back-requires : tie.Need-there-and-back-requires
 there-and-back-requires c κs =
@@ -27,9 +27,9 @@ there-and-back-requires c κs =
     let x = ap length (c .before .stretch .ensures ∙ ap (stretchOf (s .args .trail .now)) (b .span-of .ensures)) in
     let y = ap length (c .front .ensures ∙ ap (frontOf (s .args .trail .now)) (b .span-of .ensures)) in (
       record {
-        sound = s .pre .0 .sound;
-        arcs = all-arcs (s .args .p) (c .before .before .all-rules .result) (c .before .before .all-rules .ensures);
-        bytes = s .pre .0 .bytes;
+        sound = s .pre .0 .runs .sound;
+        arcs = all-arcs (s .args .p) (c .before .before .all-arcs .result) (c .before .before .all-arcs .ensures);
+        bytes = s .pre .0 .runs .bytes;
       },
       omega (arith, x, y, span-fits (s .args .p) (s .args .trail .now) (s .args .s) (s .args .m)),
     )
@@ -38,7 +38,7 @@ returns-2 : tie.Need-returns-2
 returns-2 c =
     let b = c .before .before .before .before in
     let s = b .before .before .before .before .args in
-    back-is (s .p) (c .before .before .before .all-rules .result) (s .states .now) (s .trail .now) (s .s) (c .before .before .before .all-rules .ensures) (s .links) (s .m)
+    back-is (s .p) (c .before .before .before .all-arcs .result) (s .states .now) (s .trail .now) (s .s) (c .before .before .before .all-arcs .ensures) _ (s .links) (s .m)
     (b .span-of .result) _ _ _ (b .before .if1 .left) (b .span-of .ensures) (c .before .before .stretch .ensures) (c .before .front .ensures)
     (c .there-and-back .ensures)
 

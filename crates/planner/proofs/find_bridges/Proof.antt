@@ -1,6 +1,7 @@
 -- `planner::find_bridges` meets its contract. Assumes nothing.
 use mathlib.Core.Path.{refl, sym}
 use Rattle.planning.specs.Planning.{planning}
+use Rattle.planning.proofs.Counted.{bridge-flags}
 use Rattle.planner.specs.Calls.{bridgeFlags, bridging}
 use Rattle.planner.proofs.Trailing.{flags-are}
 use Rattle.answers.proofs.Beside.{beside-given, beside-refused, on-giving, off-giving}
@@ -8,14 +9,13 @@ use borrow.Author.Needs.{needs}
 use Rattle.planner.proofs.find_bridges.Statement.{statement}
 use Rattle.planner.proofs.find_bridges.Tie as tie
 
-bridges-requires : tie.Need-bridges-requires
-bridges-requires c κs = c .before .before .plan .ensures .1 (c .enum-told .given .1) .0
-
 returns : tie.Need-returns
 unfolding bridging
 returns c =
     let m = c .before in
-    beside-given _ _ _ _ refl (sym (on-giving _ (planning _) _ _ (m .before .before .plan .ensures .0) bridgeFlags _ (m .enum-told .given .1) (flags-are _ _ (c .bridges .ensures))))
+    let r = m .before .before in
+    let e = m .enum-told .given .1 in
+    beside-given _ _ _ _ refl (sym (on-giving _ (planning _) _ _ (r .plan .ensures .0) bridgeFlags _ e (flags-are _ _ (bridge-flags _ _ (r .plan .ensures .1 e)))))
 
 returns-2 : tie.Need-returns-2
 unfolding bridging
@@ -24,4 +24,4 @@ returns-2 c =
     beside-refused _ _ _ _ _ refl refl (sym (off-giving _ (planning _) _ _ (m .before .before .plan .ensures .0) bridgeFlags _ (m .v .given .1)))
 
 pub find-bridges-spec : {M : Type 1} → statement M
-find-bridges-spec = tie.close (tie.spec (λ c κs. search needs) (λ c. search needs) bridges-requires (λ c. search needs) returns returns-2)
+find-bridges-spec = tie.close (tie.spec (λ c κs. search needs) (λ c κs. search needs) (λ c. search needs) (λ c. search needs) returns returns-2)

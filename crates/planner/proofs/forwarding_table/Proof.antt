@@ -1,6 +1,6 @@
 -- `planner::forwarding_table` meets its contract. Assumes nothing.
 use mathlib.Core.Path.{refl, sym}
-use Rattle.table.specs.Rules.{tableOf}
+use Rattle.plan.specs.Plan.{tableOf}
 use Rattle.planning.specs.Planning.{planning}
 use Rattle.planner.specs.Calls.{tabling}
 use Rattle.answers.proofs.Beside.{beside-given, beside-refused, on-giving, off-giving}
@@ -8,18 +8,13 @@ use borrow.Author.Needs.{needs}
 use Rattle.planner.proofs.forwarding_table.Statement.{statement}
 use Rattle.planner.proofs.forwarding_table.Tie as tie
 
-arcs-in-use-requires : tie.Need-arcs-in-use-requires
-arcs-in-use-requires c κs = c .before .before .before .plan .ensures .1 (c .before .enum-told .given .1) .0
-
 table-of-requires : tie.Need-table-of-requires
-table-of-requires c κs =
-    let r = c .before .before .before .before .plan .ensures .1 (c .before .before .enum-told .given .1) in
-    (r .0, r .1, c .arcs-in-use .ensures)
+table-of-requires c κs = c .before .before .before .plan .ensures .1 (c .before .enum-told .given .1)
 
 returns : tie.Need-returns
 unfolding tabling
 returns c =
-    let m = c .before .before .before in
+    let m = c .before .before in
     beside-given _ _ _ _ refl (sym (on-giving _ (planning _) _ _ (m .before .before .plan .ensures .0) tableOf _ (m .enum-told .given .1) (c .table-of .ensures)))
 
 returns-2 : tie.Need-returns-2
@@ -30,5 +25,4 @@ returns-2 c =
 
 pub forwarding-table-spec : {M : Type 1} → statement M
 forwarding-table-spec =
-    tie.close (tie.spec (λ c κs. search needs) (λ c. search needs) arcs-in-use-requires table-of-requires (λ c. search needs) (λ c κs. search needs)
-    returns returns-2)
+    tie.close (tie.spec (λ c κs. search needs) (λ c κs. search needs) (λ c. search needs) table-of-requires (λ c. search needs) (λ c κs. search needs) returns returns-2)

@@ -23,5 +23,4 @@ returns-2 c =
     (trail-refused _ _ _ e, left-refused _ _ _ e)
 
 pub lay-trail-spec : {M : Type 1} → statement M
-lay-trail-spec =
-    tie.close (tie.spec (λ c κs. search needs) (λ c. search needs) put-trail-requires (λ c. search needs) (λ c. search needs) returns returns-2)
+lay-trail-spec = tie.close (tie.spec (λ c κs. search needs) (λ c κs. search needs) (λ c. search needs) put-trail-requires (λ c. search needs) (λ c. search needs) returns returns-2)

@@ -1,47 +1,40 @@
 -- `planner::put_trail` meets its contract. Assumes nothing.
-use mathlib.Core.Path.{ap, _∙_}
+use mathlib.Core.Path.{_≡_, ap, _∙_}
 use Prim.Native.Nat.{_≤_, _<_}
 use native.Mathlib.Omega.{arith}
 use lib.ListN.{length}
-use Rattle.routes.specs.Plants.{trailOf}
-use Rattle.planning.proofs.Counted.{planned}
+use Rattle.plan.specs.Plan.{trailOf}
+use Rattle.planning.proofs.Counted.{hops-are}
 use Rattle.planner.specs.Calls.{trailLeft}
 use Rattle.planner.proofs.Trailing.{lay-short, lay-enough}
 use borrow.Author.Needs.{needs}
 use Rattle.planner.proofs.put_trail.Statement.{statement}
 use Rattle.planner.proofs.put_trail.Tie as tie
 
-hops-requires : tie.Need-hops-requires
-hops-requires c κs =
-    let k = c .before .before .before .before .before in
-    (planned (k .args .p) (k .pre .0) _ (k .pre .1) (c .before .before .before .arcs-in-use .ensures), (c .before .before .distances .ensures, c .before .first-hops .ensures))
-
 returns : tie.Need-returns
 returns c =
-    let k = c .before .before .before .before .before .before .before in
-    let h : length (k .args .buffer .now) < length (trailOf (k .args .p)) = omega (arith, c .if1 .taken, c .before .hops .ensures) in
-    let r = lay-short (k .args .p) (k .args .buffer .now) h in
-    (r, ap (trailLeft (k .args .p) (k .args .buffer .now)) r)
+    let s = c .before .before in
+    let p = s .args .x .plant in
+    let b = s .args .buffer .now in
+    let h : length b < length (trailOf p) = omega (arith, c .if1 .taken, hops-are _ _ (s .pre)) in
+    let r = lay-short p b h in
+    (r, ap (trailLeft p b) r)
 
-fill-requires : tie.Need-fill-requires
-fill-requires c κs =
-    let i = c .before .before in
-    let v = i .before .before in
-    let k = v .before .before .before .before .before in (
-      planned (k .args .p) (k .pre .0) _ (k .pre .1) (v .before .before .before .arcs-in-use .ensures),
-      (v .before .before .distances .ensures, (v .before .first-hops .ensures, omega (arith, i .if1 .left, i .before .hops .ensures))),
-    )
+lay-requires : tie.Need-lay-requires
+lay-requires c κs =
+    let s = c .before .before .before in
+    (s .pre, omega (arith, c .before .if1 .left, hops-are _ _ (s .pre)))
 
 returns-2 : tie.Need-returns-2
 returns-2 c =
-    let f = c .before .before in
-    let i = f .before .before .before in
-    let k = i .before .before .before .before .before .before .before in
-    let h : length (trailOf (k .args .p)) ≤ length (k .args .buffer .now) = omega (arith, i .if1 .left, i .before .hops .ensures) in
-    let r = lay-enough (k .args .p) (k .args .buffer .now) h _ (i .before .hops .ensures) in
-    (r, f .fill .ensures ∙ ap (trailLeft (k .args .p) (k .args .buffer .now)) r)
+    let l = c .before .before in
+    let i = l .before .before in
+    let s = i .before .before in
+    let p = s .args .x .plant in
+    let b = s .args .buffer .now in
+    let h : length (trailOf p) ≤ length b = omega (arith, i .if1 .left, hops-are _ _ (s .pre)) in
+    let r = lay-enough p b h _ (hops-are _ _ (s .pre)) in
+    (r, l .lay .ensures ∙ ap (trailLeft p b) r)
 
 pub put-trail-spec : {M : Type 1} → statement M
-put-trail-spec =
-    tie.close (tie.spec (λ c κs. search needs) (λ c κs. search needs) (λ c κs. search needs) hops-requires (λ c. search needs) returns fill-requires
-    (λ c. search needs) returns-2)
+put-trail-spec = tie.close (tie.spec (λ c. search needs) returns lay-requires (λ c. search needs) returns-2)

@@ -23,4 +23,4 @@ returns-2 c =
     off-giving _ (planning _) _ _ (m .before .before .plan .ensures .0) numbersOf _ (m .v .given .1)
 
 pub summarize-spec : {M : Type 1} → statement M
-summarize-spec = tie.close (tie.spec (λ c κs. search needs) (λ c. search needs) numbers-of-requires (λ c. search needs) returns returns-2)
+summarize-spec = tie.close (tie.spec (λ c κs. search needs) (λ c κs. search needs) (λ c. search needs) numbers-of-requires (λ c. search needs) returns returns-2)

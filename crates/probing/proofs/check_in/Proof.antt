@@ -1,7 +1,7 @@
 -- The full check: refusals 12 and 13, then the run of the ring. Assumes nothing.
 use mathlib.Core.Path.{sym, _∙_}
 use Rattle.answers.proofs.Checks.{passed, turned-down}
-use Rattle.planning.proofs.Counted.{planned}
+use Rattle.planning.proofs.Counted.{flags-same}
 use Rattle.rings.specs.Rules.{upByLink}
 use Rattle.packet.specs.Runs.{endOf}
 use Rattle.probing.specs.Calls.{checkIn}
@@ -11,24 +11,23 @@ use borrow.Author.Needs.{needs}
 use Rattle.probing.proofs.check_in.Statement.{statement}
 use Rattle.probing.proofs.check_in.Tie as tie
 
-judge-lent-requires : tie.Need-judge-lent-requires
-judge-lent-requires c κs = let s = c .before .before .before in planned (s .args .p) (s .pre .0) _ (s .pre .1) (c .arcs-in-use .ensures)
-
 full-check-requires : tie.Need-full-check-requires
 full-check-requires c κs =
     let j = c .before .before in
     let u = j .before in
     let s = u .before .before .before in
-    lent-can _ _ _ _ (j .judge-lent .ensures) (c .enum-told .given .1) (s .pre .0) (s .pre .1) _ (u .arcs-in-use .ensures)
+    lent-can _ _ _ _ (j .judge-lent .ensures) (c .enum-told .given .1) (s .pre .sound) _ (s .pre .parts .used-are)
 
 returns : tie.Need-returns
 unfolding checkIn
 returns c =
     let m = c .before .before in
     let j = m .before .before in
-    let s = j .before .before .before .before .args in
-    checked (s .p) (s .trail .now) (s .switch) (lent-same _ _ _ _ (j .judge-lent .ensures) (m .enum-told .given .1)) (upByLink (s .states .now)) (endOf (c .before .full-check .result)) _ (c .outcome-of .ensures)
-    (c .before .full-check .ensures)
+    let u = j .before in
+    let a = u .before .before .before in
+    let s = a .args in
+    checked (s .x .plant) (s .trail .now) (s .switch) (lent-same _ _ _ _ (j .judge-lent .ensures) (m .enum-told .given .1)) (flags-same (a .pre .parts .used-are))
+    (upByLink (s .states .now)) (endOf (c .before .full-check .result)) _ (c .outcome-of .ensures) (c .before .full-check .ensures)
     ∙ sym (passed _ _ (j .judge-lent .ensures) _ (m .enum-told .given .1))
 
 returns-2 : tie.Need-returns-2
@@ -37,5 +36,4 @@ returns-2 c = sym (turned-down _ _ (c .before .before .before .judge-lent .ensur
 
 pub check-in-spec : {M : Type 1} → statement M
 check-in-spec =
-    tie.close (tie.spec (λ c κs. search needs) judge-lent-requires (λ c. search needs) full-check-requires (λ c κs. search needs)
-    (λ c. search needs) returns returns-2)
+    tie.close (tie.spec (λ c κs. search needs) (λ c. search needs) full-check-requires (λ c κs. search needs) (λ c. search needs) returns returns-2)

@@ -22,4 +22,4 @@ returns-2 c =
     off-then _ (planningAt _ _) _ _ (m .before .before .plan-at .ensures .0) (checkIn _ _ _) _ (m .v .given .1)
 
 pub full-check-spec : {M : Type 1} → statement M
-full-check-spec = tie.close (tie.spec (λ c κs. search needs) (λ c. search needs) check-in-requires (λ c. search needs) returns returns-2)
+full-check-spec = tie.close (tie.spec (λ c κs. search needs) (λ c κs. search needs) (λ c. search needs) check-in-requires (λ c. search needs) returns returns-2)

@@ -1,7 +1,6 @@
 -- The link named: refusals 12 and 14, then what the search names. Assumes nothing.
 use mathlib.Core.Path.{sym, _∙_}
 use Rattle.walks.specs.Graph.{liveLinks}
-use Rattle.planning.proofs.Counted.{planned}
 use Rattle.search.proofs.Sound.{says-in}
 use Rattle.probing.specs.Calls.{nameIn}
 use Rattle.answers.proofs.Checks.{holds, fails}
@@ -10,9 +9,6 @@ use Rattle.probing.proofs.Searching.{good-here}
 use borrow.Author.Needs.{needs}
 use Rattle.probing.proofs.name_in.Statement.{statement}
 use Rattle.probing.proofs.name_in.Tie as tie
-
-differs-requires : tie.Need-differs-requires
-differs-requires c κs = let s = c .before .before in planned (s .args .p) (s .pre .0) _ (s .pre .1) (c .arcs-in-use .ensures)
 
 returns : tie.Need-returns
 unfolding nameIn
@@ -28,9 +24,9 @@ name-of-requires : tie.Need-name-of-requires
 name-of-requires c κs =
     let b = c .before in
     let d = b .before .before in
-    let s = d .before .before .before .before in
-    let g = good-here (liveLinks (s .args .p)) (s .args .search) (sym (b .before .unsound .ensures) ∙ b .if2 .left) in
-    (s .pre, (trail-same _ _ (sym (d .before .differs .ensures) ∙ d .if1 .left), rw (c .says .ensures) (says-in (liveLinks (s .args .p)) (s .args .search) g)))
+    let s = d .before .before .before in
+    let g = good-here (liveLinks (s .args .x .plant)) (s .args .search) (sym (b .before .unsound .ensures) ∙ b .if2 .left) in
+    ((s .pre .sound, s .pre .connected), (trail-same _ _ (sym (d .before .differs .ensures) ∙ d .if1 .left), rw (c .says .ensures) (says-in (liveLinks (s .args .x .plant)) (s .args .search) g)))
 
 returns-3 : tie.Need-returns-3
 unfolding nameIn
@@ -42,4 +38,4 @@ returns-3 c =
 
 pub name-in-spec : {M : Type 1} → statement M
 name-in-spec =
-    tie.close (tie.spec (λ c κs. search needs) differs-requires returns (λ c κs. search needs) returns-2 (λ c κs. search needs) name-of-requires returns-3)
+    tie.close (tie.spec (λ c κs. search needs) returns (λ c κs. search needs) returns-2 (λ c κs. search needs) name-of-requires returns-3)

@@ -13,7 +13,7 @@ use Rattle.probing.proofs.name_of.Tie as tie
 order-of-requires : tie.Need-order-of-requires
 order-of-requires c κs =
     let s = c .before .before .before .before in
-    (s .pre .0 .0, lent-arcs (s .args .p) (s .pre .0 .0) _ (s .pre .0 .1) (s .pre .1 .0))
+    (s .pre .0 .0, lent-arcs (s .args .p) (s .pre .0 .0) _ (s .pre .1 .0))
 
 sub-j : tie.Need-sub-j
 sub-j c =

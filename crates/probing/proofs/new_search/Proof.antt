@@ -23,4 +23,4 @@ returns-2 c =
     off-giving _ (planningAt _ _) _ _ (m .before .before .plan-at .ensures .0) (λ p. newSearch (liveLinks p)) _ (m .v .given .1)
 
 pub new-search-spec : {M : Type 1} → statement M
-new-search-spec = tie.close (tie.spec (λ c κs. search needs) (λ c. search needs) (λ c κs. search needs) (λ c κs. search needs) (λ c. search needs) returns returns-2)
+new-search-spec = tie.close (tie.spec (λ c κs. search needs) (λ c κs. search needs) (λ c. search needs) (λ c κs. search needs) (λ c κs. search needs) (λ c. search needs) returns returns-2)

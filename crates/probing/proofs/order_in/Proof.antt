@@ -1,6 +1,5 @@
 -- The order of links: refusal 12, then the order. Assumes nothing.
 use mathlib.Core.Path.{sym, _∙_}
-use Rattle.planning.proofs.Counted.{planned}
 use Rattle.probing.specs.Calls.{orderIn}
 use Rattle.answers.proofs.Checks.{holds}
 use Rattle.probing.proofs.Lent.{trail-same, lent-arcs}
@@ -10,20 +9,18 @@ use borrow.Author.Needs.{needs}
 use Rattle.probing.proofs.order_in.Statement.{statement}
 use Rattle.probing.proofs.order_in.Tie as tie
 
-differs-requires : tie.Need-differs-requires
-differs-requires c κs = let s = c .before .before in planned (s .args .p) (s .pre .0) _ (s .pre .1) (c .arcs-in-use .ensures)
-
 returns : tie.Need-returns
 unfolding orderIn
 returns c = beside-as _ _ _ _ _ (holds 12 _ _ (sym (c .before .before .differs .ensures) ∙ c .before .if1 .taken)) (c .refused-order .ensures)
 
 order-of-requires : tie.Need-order-of-requires
 order-of-requires c κs =
-    let s = c .before .before .before .before in
-    (s .pre .0, lent-arcs (s .args .p) (s .pre .0) _ (s .pre .1) (trail-same _ _ (sym (c .before .differs .ensures) ∙ c .if1 .left)))
+    let s = c .before .before .before in
+    (s .pre .sound, lent-arcs (s .args .x .plant) (s .pre .sound) _ (trail-same _ _ (sym (c .before .differs .ensures) ∙ c .if1 .left)))
 
 returns-2 : tie.Need-returns-2
 returns-2 c = let d = c .before in ordered _ _ _ _ (sym (d .before .differs .ensures) ∙ d .if1 .left) (c .order-of .ensures)
 
 pub order-in-spec : {M : Type 1} → statement M
-order-in-spec = tie.close (tie.spec (λ c κs. search needs) differs-requires (λ c κs. search needs) returns order-of-requires returns-2)
+order-in-spec =
+    tie.close (tie.spec (λ c κs. search needs) (λ c κs. search needs) returns order-of-requires returns-2)

@@ -24,4 +24,4 @@ returns-2 c =
 
 pub order-of-links-spec : {M : Type 1} → statement M
 order-of-links-spec =
-    tie.close (tie.spec (λ c κs. search needs) (λ c. search needs) order-in-requires (λ c. search needs) (λ c κs. search needs) returns returns-2)
+    tie.close (tie.spec (λ c κs. search needs) (λ c κs. search needs) (λ c. search needs) order-in-requires (λ c. search needs) (λ c κs. search needs) returns returns-2)

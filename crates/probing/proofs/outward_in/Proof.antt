@@ -1,6 +1,5 @@
 -- The outward labels: refusal 12, then 14 and 15 or the probe wanted. Assumes nothing.
 use mathlib.Core.Path.{sym, _∙_}
-use Rattle.planning.proofs.Counted.{planned}
 use Rattle.probing.specs.Calls.{outSpan, outwardIn}
 use Rattle.answers.proofs.Checks.{holds, fails}
 use Rattle.probing.proofs.Lent.{trail-same}
@@ -8,9 +7,6 @@ use Rattle.probing.proofs.Searching.{probe-given, probe-among, probe-re
 use borrow.Author.Needs.{needs}
 use Rattle.probing.proofs.outward_in.Statement.{statement}
 use Rattle.probing.proofs.outward_in.Tie as tie
-
-differs-requires : tie.Need-differs-requires
-differs-requires c κs = let s = c .before .before in planned (s .args .p) (s .pre .0) _ (s .pre .1) (c .arcs-in-use .ensures)
 
 returns : tie.Need-returns
 unfolding outwardIn
@@ -20,8 +16,8 @@ span-in-requires : tie.Need-span-in-requires
 span-in-requires c κs =
     let a = c .before .before .before in
     let d = a .before in
-    let s = d .before .before .before .before in
-    (s .pre, (trail-same _ _ (sym (d .before .differs .ensures) ∙ d .if1 .left), probe-among _ _ _ (a .probe-wanted .ensures) _ (c .before .m .given .1)))
+    let s = d .before .before .before in
+    ((s .pre .sound, s .pre .connected), (trail-same _ _ (sym (d .before .differs .ensures) ∙ d .if1 .left), probe-among _ _ _ (a .probe-wanted .ensures) _ (c .before .m .given .1)))
 
 returns-2 : tie.Need-returns-2
 unfolding outwardIn
@@ -29,9 +25,9 @@ returns-2 c =
     let n = c .before .before in
     let a = n .before .before in
     let d = a .before in
-    let s = d .before .before .before .before in
+    let s = d .before .before .before in
     fails 12 _ _ _ (sym (d .before .differs .ensures) ∙ d .if1 .left)
-    (probe-given _ _ _ (a .probe-wanted .ensures) (outSpan (s .args .p) _) _ _ (n .m .given .1) (c .span-in .ensures))
+    (probe-given _ _ _ (a .probe-wanted .ensures) (outSpan (s .args .x .plant) _) _ _ (n .m .given .1) (c .span-in .ensures))
 
 returns-3 : tie.Need-returns-3
 unfolding outwardIn
@@ -39,11 +35,10 @@ returns-3 c =
     let n = c .before in
     let a = n .before .before in
     let d = a .before in
-    let s = d .before .before .before .before in
+    let s = d .before .before .before in
     fails 12 _ _ _ (sym (d .before .differs .ensures) ∙ d .if1 .left)
-    (probe-refused _ _ _ (a .probe-wanted .ensures) (outSpan (s .args .p) _) _ (n .k .given .1))
+    (probe-refused _ _ _ (a .probe-wanted .ensures) (outSpan (s .args .x .plant) _) _ (n .k .given .1))
 
 pub outward-in-spec : {M : Type 1} → statement M
 outward-in-spec =
-    tie.close (tie.spec (λ c κs. search needs) differs-requires returns (λ c κs. search needs) (λ c. search needs) span-in-requires
-    (λ c. search needs) returns-2 returns-3)
+    tie.close (tie.spec (λ c κs. search needs) returns (λ c κs. search needs) (λ c. search needs) span-in-requires (λ c. search needs) returns-2 returns-3)

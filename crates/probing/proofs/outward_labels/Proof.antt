@@ -25,4 +25,4 @@ returns-2 c =
     (r, outward-parts _ _ _ _ _ r)
 
 pub outward-labels-spec : {M : Type 1} → statement M
-outward-labels-spec = tie.close (tie.spec (λ c κs. search needs) (λ c. search needs) outward-in-requires (λ c. search needs) returns returns-2)
+outward-labels-spec = tie.close (tie.spec (λ c κs. search needs) (λ c κs. search needs) (λ c. search needs) outward-in-requires (λ c. search needs) returns returns-2)

@@ -15,7 +15,7 @@ returns c =
     let l = c .before in
     let m = l .before in
     let a = m .before .before in
-    let cs = callsIn (a .before .before .before .args .calls .now) in
+    let cs = callsIn (a .before .before .before .before .before .args .calls .now) in
     on-giving _ (planningAt _ _) _ _ (a .plan-at .ensures .0) (performedIn cs) _ (m .enum-told .given .1) (c .perform .ensures ∙ ap (λ (e : ℕ). perform (begun e) cs) (l .links-in-service .ensures))
 
 returns-2 : tie.Need-returns-2
@@ -25,4 +25,4 @@ returns-2 c =
     off-giving _ (planningAt _ _) _ _ (m .before .before .plan-at .ensures .0) (performedIn _) _ (m .v .given .1)
 
 pub perform-spec : {M : Type 1} → statement M
-perform-spec = tie.close (tie.spec (λ c κs. search needs) (λ c. search needs) (λ c κs. search needs) (λ c κs. search needs) (λ c. search needs) returns returns-2)
+perform-spec = tie.close (tie.spec (λ c κs. search needs) (λ c κs. search needs) (λ c. search needs) (λ c κs. search needs) (λ c κs. search needs) (λ c. search needs) returns returns-2)

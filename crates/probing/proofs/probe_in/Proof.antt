@@ -1,15 +1,12 @@
 -- The run of the probe wanted: refusals 12 and 13, then 14 and 15 or the probe wanted. Assumes nothing.
 use mathlib.Core.Path.{sym, _∙_}
 use Rattle.answers.proofs.Checks.{passed, turned-down}
-use Rattle.planning.proofs.Counted.{planned}
+use Rattle.planning.proofs.Counted.{flags-same}
 use Rattle.probing.specs.Calls.{probeIn}
 use Rattle.probing.proofs.Lent.{lent-same, lent-can}
 use borrow.Author.Needs.{needs}
 use Rattle.probing.proofs.probe_in.Statement.{statement}
 use Rattle.probing.proofs.probe_in.Tie as tie
-
-judge-lent-requires : tie.Need-judge-lent-requires
-judge-lent-requires c κs = let s = c .before .before .before in planned (s .args .p) (s .pre .0) _ (s .pre .1) (c .arcs-in-use .ensures)
 
 probe-over-requires : tie.Need-probe-over-requires
 probe-over-requires c κs =
@@ -17,7 +14,7 @@ probe-over-requires c κs =
     let u = j .before in
     let s = u .before .before .before in
     let e = c .enum-told .given .1 in
-    (lent-can _ _ _ _ (j .judge-lent .ensures) e (s .pre .0) (s .pre .1) _ (u .arcs-in-use .ensures), lent-same _ _ _ _ (j .judge-lent .ensures) e)
+    (lent-can _ _ _ _ (j .judge-lent .ensures) e (s .pre .sound) _ (s .pre .parts .used-are), (flags-same (s .pre .parts .used-are), lent-same _ _ _ _ (j .judge-lent .ensures) e))
 
 returns : tie.Need-returns
 unfolding probeIn
@@ -29,4 +26,4 @@ returns-2 c = sym (turned-down _ _ (c .before .before .before .judge-lent .ensur
 
 pub probe-in-spec : {M : Type 1} → statement M
 probe-in-spec =
-    tie.close (tie.spec (λ c κs. search needs) judge-lent-requires (λ c. search needs) probe-over-requires (λ c. search needs) returns returns-2)
+    tie.close (tie.spec (λ c κs. search needs) (λ c. search needs) probe-over-requires (λ c. search needs) returns returns-2)

@@ -1,12 +1,8 @@
 -- The run of the probe wanted: 14 and 15, or the probe wanted. Assumes nothing.
 use native.Mathlib.Omega.{arith}
-use Rattle.walks.specs.Graph.{liveLinks}
-use Rattle.rings.specs.Rules.{upByLink}
-use Rattle.rings.specs.Injection.{probeRun}
-use Rattle.routes.specs.Plants.{trailOf}
 use Rattle.packet.specs.Runs.{endOf}
 use Rattle.planning.proofs.Counted.{links-few}
-use Rattle.probing.specs.Calls.{outcomeOf}
+use Rattle.probing.specs.Calls.{probeOutcome}
 use Rattle.probing.proofs.Searching.{probe-given, probe-among, probe-refused}
 use Rattle.probing.proofs.Results.{probed}
 use borrow.Author.Needs.{needs}
@@ -19,7 +15,7 @@ probe-run-requires c κs =
     let a = n .before .before in
     let s = a .before .before .before in
     let m = probe-among _ _ _ (a .probe-wanted .ensures) _ (n .m .given .1) in
-    (s .pre .0, (m .0, omega (arith, m .1, links-few (s .args .p) (s .pre .0 .sound))))
+    (s .pre .0, (m .0, omega (arith, m .1, links-few (s .args .p) (s .pre .0 .runs .sound))))
 
 returns : tie.Need-returns
 returns c =
@@ -27,14 +23,15 @@ returns c =
     let n = l .before .before in
     let a = n .before .before in
     let s = a .before .before .before in
-    probe-given _ _ _ (a .probe-wanted .ensures) (λ m. outcomeOf (probeRun (s .args .p) (trailOf (s .args .p)) (s .args .switch) (liveLinks (s .args .p)) (upByLink (s .args .states .now)) m)) _ _ (n .m .given .1)
-    (probed (s .args .p) _ _ (s .pre .1) _ _ _ (endOf (c .before .probe-run .result)) _ (l .links-in-service .ensures) (c .outcome-of .ensures) (c .before .probe-run .ensures))
+    probe-given _ _ _ (a .probe-wanted .ensures) (probeOutcome (s .args .p) (s .args .switch) (s .args .states .now)) _ _ (n .m .given .1)
+    (probed (s .args .p) _ _ (s .pre .1 .1) (s .pre .1 .0) _ (endOf (c .before .probe-run .result)) _ (c .outcome-of .ensures) _ _ (l .links-in-service .ensures)
+    (c .before .probe-run .ensures))
 
 returns-2 : tie.Need-returns-2
 returns-2 c =
     let a = c .before .before .before in
     let s = a .before .before .before in
-    probe-refused _ _ _ (a .probe-wanted .ensures) (λ m. outcomeOf (probeRun (s .args .p) (trailOf (s .args .p)) (s .args .switch) (liveLinks (s .args .p)) (upByLink (s .args .states .now)) m)) _ (c .before .k .given .1)
+    probe-refused _ _ _ (a .probe-wanted .ensures) (probeOutcome (s .args .p) (s .args .switch) (s .args .states .now)) _ (c .before .k .given .1)
 
 pub probe-over-spec : {M : Type 1} → statement M
 probe-over-spec =

@@ -7,7 +7,7 @@ use Rattle.probing.proofs.run.Statement.{statement}
 use Rattle.probing.proofs.run.Tie as tie
 
 run-in-requires : tie.Need-run-in-requires
-run-in-requires c κs = c .before .before .before .plan-at .ensures .1 (c .before .enum-told .given .1) .0
+run-in-requires c κs = c .before .before .before .plan-at .ensures .1 (c .before .enum-told .given .1)
 
 returns : tie.Need-returns
 unfolding running
@@ -22,4 +22,4 @@ returns-2 c =
     off-then _ (planningAt _ _) _ _ (m .before .before .plan-at .ensures .0) (runIn _ _ _) _ (m .v .given .1)
 
 pub run-spec : {M : Type 1} → statement M
-run-spec = tie.close (tie.spec (λ c κs. search needs) (λ c. search needs) run-in-requires (λ c. search needs) returns returns-2)
+run-spec = tie.close (tie.spec (λ c κs. search needs) (λ c κs. search needs) (λ c. search needs) run-in-requires (λ c. search needs) returns returns-2)

@@ -4,6 +4,7 @@ use native.Mathlib.Omega.{arith}
 use Rattle.packet.proofs.Probes.{injected-hops}
 use Rattle.probing.specs.Calls.{runIn}
 use Rattle.answers.proofs.Checks.{holds, fails}
+use Rattle.planning.proofs.Counted.{flags-same}
 use Rattle.probing.proofs.Lent.{states-enough, can-run}
 use Rattle.probing.proofs.Results.{ran-as}
 use borrow.Author.Needs.{needs}
@@ -17,24 +18,31 @@ returns c = holds 13 _ _ (sym (c .before .too-few .ensures) ∙ c .if1 .taken)
 run-on-requires : tie.Need-run-on-requires
 run-on-requires c κs =
     let b = c .before .before in
-    let s = b .before .before .before .before in
-    (can-run (s .args .p) (s .pre) _ _ (c .before .arcs-in-use .ensures) (states-enough _ _ (sym (b .before .too-few .ensures) ∙ b .if1 .left)), omega (arith, injected-hops _ _ (c .injected .ensures)))
+    let s = b .before .before .before .before in (
+      can-run (s .args .x .plant) (s .pre .sound) _ _ (s .pre .parts .used-are) (states-enough _ _ (sym (b .before .too-few .ensures) ∙ b .if1 .left)),
+      omega (arith, injected-hops _ _ (c .injected .ensures)),
+    )
 
 returns-2 : tie.Need-returns-2
 unfolding runIn
 returns-2 c =
     let i = c .before .before in
     let b = i .before .before in
+    let s = b .before .before .before .before in
     fails 13 _ _ _ (sym (b .before .too-few .ensures) ∙ b .if1 .left)
-    (ran-as _ _ _ _ _ (i .before .arcs-in-use .ensures) (i .injected .result) (c .before .run-on .result) _ (i .injected .ensures) (c .before .run-on .ensures) (c .if2 .taken))
+    (ran-as _ _ _ _ _ (flags-same (s .pre .parts .used-are)) (i .injected .result) (c .before .run-on .result) _
+    (i .injected .ensures) (c .before .run-on .ensures) (c .if2 .taken))
 
 returns-3 : tie.Need-returns-3
 unfolding runIn
 returns-3 c =
     let i = c .before .before in
     let b = i .before .before in
+    let s = b .before .before .before .before in
     fails 13 _ _ _ (sym (b .before .too-few .ensures) ∙ b .if1 .left)
-    (ran-as _ _ _ _ _ (i .before .arcs-in-use .ensures) (i .injected .result) (c .before .run-on .result) _ (i .injected .ensures) (c .before .run-on .ensures) (c .if2 .left))
+    (ran-as _ _ _ _ _ (flags-same (s .pre .parts .used-are)) (i .injected .result) (c .before .run-on .result) _
+    (i .injected .ensures) (c .before .run-on .ensures) (c .if2 .left))
 
 pub run-in-spec : {M : Type 1} → statement M
-run-in-spec = tie.close (tie.spec (λ c κs. search needs) returns (λ c κs. search needs) (λ c κs. search needs) run-on-requires returns-2 returns-3)
+run-in-spec =
+    tie.close (tie.spec (λ c κs. search needs) returns (λ c κs. search needs) run-on-requires returns-2 returns-3)

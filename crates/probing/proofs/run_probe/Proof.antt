@@ -22,4 +22,4 @@ returns-2 c =
     off-then _ (planningAt _ _) _ _ (m .before .before .plan-at .ensures .0) (probeIn _ _ _ _) _ (m .v .given .1)
 
 pub run-probe-spec : {M : Type 1} → statement M
-run-probe-spec = tie.close (tie.spec (λ c κs. search needs) (λ c. search needs) probe-in-requires (λ c. search needs) returns returns-2)
+run-probe-spec = tie.close (tie.spec (λ c κs. search needs) (λ c κs. search needs) (λ c. search needs) probe-in-requires (λ c. search needs) returns returns-2)

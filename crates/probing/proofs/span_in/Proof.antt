@@ -11,7 +11,7 @@ use Rattle.probing.proofs.span_in.Tie as tie
 ring-span-requires : tie.Need-ring-span-requires
 ring-span-requires c κs =
     let s = c .before .before .before in
-    (s .pre .0 .0, lent-arcs (s .args .p) (s .pre .0 .0) _ (s .pre .0 .1) (s .pre .1 .0))
+    (s .pre .0 .0, lent-arcs (s .args .p) (s .pre .0 .0) _ (s .pre .1 .0))
 
 returns : tie.Need-returns
 returns c =
@@ -22,7 +22,7 @@ span-of-requires : tie.Need-span-of-requires
 span-of-requires c κs =
     let s = c .before .before .before in (
       s .pre .0 .0,
-      (lent-arcs (s .args .p) (s .pre .0 .0) _ (s .pre .0 .1) (s .pre .1 .0), (s .pre .1 .1 .0, omega (arith, s .pre .1 .1 .1, links-few (s .args .p) (s .pre .0 .0)))),
+      (lent-arcs (s .args .p) (s .pre .0 .0) _ (s .pre .1 .0), (s .pre .1 .1 .0, omega (arith, s .pre .1 .1 .1, links-few (s .args .p) (s .pre .0 .0)))),
     )
 
 returns-2 : tie.Need-returns-2

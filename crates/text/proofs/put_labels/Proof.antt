@@ -1,22 +1,21 @@
 -- `text::put_labels` meets its contract: before each turn the labels before i are laid. Assumes nothing.
-use Prim.Native.Nat.{_+_, _-_}
+use Prim.Native.Nat.{_-_}
 use native.Mathlib.Omega.{arith}
 use borrow.Author.Needs.{needs}
 use Rattle.text.specs.Lines.{spaced}
-use Rattle.text.specs.Sizes.{digits16}
 use Rattle.text.proofs.LaidLaws.{laid-same}
-use Rattle.text.proofs.PutLaws.{Turns, turns-none, turns-all, number-room, number-next}
+use Rattle.text.proofs.PutLaws.{Turns, turns-none, turns-room, turns-next, turns-all}
 use Rattle.text.proofs.put_labels.Statement.{statement}
 use Rattle.text.proofs.put_labels.Tie as tie
 
 abbrev Inv-loop : tie.InvT-loop
-Inv-loop buf₀ at labels count next₀ i₀ buf next i = Turns spaced buf₀ at labels (1 + digits16) count buf next i
+Inv-loop buf₀ at labels count next₀ i₀ buf next i = Turns spaced buf₀ at labels count buf next i
 
 abbrev μ-loop : tie.MeasureT-loop
 μ-loop buf₀ at labels count next₀ i₀ buf next i = count - i
 
 loop-holds : tie.Need-loop-holds Inv-loop μ-loop
-loop-holds c = turns-none (c .before .before .pre .1)
+loop-holds c = turns-none (omega (arith, c .before .before .pre .1))
 
 cast-put-number : tie.Need-cast-put-number Inv-loop μ-loop
 cast-put-number c = omega (arith, c .shared-slice-known2 .given (c .before .before .before .loop .i))
@@ -25,14 +24,14 @@ put-number-requires : tie.Need-put-number-requires Inv-loop μ-loop
 put-number-requires c κs =
     let l = c .before .before .before in
     let s = l .before .before .before in
-    number-room digits16 (l .loop .inv) (s .pre .0) (s .pre .1) (omega arith) (c .before .before .loop-test .taken) (omega (arith, c .shared-slice-known2 .given (l .loop .i)))
+    turns-room (l .loop .inv) 0 (s .pre .0) (c .before .before .loop-test .taken) (s .pre .1)
 
 loop-again : tie.Need-loop-again Inv-loop μ-loop
 loop-again c =
     let p = c .before .before in
     let l = p .before .before .before .before in
     let s = l .before .before .before in
-    number-next digits16 (l .loop .inv) (s .pre .0) (s .pre .1) (omega arith) (p .before .before .before .loop-test .taken) (omega (arith, p .before .shared-slice-known2 .given (l .loop .i))) (p .put-number .ensures)
+    turns-next (l .loop .inv) 0 (s .pre .0) (p .before .before .before .loop-test .taken) (p .put-number .ensures)
 
 same-length : tie.Need-same-length Inv-loop μ-loop
 same-length c = laid-same (c .before .loop .inv .laid)

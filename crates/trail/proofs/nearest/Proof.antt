@@ -1,81 +1,62 @@
--- The nearest uncrossed arc in use. The invariant: the best of the labels below a. Assumes nothing.
-use mathlib.Core.Path.{_≡_, ap, _∙_}
+-- The nearest uncrossed arc in use. The invariant: the best of the arcs that leave switches below y, whatever is crossed that `low` tells. Assumes nothing.
+use mathlib.Core.Bool.{Bool}
 use mathlib.Core.Logic.{⊎-elim}
-use Prim.Native.Nat.{_≤_, _-_, _*_}
+use Prim.Native.Nat.{ℕ, _-_, _≤_}
 use native.Mathlib.Omega.{arith}
 use borrow.Author.Needs.{needs}
-use borrow.Author.Tests.{not-true, not-false}
-use Rattle.walks.specs.Arcs.{tail, head}
-use Rattle.distance.specs.Table.{cell}
-use Rattle.distance.specs.Distances.{flag, distanceIn}
-use Rattle.distance.proofs.Arcs.{tail-lt}
-use Rattle.distance.proofs.Entries.{entry}
-use Rattle.trail.proofs.Best.{Best, best-none, best-stay, best-new, best-top, best-all, left-yes, left-unused, left-crossed}
+use Rattle.lists.specs.Arrays.{flag, at}
+use Rattle.limits.specs.Limits.{maxSwitches}
+use Rattle.arcs.specs.Table.{cell}
+use Rattle.trail.specs.Legs.{Lows}
+use Rattle.trail.proofs.Ways.{entry, entry-top}
+use Rattle.trail.proofs.Best.{Best, here, best-none, best-stay, best-new, best-all}
 use Rattle.trail.proofs.nearest.Statement.{statement}
 use Rattle.trail.proofs.nearest.Tie as tie
+use Rattle.trail.proofs.nearest.Reads as reads
+use Rattle.trail.proofs.nearest.Lts as lts
 
 abbrev Inv-loop : tie.InvT-loop
-Inv-loop u p used t crossed n x best₀ least₀ a₀ best least a = (a ≤ 2 * p .count) × Best (p .switches) (2 * p .count) (tail p) (head p) (flag used) (flag crossed) u a best least
+Inv-loop tails heads used t low u n m x best₀ least₀ y₀ best least y =
+    (y ≤ m) × ((crossed : ℕ → Bool) → Lows m n (at tails) (flag used) (at low) crossed → Best m n (at tails) (at heads) (flag used) (at low) u crossed y best least)
 
 abbrev μ-loop : tie.MeasureT-loop
-μ-loop u p used t crossed n x best₀ least₀ a₀ best least a = 2 * p .count - a
+μ-loop tails heads used t low u n m x best₀ least₀ y₀ best least y = m - y
 
-add-least : tie.Need-add-least Inv-loop μ-loop
-add-least c = omega (arith, c .pre .0 .few-switches)
-
-loop-holds : tie.Need-loop-holds Inv-loop μ-loop
-loop-holds c = (omega arith, best-none _ _ _ _ _ _ _)
-
-array-read-if1 : tie.Need-array-read-if1 Inv-loop μ-loop
-array-read-if1 c = omega (arith, c .before .before .pre .0 .few-links)
-
-array-read-if2 : tie.Need-array-read-if2 Inv-loop μ-loop
-array-read-if2 c = omega (arith, c .before .before .before .pre .0 .few-links)
-
-element-copy-out-l : tie.Need-element-copy-out-l Inv-loop μ-loop
-element-copy-out-l c = omega (arith, c .before .before .before .before .pre .0 .few-links)
-
-mul-d : tie.Need-mul-d Inv-loop μ-loop
-mul-d c = let s = c .before .before .before .before .before .before in omega (arith, s .pre .0 .few-switches)
-
-index-1-d : tie.Need-index-1-d Inv-loop μ-loop
-index-1-d c = let s = c .before .before .before .before .before .before in omega (arith, s .pre .0 .few-switches)
-
-index-2-d : tie.Need-index-2-d Inv-loop μ-loop
-unfolding tail
-index-2-d c = let in-loop = c .before .before .before .before in let s = in-loop .before .before in omega (arith, s .pre .0 .few-switches, c .tail-of .ensures, tail-lt (s .args .t1) (s .pre .0) _ (in-loop .loop-test .taken))
+-- what is read is at most the number of switches
+read-top : (c : lts.After-key reads.Pre reads.Post Inv-loop μ-loop)
+    → let in-loop = c .before .before .before in let s = in-loop .before .before .before .before .before in
+    cell (s .args .t .now) (s .args .u) (in-loop .before .loop .y) ≤ maxSwitches
+read-top c =
+    let in-loop = c .before .before .before in
+    let s = in-loop .before .before .before .before .before in
+    omega (arith, s .pre .0 .few-switches, entry-top (s .pre .0) (s .pre .1 .0) (s .args .u) (in-loop .before .loop .y) (s .pre .1 .1) (in-loop .loop-test .taken))
 
 loop-again : tie.Need-loop-again Inv-loop μ-loop
-unfolding tail
 loop-again c =
-    let k = c .before .before .loop in
-    let s = c .before .before .before in
-    let p = s .args .t1 in
-    let used = s .args .t2 in
-    let crossed = s .args .t4 in
-    let low = tail-lt p (s .pre .0) (k .a) (c .before .loop-test .taken) in
-    let few = s .pre .0 .few-switches in
-    let d : (y : _) → y ≡ tail p (k .a) → cell (s .args .t3) (s .args .u) y ≡ distanceIn p used (s .args .u) (tail p (k .a)) =
-    λ y e. entry p used (s .args .t3) (s .pre .1 .0) (s .args .u) y (omega arith) (omega (arith, e)) ∙ ap (distanceIn p used (s .args .u)) e in (
+    let in-loop = c .before .before in
+    let k = in-loop .before .loop in
+    let s = in-loop .before .before .before .before .before in
+    let y-in = in-loop .loop-test .taken in
+    let d = entry (s .pre .0) (s .pre .1 .0) (s .args .u) (k .y) (s .pre .1 .1) y-in in (
       omega arith,
-      ⊎-elim
-          (λ w. best-new _ _ _ _ _ _ _ (k .a) _ _ _ _ (w .6) (w .7 ∙ d (w .3 .result) (w .3 .ensures)) (omega (arith, w .5 .taken, w .7)) (left-yes (flag used) (flag crossed) (k .a) (w .0 .taken) (not-true _ (w .1 .taken))) (k .inv .1))
+      λ m lows. let best = k .inv .1 m lows in ⊎-elim
+          (λ w. best-new _ _ _ _ _ _ _ m lows (k .y) _ _ best _ _ (w .3) (omega (arith, w .4, d)) (omega (arith, w .2 .taken, w .4)) y-in (w .0 .taken))
           (⊎-elim
-          (λ w. best-stay _ _ _ _ _ _ _ (k .a) _ _ _ _ (w .6) (w .7) (λ _. omega (arith, w .5 .left, d (w .3 .result) (w .3 .ensures))) (k .inv .1))
-          (⊎-elim
-          (λ w. best-stay _ _ _ _ _ _ _ (k .a) _ _ _ _ (w .2) (w .3) (λ t. absurd (left-crossed (flag used) (flag crossed) (k .a) (not-false _ (w .1 .left)) t)) (k .inv .1))
-          (λ w. best-stay _ _ _ _ _ _ _ (k .a) _ _ _ _ (w .1) (w .2) (λ t. absurd (left-unused (flag used) (flag crossed) (k .a) (w .0 .left) t)) (k .inv .1))))
-          (c .if1 .came),
+          (λ w. best-stay _ _ _ _ _ _ _ m lows (k .y) _ _ best _ _ (w .3) (w .4) (λ _. omega (arith, w .2 .left, d)))
+          (λ w. best-stay _ _ _ _ _ _ _ m lows (k .y) _ _ best _ _ (w .1) (w .2) (λ h. absurd (omega (arith, h, w .0 .left)))))
+          (c .if2 .came),
     )
-
-cast-result : tie.Need-cast-result Inv-loop μ-loop
-cast-result c = let k = c .before .loop in omega (arith, c .before .before .pre .0 .few-links, best-top _ _ _ _ _ _ _ (k .a) (k .best) (k .least) (k .inv .0) (k .inv .1))
-
-returns : tie.Need-returns Inv-loop μ-loop
-returns c = let k = c .before .loop in best-all _ _ _ _ _ _ _ (k .a) (k .best) (k .least) (omega arith) (k .inv .1)
 
 pub nearest-spec : {M : Type 1} → statement M
 nearest-spec =
-    tie.close (tie.spec Inv-loop μ-loop (λ c. search needs) (λ c. search needs) add-least loop-holds array-read-if1 array-read-if2
-    (λ c. search needs) element-copy-out-l (λ c κs. search needs) (λ c. search needs) mul-d index-1-d index-2-d (λ c. search needs)
-    (λ c. search needs) loop-again cast-result returns)
+    tie.close (tie.spec Inv-loop μ-loop (λ c. search needs) (λ c. search needs) (λ c. omega (arith, c .before .pre .0, c .before .pre .1 .1)) (λ c. search needs)
+    (λ c. let s = c .before .before .before in omega (arith, s .pre .0, s .pre .1 .1))
+    (λ c m lows. here _ _ _ _ _ _ _ m lows (c .before .before .before .before .pre .1 .1) (c .before .if1 .taken)) (λ c. search needs) (λ c. search needs) (λ c. search needs)
+    (λ c. (omega arith, λ m lows. best-none _ _ _ _ _ _ _ m lows)) (λ c. search needs)
+    (λ c. omega (arith, c .before .before .before .before .before .pre .0, c .loop-test .taken)) (λ c. search needs)
+    (λ c. let s = c .before .before .before .before .before .before .before in omega (arith, s .pre .0, s .pre .1 .1))
+    (λ c. omega (arith, c .before .before .before .before .before .before .before .pre .0, c .before .before .loop-test .taken))
+    (λ c. omega (arith, read-top c)) (λ c. omega (arith, read-top c)) (λ c. search needs) (λ c. omega (arith, read-top c))
+    (λ c. search needs) (λ c. search needs) loop-again
+    (λ c m lows. let s = c .before .before .before .before .before in let k = c .before .loop in
+    best-all _ _ _ _ _ _ _ m lows (s .pre .0 .few-labels) (s .pre .0 .tail-in) (k .y) (k .best) (k .least) (c .loop-test .left) (k .inv .1 m lows)))

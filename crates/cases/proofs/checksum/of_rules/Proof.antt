@@ -1,7 +1,7 @@
 -- `cases::checksum::of_rules` meets its contract. Assumes nothing.
 use Prim.Native.Nat.{_-_, _≤_}
 use borrow.Author.Needs.{needs}
-use Rattle.table.specs.Rules.{maxRules}
+use Rattle.limits.specs.Limits.{maxRules}
 use Rattle.cases.proofs.checksum.of_rules.Statement.{statement}
 use Rattle.cases.proofs.checksum.of_rules.Tie as tie
 

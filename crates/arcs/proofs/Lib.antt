@@ -1,0 +1,5 @@
+pub mod Tables
+pub mod Past
+pub mod Chain
+pub mod Following
+pub mod Entries

@@ -1,0 +1,4 @@
+pub mod Net
+pub mod Chains
+pub mod Table
+pub mod Parts

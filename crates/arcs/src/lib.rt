@@ -1,0 +1,99 @@
+// The arcs of a plant as arrays: their tails and heads, which of them take part, and the flagged ones of each switch by rising label. Inner: no call of document 01 is here.
+use plant::Plant;
+use plant::head_of;
+use plant::tail_of;
+ghost use mathlib.Core.Path.{_≡_};
+ghost use Prim.Native.Nat.{_*_, _≤_};
+ghost use Rattle.lists.specs.Arrays.{flag, at};
+ghost use Rattle.limits.specs.Limits.{maxLinks};
+ghost use Rattle.limits.specs.Sound.{Sound};
+ghost use Rattle.plant.specs.Links.{live};
+ghost use Rattle.walks.specs.Arcs.{tail, head};
+ghost use Rattle.arcs.specs.Net.{AllArcs};
+ghost use Rattle.arcs.specs.Chains.{Chained, TailsIn};
+
+// The sizes of a network: its switches are those below `switches`, its labels those below `labels`, and its trail goes from `root`.
+pub struct Net {
+    pub switches: u8,
+    pub labels: u16,
+    pub root: u8,
+}
+
+// The first arc of each switch, and after each arc the next of the same switch, by rising label. The number of labels stands for none.
+pub struct Chains {
+    pub first: [u16; Plant::PLACES],
+    pub after: [u16; Plant::LABELS],
+}
+
+// The switch that each arc leaves.
+pub fn tails_of(p: Plant) -> [u8; Plant::LABELS]
+    requires { ⌜ Sound p ⌝ }
+    ensures { λ r. ⌜ at r ≡ tail p ⌝ }
+{
+    let mut r = [0u8; Plant::LABELS];
+    let n = 2 * p.count as usize;
+    let mut a: usize = 0;
+    while a < n {
+        r[a] = tail_of(p.links[a / 2], a);
+        a += 1;
+    }
+    r
+}
+
+// The switch that each arc reaches.
+pub fn heads_of(p: Plant) -> [u8; Plant::LABELS]
+    requires { ⌜ Sound p ⌝ }
+    ensures { λ r. ⌜ at r ≡ head p ⌝ }
+{
+    let mut r = [0u8; Plant::LABELS];
+    let n = 2 * p.count as usize;
+    let mut a: usize = 0;
+    while a < n {
+        r[a] = head_of(p.links[a / 2], a);
+        a += 1;
+    }
+    r
+}
+
+// Does link l take part in the plant?
+pub fn is_live(p: Plant, l: usize) -> bool
+    ensures { λ r. ⌜ r ≡ live p l ⌝ }
+{
+    let e = p.count as usize;
+    l < e
+}
+
+// A flag for each label: does its link take part in the plant?
+pub fn all_arcs(p: Plant) -> [bool; Plant::LABELS]
+    requires { ⌜ Sound p ⌝ }
+    ensures { λ r. ⌜ AllArcs p r ⌝ }
+{
+    let n = 2 * p.count as usize;
+    let mut r = [false; Plant::LABELS];
+    let mut a: usize = 0;
+    while a < n {
+        r[a] = is_live(p, a / 2);
+        a += 1;
+    }
+    r
+}
+
+// The flagged arcs of each switch, as chains. The labels are tried from the highest on.
+pub fn chains_of(tails: &[u8; Plant::LABELS], flags: &[bool; Plant::LABELS], n: u16) -> Chains
+    requires { ⌜ n ≤ 2 * maxLinks ⌝ }
+    requires { ⌜ TailsIn n (now tails) (now flags) ⌝ }
+    ensures { λ r. ⌜ Chained n (at (now (tails .entry))) (flag (now (flags .entry))) (r .first) (r .after) ⌝ }
+{
+    let mut first = [n; Plant::PLACES];
+    let mut after = [n; Plant::LABELS];
+    let mut a = n as usize;
+    while 0 < a {
+        a -= 1;
+        if flags[a] {
+            let x = tails[a] as usize;
+            after[a] = first[x];
+            first[x] = a as u16;
+        }
+    }
+    Chains { first, after }
+}

@@ -1,0 +1,43 @@
+-- The ends of links and arcs, read from the arrays of tails and heads. Assumes a sound plant where they are said to be switches that there can be.
+use mathlib.Core.Path.{_≡_, ap, ap₂, _∙_}
+use mathlib.Core.Logic.{⊎-elim}
+use mathlib.Core.List.{List}
+use Prim.Native.Nat.{ℕ, _*_, _/_, _<_}
+use native.Mathlib.Omega.{arith}
+use Rattle.lists.specs.Arrays.{at}
+use Rattle.lists.proofs.Tests.{below?}
+use Rattle.plant.specs.declared.Plant.{Plant}
+use Rattle.plant.specs.Links.{first, second}
+use Rattle.limits.specs.Limits.{maxSwitches}
+use Rattle.limits.specs.Sound.{Sound}
+use Rattle.walks.specs.Arcs.{tail, head}
+use Rattle.walks.proofs.Live.{below-live}
+use Rattle.walks.proofs.Labels.{tail-even, head-even, tail-in, head-in}
+use Rattle.walks.proofs.Valid.{sound-valid}
+use Rattle.arcs.specs.Net.{Ends}
+use Rattle.arcs.proofs.Past.{tail-past, head-past}
+use Rattle.graph.specs.Inner.{acrossOf}
+
+module _ (p : Plant) (xs : List ℕ) where
+  module _ (e : at xs ≡ tail p) where
+    -- the tail of the first arc of link l is its first end
+    pub first-end : (l : ℕ) → at xs (2 * l) ≡ first p l
+    first-end l = ap (λ (f : ℕ → ℕ). f (2 * l)) e ∙ tail-even p l
+
+    pub tail-place : Sound p → (a : ℕ) → at xs a < maxSwitches
+    tail-place sound a =
+        ⊎-elim (λ h. omega (arith, ap (λ (f : ℕ → ℕ). f a) e, sound .few-switches, tail-in p (sound-valid p sound) a (below-live p (a / 2) (omega arith))))
+        (λ h. omega (arith, ap (λ (f : ℕ → ℕ). f a) e, tail-past p a h sound)) (below? a (2 * p .count))
+
+  module _ (e : at xs ≡ head p) where
+    -- its head is the second
+    pub second-end : (l : ℕ) → at xs (2 * l) ≡ second p l
+    second-end l = ap (λ (f : ℕ → ℕ). f (2 * l)) e ∙ head-even p l
+
+    pub head-place : Sound p → (a : ℕ) → at xs a < maxSwitches
+    head-place sound a =
+        ⊎-elim (λ h. omega (arith, ap (λ (f : ℕ → ℕ). f a) e, sound .few-switches, head-in p (sound-valid p sound) a (below-live p (a / 2) (omega arith))))
+        (λ h. omega (arith, ap (λ (f : ℕ → ℕ). f a) e, head-past p a h sound)) (below? a (2 * p .count))
+
+pub across-is : {p : Plant} {tails heads : List ℕ} → Ends p tails heads → (l x : ℕ) → acrossOf (at tails) (at heads) l x ≡ acrossOf (tail p) (head p) l x
+across-is e l x = ap₂ (λ (f g : ℕ → ℕ). acrossOf f g l x) (e .tails-are) (e .heads-are)

@@ -1,0 +1,43 @@
+//! Writes the listings of `bench/listings` that are made by rule.
+//!
+//! `make-listings OUT_DIR` writes a path, a star, a tree and a plant whose
+//! visit is as deep as can be, one switch alone, and plants drawn by chance.
+
+use reference::make::{self, Chance, Sketch};
+use reference::plant::Plant;
+use std::path::Path;
+use std::process::ExitCode;
+
+const SEED: u64 = 64;
+
+const SWITCHES: usize = Plant::MAX_SWITCHES;
+const LINKS: usize = Plant::MAX_LINKS;
+
+fn main() -> ExitCode {
+    let Some(out) = std::env::args().nth(1) else {
+        eprintln!("usage: make-listings OUT_DIR");
+        return ExitCode::FAILURE;
+    };
+    let chance = &mut Chance::new(SEED);
+    let mut sketches: Vec<(String, Sketch)> = vec![
+        ("alone".into(), make::path(1)),
+        ("path".into(), make::path(SWITCHES)),
+        ("star".into(), make::star(SWITCHES)),
+        ("tree".into(), make::tree(chance, SWITCHES)),
+        ("deep".into(), make::deep(chance, SWITCHES, LINKS)),
+    ];
+    for links in [SWITCHES, 128, 200] {
+        sketches.push((
+            format!("random-{links}"),
+            make::exact(chance, SWITCHES, links),
+        ));
+    }
+    for (name, sketch) in sketches {
+        let file = Path::new(&out).join(name + ".listing");
+        if let Err(error) = std::fs::write(&file, make::listing_of(&sketch.plain())) {
+            eprintln!("{}: {error}", file.display());
+            return ExitCode::FAILURE;
+        }
+    }
+    ExitCode::SUCCESS
+}
