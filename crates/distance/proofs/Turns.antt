@@ -1,7 +1,7 @@
 -- A list whose members are changed in turn. Assumes nothing.
 use mathlib.Core.Path.{refl, _∙_, subst}
 use mathlib.Core.List.{List}
-use Prim.Native.Nat.{ℕ, _+_, _≤_, _<_}
+use Prim.Native.Nat.{ℕ, _+_, _<_}
 use native.Mathlib.Omega.{arith}
 use lib.ListN.{length, getD, set, length-set}
 use lib.Seq.{getD-set-other}
@@ -15,6 +15,7 @@ module _ {A : Type 0} (z : A) (R : ℕ → A → A → Type 0) (old : List A) wh
   pub turned-put : (i : ℕ) (a : A) (new : List A) → i < length old → Turned z R old i new → R i (getD new i z) a → Turned z R old (i + 1) (set new i a)
   turned-put i a new h p r = record {
     long = length-set new i a ∙ p .long;
-    done = set-cases new i a z (omega (arith, p .long)) (λ j y. j < i + 1 → R j (getD old j z) y) (λ _. subst (λ (x : A). R i x a) (p .left i (omega arith)) r) (λ j ne l. p .done j (omega (arith, ne)));
+    done = set-cases new i a z (omega (arith, p .long)) (λ j y. j < i + 1 → R j (getD old j z) y) (λ _. subst (λ (x : A). R i x a) (p .left i (omega arith)) r)
+        (λ j ne l. p .done j (omega (arith, ne)));
     left = λ j l. getD-set-other new i j a z (λ e. omega arith) ∙ p .left j (omega arith);
   }
