@@ -44,15 +44,6 @@ module _ {A : Type 0} (n : ℕ) (c : Bool) (a : Answer A) where
   pub fails : (b : Answer A) → c ≡ false → b ≡ a → b ≡ refuse n c a
   fails b e q = rw e q
 
--- ---- after an answer
-
-module _ {A B : Type 0} (a : Answer A) (f : A → Answer B) where
-  pub after-given : (x : A) (b : Answer B) → a ≡ given x → b ≡ f x → b ≡ (a >>= f)
-  after-given x b e q = rw e q
-
-  pub after-refused : (n : ℕ) → a ≡ refused n → refused n ≡ (a >>= f)
-  after-refused n e = rw e
-
 -- ---- conditions by number, in the order in which they are tried
 
 pub trying-append : {A : Type 0} (cs ds : Conditions) (a : Answer A) → trying (cs ++ ds) a ≡ trying cs (trying ds a)

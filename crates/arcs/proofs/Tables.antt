@@ -50,11 +50,6 @@ holds-grid f t p =
         ext-getD 0 (getD t i []) (getD (grid f) i []) (p .shape .wide i h ∙ sym (q .shape .wide i h))
         (λ j k. let l : j < maxSwitches = omega (arith, p .shape .wide i h) in p .cells i j h l ∙ sym (q .cells i j h l))
 
-pub grid-agree : (f g : ℕ → ℕ → ℕ) → ((u v : ℕ) → u < maxSwitches → v < maxSwitches → f u v ≡ g u v) → grid f ≡ grid g
-grid-agree f g e =
-    let p = grid-holds f in
-    holds-grid g (grid f) (record { shape = p .shape; cells = λ u v h k. p .cells u v h k ∙ e u v h k })
-
 pub flat-holds : (s : ℕ) → Holds (λ u v. s) (replicate maxSwitches (replicate maxSwitches s))
 flat-holds s = record {
   shape = record {

@@ -3,7 +3,7 @@ use mathlib.Core.Path.{_≡_, refl, ap, ap₂}
 use mathlib.Core.Logic.{_⊎_, inl, inr}
 use mathlib.Core.Bool.{Bool, true, false}
 use mathlib.Core.List.{List, [], _∷_, map}
-use Prim.Native.Nat.{ℕ, zero, suc, _+_, _≤_, _<_}
+use Prim.Native.Nat.{ℕ, zero, suc, _≤_, _<_}
 use native.Mathlib.Omega.{arith}
 use lib.Dec.{T}
 use Rattle.lists.proofs.Tests.{T-or}
@@ -11,7 +11,6 @@ use Rattle.lists.specs.Members.{In}
 use Rattle.lists.specs.Count.{bit, count}
 use Rattle.lists.proofs.Count.{count-lt}
 use Rattle.lists.specs.Numbers.{keep}
-use Rattle.lists.specs.Least.{leastFrom, least}
 
 pub in-map : (f : ℕ → ℕ) (a : ℕ) (xs : List ℕ) → In a xs → In (f a) (map f xs)
 in-map f a [] h = absurd h
@@ -33,15 +32,6 @@ pub keep-agree : (p q : ℕ → Bool) (xs : List ℕ) → ((x : ℕ) → In x xs
 keep-agree p q [] e = refl
 keep-agree p q (x ∷ xs) e =
     ap₂ (λ (b : Bool) (l : List ℕ). elim b as (λ _. List ℕ) [ true ↦ x ∷ l | false ↦ l ]) (e x (inl refl)) (keep-agree p q xs (λ y h. e y (inr h)))
-
-first-agree : (f k : ℕ) (p q : ℕ → Bool) → ((a : ℕ) → k ≤ a → a < k + f → p a ≡ q a) → leastFrom f k p ≡ leastFrom f k q
-unfolding leastFrom
-first-agree zero k p q e = refl
-first-agree (suc f) k p q e =
-    ap₂ (λ (b : Bool) (r : ℕ). elim b as (λ _. ℕ) [ true ↦ k | false ↦ r ]) (e k (omega arith) (omega arith)) (first-agree f (suc k) p q (λ a h i. e a (omega arith) (omega arith)))
-
-pub least-agree : (n : ℕ) (p q : ℕ → Bool) → ((a : ℕ) → a < n → p a ≡ q a) → least n p ≡ least n q
-least-agree n p q e = first-agree n 0 p q (λ a h i. e a (omega arith))
 
 -- a test that passes no more numbers than a narrower one passes no other
 pub count-full : (n : ℕ) (p q : ℕ → Bool) → ((k : ℕ) → k < n → T (q k) → T (p k)) → count n p ≤ count n q → (x : ℕ) → x < n → T (p x) → T (q x)

@@ -10,4 +10,3 @@ pub mod Stepwise
 pub mod Parts
 pub mod Padded
 pub mod Laid
-pub mod Filled

@@ -45,10 +45,6 @@ module _ (p : Plant) where
     pub few-arcs : arcsUsed p ≤ maxRules
     few-arcs = limits.few-arcs p ok (p .start) (ok .start-in)
 
-    pub few-used : {ok : ℕ → Bool} → ok ≡ used p → count (2 * p .count) ok ≤ maxRules
-    unfolding arcsUsedFrom
-    few-used e = rw e few-arcs
-
     -- ---- where every switch is reached
 
     module _ (con : Connected p) where

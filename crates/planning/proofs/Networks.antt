@@ -13,7 +13,7 @@ use Rattle.limits.specs.Limits.{maxLinks, maxRules}
 use Rattle.limits.specs.Sound.{Sound}
 use Rattle.walks.specs.Arcs.{tail, head, Valid}
 use Rattle.walks.specs.Graph.{reachedFrom, usedFrom, arcsUsedFrom}
-use Rattle.walks.proofs.Labels.{tail-in, head-in, arc-below}
+use Rattle.walks.proofs.Labels.{tail-in, head-in}
 use Rattle.walks.proofs.Orientation.{from-arc}
 use Rattle.walks.proofs.Limits.{few-arcs}
 use Rattle.walks.proofs.Valid.{sound-valid}

@@ -12,7 +12,7 @@ use Rattle.plant.specs.declared.Plant.{Plant}
 use Rattle.answers.specs.declared.Refusal.{Refusal}
 use Rattle.answers.specs.declared.Verdict.{Verdict}
 use Rattle.answers.specs.declared.Verdict.the-variants as verdict
-use Rattle.answers.specs.Answers.{Answer, given, refused, numberOf, Beside}
+use Rattle.answers.specs.Answers.{given, refused, numberOf, Beside}
 use Rattle.answers.specs.Checks.{check, answer}
 use Rattle.answers.proofs.Checks.{given-refused, given-given, refuse-given, goes-on, came-from}
 use Rattle.answers.proofs.Beside.{beside-given, beside-as, accepted, was-refused, on-beside, off-beside}

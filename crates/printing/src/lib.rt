@@ -57,7 +57,7 @@ fn put_rule(r: Rule, buf: &mut [u8], at: usize) -> usize
     requires { ⌜ Room (now buf) at (ruleLine (r .from) (r .label) (r .to)) ⌝ }
     ensures { λ n. ⌜ Laid (now (buf .entry)) at (ruleLine (r .from) (r .label) (r .to)) (now (buf .exit)) n ⌝ }
 {
-    text::put_rule(buf, at, r.from as u32, r.label as u32, r.to as u32)
+    text::put_rule(buf, at, r.from as u16, r.label, r.to as u16)
 }
 
 // A line for each rule of a table.

@@ -95,45 +95,21 @@ fn end_line(buf: &mut [u8], at: usize) -> usize
 }
 
 // Numbers, each after a space.
-fn put_numbers(buf: &mut [u8], at: usize, ns: &[u32]) -> usize
+fn put_numbers(buf: &mut [u8], at: usize, ns: &[u16]) -> usize
     requires { ⌜ Room (now buf) at (spacedAll (now ns)) ⌝ }
     ensures { λ r. ⌜ Laid (now (buf .entry)) at (spacedAll (now (ns .entry))) (now (buf .exit)) r ⌝ }
 {
     let mut next = at;
     let mut i: usize = 0;
     while i < ns.len() {
-        next = put_number(buf, next, ns[i]);
+        next = put_number(buf, next, ns[i] as u32);
         i += 1;
     }
     next
-}
-
-// The first `count` of these labels, each after a space.
-fn put_labels(buf: &mut [u8], at: usize, labels: &[u16], count: usize) -> usize
-    requires { ⌜ (count ≤ length (now labels)) × Room (now buf) at (spacedAll (take count (now labels))) ⌝ }
-    ensures { λ r. ⌜ Laid (now (buf .entry)) at (spacedAll (take count (now (labels .entry)))) (now (buf .exit)) r ⌝ }
-{
-    let mut next = at;
-    let mut i: usize = 0;
-    while i < count {
-        next = put_number(buf, next, labels[i] as u32);
-        i += 1;
-    }
-    next
-}
-
-// The trail line of the first `count` of these labels.
-pub fn put_trail(buf: &mut [u8], at: usize, labels: &[u16], count: usize) -> usize
-    requires { ⌜ (count ≤ length (now labels)) × Room (now buf) at (trailLine (take count (now labels))) ⌝ }
-    ensures { λ r. ⌜ Laid (now (buf .entry)) at (trailLine (take count (now (labels .entry)))) (now (buf .exit)) r ⌝ }
-{
-    let first = put_word(buf, at, b"trail");
-    let end = put_labels(buf, first, labels, count);
-    end_line(buf, end)
 }
 
 // A line of a word and numbers.
-fn put_line(buf: &mut [u8], at: usize, word: &[u8], ns: &[u32]) -> usize
+fn put_line(buf: &mut [u8], at: usize, word: &[u8], ns: &[u16]) -> usize
     requires { ⌜ Room (now buf) at (line (now word) (now ns)) ⌝ }
     ensures { λ r. ⌜ Laid (now (buf .entry)) at (line (now (word .entry)) (now (ns .entry))) (now (buf .exit)) r ⌝ }
 {
@@ -156,18 +132,12 @@ pub fn put_summary(
     ensures { λ r. ⌜ Laid (now (buf .entry)) at (summaryLine switches links bridges rules hops) (now (buf .exit)) r ⌝ }
     ensures { λ r. ⌜ r ≤ at + summaryMost ⌝ }
 {
-    let ns = [
-        switches as u32,
-        links as u32,
-        bridges as u32,
-        rules as u32,
-        hops as u32,
-    ];
+    let ns = [switches, links, bridges, rules, hops];
     put_line(buf, at, b"plant", &ns)
 }
 
 // The line of a rule.
-pub fn put_rule(buf: &mut [u8], at: usize, from: u32, label: u32, to: u32) -> usize
+pub fn put_rule(buf: &mut [u8], at: usize, from: u16, label: u16, to: u16) -> usize
     requires { ⌜ Room (now buf) at (ruleLine from label to) ⌝ }
     ensures { λ r. ⌜ Laid (now (buf .entry)) at (ruleLine from label to) (now (buf .exit)) r ⌝ }
 {
@@ -175,11 +145,19 @@ pub fn put_rule(buf: &mut [u8], at: usize, from: u32, label: u32, to: u32) -> us
     put_line(buf, at, b"rule", &ns)
 }
 
+// The trail line of the first `count` of these labels.
+pub fn put_trail(buf: &mut [u8], at: usize, labels: &[u16], count: usize) -> usize
+    requires { ⌜ (count ≤ length (now labels)) × Room (now buf) at (trailLine (take count (now labels))) ⌝ }
+    ensures { λ r. ⌜ Laid (now (buf .entry)) at (trailLine (take count (now (labels .entry)))) (now (buf .exit)) r ⌝ }
+{
+    put_line(buf, at, b"trail", &labels[0..count])
+}
+
 // The output of a refusal, at the front of the buffer.
 pub fn put_refusal(buf: &mut [u8], n: u8) -> usize
     requires { ⌜ refusalMost ≤ length (now buf) ⌝ }
     ensures { λ r. ⌜ Laid (now (buf .entry)) 0 (refusalOf n) (now (buf .exit)) r ⌝ }
 {
-    let ns = [n as u32];
+    let ns = [n as u16];
     put_line(buf, 0, b"refused", &ns)
 }

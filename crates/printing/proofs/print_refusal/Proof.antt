@@ -1,5 +1,5 @@
 -- `printing::print_refusal` meets its contract: what is laid at the front of the buffer is what it hands on to be written. Assumes nothing.
-use mathlib.Core.Path.{_∙_, ap, sym}
+use mathlib.Core.Path.{_∙_, ap}
 use Rattle.text.specs.Lines.{refusalOf}
 use Rattle.text.proofs.LaidLaws.{laid-front}
 use borrow.Author.Needs.{needs}
