@@ -1,4 +1,4 @@
--- The flagged arcs of each switch by rising label, as chains: the first of each switch, and after each the next of the same switch. Assumes nothing.
+-- Inner: the flagged arcs of each switch by rising label, as chains: the first of each switch, and after each the next of the same switch. Assumes nothing.
 use mathlib.Core.Path.{_≡_}
 use mathlib.Core.Bool.{Bool, _&&_}
 use mathlib.Core.List.{List}

@@ -1,4 +1,4 @@
--- The ends of the arcs as arrays, and a network: so many switches, labels below some number, and a root. Assumes nothing.
+-- Inner: the ends of the arcs as arrays, and a network: so many switches, labels below some number, and a root. Assumes nothing.
 use mathlib.Core.Path.{_≡_}
 use mathlib.Core.Bool.{Bool}
 use mathlib.Core.List.{List}

@@ -1,4 +1,4 @@
--- What the parts of a plan are: a network with the ends of its arcs, flags of the arcs in use, their chains, and the table of distances over them. Functions that lay or
+-- Inner: what the parts of a plan are: a network with the ends of its arcs, flags of the arcs in use, their chains, and the table of distances over them. Functions that lay or
 -- compare the trail ask for it. Assumes nothing.
 use mathlib.Core.Path.{_≡_}
 use mathlib.Core.Bool.{Bool}

@@ -1,4 +1,4 @@
--- The table of distances of a network by value, a list of lists: document 01, "A table holds the fewest hops over arcs in use between every two switches". Where there is no
+-- Inner: the table of distances of a network by value, a list of lists: document 01, "A table holds the fewest hops over arcs in use between every two switches". Where there is no
 -- walk it holds the number of switches. And the trail of a network, by document 01's words. Assumes nothing.
 use mathlib.Core.Bool.{Bool}
 use mathlib.Core.List.{List, [], map}

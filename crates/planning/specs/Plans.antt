@@ -1,4 +1,4 @@
--- What the parts of a plan are: each is what the definitions say of the plant from the root. Inner functions ask for it. Assumes nothing.
+-- Inner: what the parts of a plan are: each is what the definitions say of the plant from the root. Inner functions ask for it. Assumes nothing.
 use mathlib.Core.Path.{_≡_}
 use mathlib.Core.List.{List}
 use Prim.Native.Nat.{ℕ, _*_}

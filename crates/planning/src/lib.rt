@@ -93,7 +93,7 @@ fn net_of(p: Plant, root: u8) -> Net
     }
 }
 
-// The parts of the plan of a plant whose switches were all reached by the visit.
+// The parts of the plan of what the visit reached, from its root.
 fn parts_of(
     p: Plant,
     tails: [u8; Plant::LABELS],
@@ -229,7 +229,7 @@ pub fn compare(x: Parts, t: &[[u8; Plant::PLACES]; Plant::PLACES], lent: &[u16])
     )
 }
 
-// The forwarding table of a plan.
+// The forwarding table of a plan, whose table of distances is handed over for the contract alone.
 pub fn table_of(x: Parts, t: &[[u8; Plant::PLACES]; Plant::PLACES]) -> Table
     requires { ⌜ Plan x (now t) ⌝ }
     ensures { λ r. ⌜ r ≡ tableOf (x .plant) ⌝ }
@@ -240,7 +240,7 @@ pub fn table_of(x: Parts, t: &[[u8; Plant::PLACES]; Plant::PLACES]) -> Table
     table::table_of(&tails, &heads, &used, x.net.labels)
 }
 
-// The numbers of a plan.
+// The numbers of a plan, whose table of distances is handed over for the contract alone.
 pub fn numbers_of(x: Parts, t: &[[u8; Plant::PLACES]; Plant::PLACES]) -> Numbers
     requires { ⌜ Plan x (now t) ⌝ }
     ensures { λ r. ⌜ r ≡ numbersOf (x .plant) ⌝ }

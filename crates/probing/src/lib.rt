@@ -153,7 +153,7 @@ fn probe_wanted(p: Plant, search: Search) -> Asked
 
 // ---- a packet that is no probe
 
-// A packet runs under the forwarding table of a plan alone: refusal 13.
+// A packet runs under the forwarding table of a plan alone: refusal 13. The table of distances is handed over for the contract alone.
 fn run_in(
     x: Parts,
     t: &[[u8; Plant::PLACES]; Plant::PLACES],
