@@ -3,3 +3,4 @@ pub mod Past
 pub mod Chain
 pub mod Following
 pub mod Entries
+pub mod Ways

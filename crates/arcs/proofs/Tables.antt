@@ -10,13 +10,9 @@ use Rattle.lists.proofs.Tests.{eq?}
 use Rattle.lists.proofs.Numbers.{values-length, values-at}
 use Rattle.lists.specs.Numbers.{range}
 use Rattle.limits.specs.Limits.{maxSwitches}
-use Rattle.arcs.specs.Table.{cell, grid}
+use Rattle.arcs.specs.Table.{cell, grid, Shape}
 
--- ---- the shape of a table, and its cells
-
-pub record Shape (t : List (List ℕ)) : Type 0 where
-  pub long : length t ≡ maxSwitches
-  pub wide : (i : ℕ) → i < maxSwitches → length (getD t i []) ≡ maxSwitches
+-- ---- the cells of a table
 
 -- f tells every cell of the table
 pub record Holds (f : ℕ → ℕ → ℕ) (t : List (List ℕ)) : Type 0 where

@@ -2,3 +2,4 @@ pub mod Net
 pub mod Chains
 pub mod Table
 pub mod Parts
+pub mod Legs

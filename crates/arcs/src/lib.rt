@@ -25,6 +25,13 @@ pub struct Chains {
     pub after: [u16; Plant::LABELS],
 }
 
+// The legs of a trail: the arc that each crosses at its end, and the hops of the whole. The last leg, back to the root, crosses none.
+pub struct Legs {
+    pub count: u16,
+    pub hops: u16,
+    pub aims: [u16; Plant::MAX_RULES],
+}
+
 // The switch that each arc leaves.
 pub fn tails_of(p: Plant) -> [u8; Plant::LABELS]
     requires { ⌜ Sound p ⌝ }

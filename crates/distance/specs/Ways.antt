@@ -8,8 +8,7 @@ use lib.ListN.{length, getD, set}
 use Rattle.lists.specs.Arrays.{at}
 use Rattle.limits.specs.Limits.{maxSwitches}
 use Rattle.routes.specs.Distance.{dist}
-use Rattle.arcs.specs.Table.{cell}
-use Rattle.arcs.proofs.Tables.{Shape}
+use Rattle.arcs.specs.Table.{cell, Shape}
 
 -- of a list, each member below i has become what R says of its place and of what it was, and the others are as they were
 pub record Turned {A : Type 0} (z : A) (R : ℕ → A → A → Type 0) (old : List A) (i : ℕ) (new : List A) : Type 0 where

@@ -1,29 +1,23 @@
-// The listing of a plant (document 01, "Listing bytes"): its reader and its writer. Inner: the calls are the crates `planner` and `probing`.
+// The listing of a plant (document 01, "Listing bytes"): the layouts of its parts, the conditions on its values, and its reader. Inner: the calls are the crates `planner` and
+// `probing`.
 use answers::Refusal;
 use answers::Verdict;
-use answers::first_of;
 use codec::Field;
 use codec::Layout;
-use codec::part_size;
-use codec::put_part;
 use codec::read_part;
 use plant::Link;
 use plant::Plant;
 ghost use mathlib.Core.Path.{_≡_};
 ghost use mathlib.Core.List.{List, [], _∷_};
 ghost use Prim.Native.Nat.{ℕ, _+_, _^_, _≤_, _<_};
-ghost use lib.Dec.{ltb};
-ghost use lib.ListN.{length, drop};
-ghost use lib.Seq.{sets};
-ghost use Rattle.lists.specs.Members.{all};
-ghost use Rattle.plant.specs.Links.{zeroLink, plantWith};
+ghost use lib.ListN.{drop};
+ghost use Rattle.plant.specs.Links.{plantWith};
 ghost use Rattle.answers.specs.Answers.{Answer, refused, numberOf, verdictAnswer};
-ghost use Rattle.answers.specs.Checks.{Judges, answer};
+ghost use Rattle.answers.specs.Checks.{answer};
 ghost use Rattle.limits.specs.Limits.{maxLinks};
 ghost use Rattle.codec.specs.Layout.{Lays};
-ghost use Rattle.listing.specs.Listing.{valueOutOfRange, headerFields, linkFields, linkOf, soundLink, link, linked, linksOf, linksBytes, encode};
-ghost use Rattle.listing.specs.Writing.{isZero, soundLinks, soundPlant, writing, bufferAfter};
-ghost use Rattle.listing.specs.Answers.{Reads, writeAnswer};
+ghost use Rattle.listing.specs.Listing.{valueOutOfRange, headerFields, linkFields, linkOf, soundLink, link, linked};
+ghost use Rattle.listing.specs.Answers.{Reads};
 ghost use Rattle.listing.specs.Steps.{recordAnswer, judgedLink, HeaderIs, ReadsHeader, LinkedIs, ReadsLinks, ReadsEnd};
 
 // Switch count, link count and start of a header, and the place after it. At a refusal they are those of the plant of one switch and no link, and the place is that
@@ -73,7 +67,7 @@ fn three(first: Field, second: Field, third: Field) -> Layout
 }
 
 // The fields of a header: switch count, link count, start.
-fn header_layout() -> Layout
+pub fn header_layout() -> Layout
     ensures { λ r. do ⌜ Lays (← ⟦Layout::MOST⟧ .entry) headerFields r ⌝ }
 {
     let first = Field {
@@ -92,7 +86,7 @@ fn header_layout() -> Layout
 }
 
 // The fields of a link after the record `before`: first end, second end, tag.
-fn link_layout(before: Link) -> Layout
+pub fn link_layout(before: Link) -> Layout
     ensures { λ r. do ⌜ Lays (← ⟦Layout::MOST⟧ .entry) (linkFields before) r ⌝ }
 {
     let first = Field {
@@ -110,27 +104,8 @@ fn link_layout(before: Link) -> Layout
     three(first, second, third)
 }
 
-// The values of a plant's header, and of a link.
-fn header_values(p: Plant) -> [u32; Layout::MOST]
-    ensures { λ r. ⌜ r ≡ p .switches ∷ p .count ∷ p .start ∷ [] ⌝ }
-{
-    let mut vs = [p.switches as u32; Layout::MOST];
-    vs[1] = p.count as u32;
-    vs[2] = p.start as u32;
-    vs
-}
-
-fn link_values(l: Link) -> [u32; Layout::MOST]
-    ensures { λ r. ⌜ r ≡ l .first ∷ l .second ∷ l .tag ∷ [] ⌝ }
-{
-    let mut vs = [l.first as u32; Layout::MOST];
-    vs[1] = l.second as u32;
-    vs[2] = l.tag as u32;
-    vs
-}
-
 // Refusal 5's condition on the values of a header.
-fn out_of_range(switches: u32, count: u32, start: u32) -> bool
+pub fn out_of_range(switches: u32, count: u32, start: u32) -> bool
     ensures { λ r. ⌜ r ≡ valueOutOfRange switches count start ⌝ }
 {
     if switches < 1 {
@@ -189,7 +164,7 @@ pub fn read_header(s: &[u8], at: usize) -> Header
 }
 
 // Refusals 6 and 7 of a link with these ends.
-fn judge_ends(first: u32, second: u32, switches: u8) -> Verdict
+pub fn judge_ends(first: u32, second: u32, switches: u8) -> Verdict
     ensures { λ r. ⌜ ((tag : ℕ) → verdictAnswer r ≡ answer (soundLink switches (linkOf first second tag))) ⌝ }
 {
     let most = switches as u32;
@@ -322,157 +297,5 @@ pub fn read_end(s: &[u8], at: usize, l: Linked) -> Decoded
             }
         }
         Verdict::Refused(k) => refused_reading(k),
-    }
-}
-
-// Is this the link place that is not in use?
-fn is_zero(l: Link) -> bool
-    ensures { λ r. ⌜ r ≡ isZero l ⌝ }
-{
-    if l.first != 0 {
-        return false;
-    }
-    if l.second != 0 {
-        return false;
-    }
-    if l.tag != 0 {
-        return false;
-    }
-    true
-}
-
-// Is every link place past the links zero?
-fn places_zero(p: Plant) -> bool
-    ensures { λ r. ⌜ r ≡ all isZero (drop (p .count) (p .links)) ⌝ }
-{
-    let mut i = p.count as usize;
-    while i < Plant::MAX_LINKS {
-        if !is_zero(p.links[i]) {
-            return false;
-        }
-        i += 1;
-    }
-    true
-}
-
-// The links that a plant value holds: a count past its places counts as all of them.
-fn links_held(p: Plant) -> usize
-    ensures { λ r. ⌜ (r ≡ length (linksOf p)) × (r ≤ maxLinks) ⌝ }
-{
-    let n = p.count as usize;
-    if Plant::MAX_LINKS < n {
-        return Plant::MAX_LINKS;
-    }
-    n
-}
-
-// Refusals 6 and 7, link by link.
-fn judge_links(p: Plant) -> Verdict
-    ensures { λ r. ⌜ verdictAnswer r ≡ answer (soundLinks (p .switches) (linksOf p)) ⌝ }
-{
-    let n = links_held(p);
-    let switches = p.switches;
-    let mut i: usize = 0;
-    while i < n {
-        let l = p.links[i];
-        match judge_ends(l.first as u32, l.second as u32, switches) {
-            Verdict::Accepted => {}
-            Verdict::Refused(k) => {
-                return Verdict::Refused(k);
-            }
-        }
-        i += 1;
-    }
-    Verdict::Accepted
-}
-
-// Refusals 5, 6 and 7 of any plant value.
-fn judge_plant(p: Plant) -> Verdict
-    ensures { λ r. ⌜ verdictAnswer r ≡ answer (soundPlant p) ⌝ }
-{
-    if out_of_range(p.switches as u32, p.count as u32, p.start as u32) {
-        return Verdict::Refused(Refusal::ValueOutOfRange);
-    }
-    if !places_zero(p) {
-        return Verdict::Refused(Refusal::ValueOutOfRange);
-    }
-    judge_links(p)
-}
-
-// Refusal 16 of a lent buffer with this length, for a listing of so many bytes.
-fn judge_room(size: usize, room: usize) -> Verdict
-    ensures { λ r. ⌜ Judges ((16, ltb room size) ∷ []) r ⌝ }
-{
-    if room < size {
-        return Verdict::Refused(Refusal::ListingBufferShort);
-    }
-    Verdict::Accepted
-}
-
-// The length of a plant's listing.
-fn listing_size(p: Plant) -> usize
-    ensures { λ r. ⌜ r ≡ length (encode p) ⌝ }
-{
-    let n = links_held(p);
-    let mut size = part_size(header_layout(), header_values(p));
-    let mut before = Link::zero();
-    let mut i: usize = 0;
-    while i < n {
-        let l = p.links[i];
-        size += part_size(link_layout(before), link_values(l));
-        before = l;
-        i += 1;
-    }
-    size
-}
-
-// The links of a plant, from `from` on.
-fn put_links(p: Plant, buf: &mut [u8], from: usize)
-    requires { ⌜ from + length (linksBytes zeroLink (linksOf p)) ≤ length (now buf) ⌝ }
-    ensures { λ _. ⌜ now (buf .exit) ≡ sets (now (buf .entry)) from (linksBytes zeroLink (linksOf p)) ⌝ }
-{
-    let n = links_held(p);
-    let mut before = Link::zero();
-    let mut at = from;
-    let mut i: usize = 0;
-    while i < n {
-        let l = p.links[i];
-        at = put_part(buf, at, link_layout(before), link_values(l));
-        before = l;
-        i += 1;
-    }
-}
-
-// A plant's listing at the front of the buffer.
-fn put_listing(p: Plant, buf: &mut [u8])
-    requires { ⌜ length (encode p) ≤ length (now buf) ⌝ }
-    ensures { λ _. ⌜ now (buf .exit) ≡ sets (now (buf .entry)) 0 (encode p) ⌝ }
-{
-    let from = put_part(buf, 0, header_layout(), header_values(p));
-    put_links(p, buf, from);
-}
-
-// A refused writing: the lent buffer stays as it was.
-fn refused_writing(k: Refusal, buffer: &mut [u8]) -> Written
-    ensures { λ r. ⌜ writeAnswer r ≡ refused (numberOf k) ⌝ }
-    ensures { λ _. ⌜ now (buffer .exit) ≡ now (buffer .entry) ⌝ }
-{
-    Written::Refused(k)
-}
-
-// The listing of a plant into the front of the lent buffer: its length, or refusals 5, 6, 7 and 16.
-pub fn write(p: Plant, buffer: &mut [u8]) -> Written
-    ensures { λ r. ⌜ writeAnswer r ≡ answer (writing p (now (buffer .entry))) ⌝ }
-    ensures { λ _. ⌜ now (buffer .exit) ≡ bufferAfter p (now (buffer .entry)) ⌝ }
-{
-    let sound = judge_plant(p);
-    let n = listing_size(p);
-    let room = judge_room(n, buffer.len());
-    match first_of(sound, room) {
-        Verdict::Accepted => {
-            put_listing(p, buffer);
-            Written::Length(n)
-        }
-        Verdict::Refused(k) => refused_writing(k, buffer),
     }
 }

@@ -55,7 +55,7 @@ pub fn write(p: Plant, buffer: &mut [u8]) -> Written
     ensures { λ r. ⌜ writeAnswer r ≡ answer (writing p (now (buffer .entry))) ⌝ }
     ensures { λ _. ⌜ now (buffer .exit) ≡ bufferAfter p (now (buffer .entry)) ⌝ }
 {
-    listing::write(p, buffer)
+    writing::write(p, buffer)
 }
 
 // A listing read and written again: the same bytes at the front of the lent buffer. Refusals 1 to 8, then 16.
@@ -68,7 +68,7 @@ pub fn rewrite(listing: &[u8], buffer: &mut [u8]) -> Written
     match v {
         Verdict::Accepted => {
             let p = d.plant;
-            listing::write(p, buffer)
+            writing::write(p, buffer)
         }
         Verdict::Refused(k) => Written::Refused(k),
     }
@@ -79,7 +79,7 @@ pub fn reread(p: Plant, buffer: &mut [u8]) -> Decoded
     ensures { λ r. ⌜ Reads (answer (rereading p (now (buffer .entry)))) r ⌝ }
     ensures { λ _. ⌜ now (buffer .exit) ≡ bufferAfter p (now (buffer .entry)) ⌝ }
 {
-    match listing::write(p, buffer) {
+    match writing::write(p, buffer) {
         Written::Length(n) => reading::read(&buffer[..n]),
         Written::Refused(k) => listing::refused_reading(k),
     }

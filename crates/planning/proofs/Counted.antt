@@ -18,6 +18,7 @@ use Rattle.walks.proofs.Valid.{sound-valid}
 use Rattle.graph.specs.Flags.{Flags, countSet}
 use Rattle.graph.proofs.Uses.{bridges-counted, arcs-counted}
 use Rattle.arcs.specs.Table.{trailIn}
+use Rattle.trail.specs.Ways.{Trailing}
 use Rattle.plan.specs.Plan.{arcsUsed, trailOf, tableOf}
 use Rattle.plan.proofs.Plan as plant
 use Rattle.table.specs.Rules.{tableIn}
@@ -40,6 +41,10 @@ module _ (x : Parts) (t : List (List ℕ)) (plan : Plan x t) where
 
   ok : Valid p
   ok = sound-valid p (plan .sound)
+
+  -- its parts and its legs, as laying and comparing ask for them
+  abbrev pub trailing : Trailing (x .net) (x .tails) (x .heads) (x .first) (x .after) t (x .legs)
+  trailing = record { used = x .used; parts = plan .table; legs-are = plan .parts .legs-are }
 
   -- the trail of the network is the plant's
   pub trail-is : trailIn (x .net) (x .tails) (x .heads) (x .used) ≡ trailOf p

@@ -11,7 +11,7 @@ use Rattle.arcs.specs.declared.Net.{Net}
 use Rattle.arcs.specs.Net.{Ends}
 use Rattle.arcs.specs.Parts as network
 use Rattle.graph.specs.Flags.{Flags}
-use Rattle.trail.specs.Legs.{LegsOf}
+use Rattle.arcs.specs.Legs.{LegsOf}
 use Rattle.planning.specs.declared.Parts.{Parts}
 
 -- the network of a plant from the root r

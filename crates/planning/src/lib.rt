@@ -1,11 +1,11 @@
 // The plan of a listing, which every call that plans goes through. Inner: the calls are the crates `planner` and `probing`.
 use answers::Refusal;
 use answers::Verdict;
+use arcs::Legs;
 use arcs::Net;
 use plant::Plant;
 use table::Table;
 use trail::Compared;
-use trail::Legs;
 ghost use mathlib.Core.Path.{_≡_};
 ghost use Prim.Native.Nat.{_≤_};
 ghost use lib.ListN.{length};
@@ -115,7 +115,7 @@ fn parts_of(
     let after = c.after;
     let d = distance::distances(net, &tails, &heads, &used);
     *t = d;
-    let legs = trail::legs_of(net, &tails, &heads, &used, &first, &after, d);
+    let legs = legs::legs_of(net, &tails, &heads, &used, &first, &after, d);
     Parts {
         plant: p,
         net,
@@ -200,10 +200,9 @@ pub fn lay(x: Parts, t: &[[u8; Plant::PLACES]; Plant::PLACES], buf: &mut [u16])
 {
     let tails = x.tails;
     let heads = x.heads;
-    let used = x.used;
     let first = x.first;
     let after = x.after;
-    trail::lay(x.net, &tails, &heads, &used, &first, &after, t, x.legs, buf);
+    trail::lay(x.net, &tails, &heads, &first, &after, t, x.legs, buf);
 }
 
 // Does the lent slice begin with the hops of the trail of a plan?
@@ -213,20 +212,9 @@ pub fn compare(x: Parts, t: &[[u8; Plant::PLACES]; Plant::PLACES], lent: &[u16])
 {
     let tails = x.tails;
     let heads = x.heads;
-    let used = x.used;
     let first = x.first;
     let after = x.after;
-    trail::compare(
-        x.net,
-        &tails,
-        &heads,
-        &used,
-        &first,
-        &after,
-        t,
-        x.legs,
-        lent,
-    )
+    trail::compare(x.net, &tails, &heads, &first, &after, t, x.legs, lent)
 }
 
 // The forwarding table of a plan, whose table of distances is handed over for the contract alone.

@@ -14,10 +14,10 @@ use Rattle.limits.specs.Limits.{maxLinks, maxRules}
 use Rattle.routes.specs.Meaning.{InUse}
 use Rattle.arcs.specs.declared.Net.{Net}
 use Rattle.arcs.specs.Parts.{Parts}
-use Rattle.trail.specs.declared.Legs.{Legs}
-use Rattle.trail.specs.Legs.{routeIn, Joined, along, LegsOf}
+use Rattle.arcs.specs.declared.Legs.{Legs}
+use Rattle.arcs.specs.Legs.{routeIn, Joined, along, LegsOf}
+use Rattle.arcs.proofs.Ways.{part-joined}
 use Rattle.trail.proofs.Filled.{Splits}
-use Rattle.trail.proofs.Ways.{part-joined}
 
 -- what is left of the trail at u, after k legs
 abbrev pub leftOf : Net → List ℕ → List ℕ → List Bool → Legs → ℕ → ℕ → List ℕ

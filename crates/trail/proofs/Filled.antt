@@ -15,7 +15,7 @@ use Rattle.lists.proofs.Tests.{and-true}
 use Rattle.trail.specs.declared.Compared.{Compared}
 use Rattle.trail.specs.declared.Compared.the-variants.{Same, Other}
 use Rattle.trail.specs.Filled.{filledWith, beginsWith, Tells}
-use Rattle.trail.specs.Legs.{Laid, TellsFrom}
+use Rattle.trail.specs.Ways.{Laid, TellsFrom}
 
 -- the list l is w and then v
 pub record Splits (l w v : List ℕ) : Type 0 where

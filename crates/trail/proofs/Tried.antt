@@ -13,8 +13,8 @@ use Rattle.arcs.specs.declared.Net.{Net}
 use Rattle.arcs.specs.Table.{cell, distanceIn}
 use Rattle.arcs.specs.Parts.{Parts}
 use Rattle.arcs.proofs.Following.{follows-first, follows-after}
-use Rattle.trail.specs.Legs.{hopIn, Joined}
-use Rattle.trail.proofs.Ways.{entry}
+use Rattle.arcs.specs.Legs.{hopIn, Joined}
+use Rattle.arcs.proofs.Ways.{entry-in}
 
 -- a is a label of the chain of u, or its end, and those before it do not lessen the distance to v
 pub record Tried (n : ℕ) (tails heads : List ℕ) (used : List Bool) (t : List (List ℕ)) (u v a : ℕ) : Type 0 where
@@ -35,10 +35,10 @@ module _ {net : Net} {tails heads : List ℕ} {used : List Bool} {first after : 
         record { top = f .top; in-use = f .flagged; leaves = f .leaves; none = λ b h l e. absurd (omega (arith, f .top, h, f .lowest b (omega arith) (omega (arith, f .top)) l e)) }
 
     here : cell t u v ≡ distanceIn net tails heads used u v
-    here = entry (p .within) (p .table) u v (j .from-in) (j .to-in)
+    here = entry-in (p .within) (p .table) u v (j .from-in) (j .to-in)
 
     there : (b : ℕ) → b < net .labels → T (flag used b) → cell t (at heads b) v ≡ distanceIn net tails heads used (at heads b) v
-    there b h l = entry (p .within) (p .table) (at heads b) v (p .within .head-in b h l) (j .to-in)
+    there b h l = entry-in (p .within) (p .table) (at heads b) v (p .within .head-in b h l) (j .to-in)
 
     module _ (a : ℕ) (q : Q a) where
       pub tried-next : a < net .labels → cell t u v ≤ cell t (at heads a) v → (a < at after a) × Q (at after a)

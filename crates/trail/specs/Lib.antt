@@ -1,3 +1,3 @@
-pub mod Legs
 pub mod Filled
+pub mod Ways
 pub mod Cases

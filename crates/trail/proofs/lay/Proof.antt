@@ -1,6 +1,6 @@
 -- The trail into a buffer. The invariant: what is left to store makes what the whole trail makes. The measure is the legs left. Assumes nothing.
 use mathlib.Core.Path.{_≡_, refl}
-use Prim.Native.Nat.{_-_}
+use Prim.Native.Nat.{_-_, _<_}
 use native.Mathlib.Omega.{arith}
 use borrow.Author.Needs.{needs}
 use lib.Dec.{T}
@@ -8,10 +8,11 @@ use lib.ListN.{length}
 use Rattle.lists.specs.Arrays.{at}
 use Rattle.lists.proofs.Arrays.{sized}
 use Rattle.limits.specs.Limits.{maxRules}
-use Rattle.arcs.specs.Table.{trailIn}
-use Rattle.arcs.specs.Parts.{Parts}
+use Rattle.arcs.proofs.Ways.{way-size}
+use Rattle.trail.specs.Ways.{Trailing, trailBy}
 use Rattle.trail.proofs.Filled.{Stored, stored-none, stored-one, stored-room, stored-list, stored-all, laid-front}
 use Rattle.trail.proofs.Along.{leftOf, Leg, Back, leg, back}
+use Rattle.trail.proofs.Ways.{way-of}
 use Rattle.trail.proofs.lay.Statement.{statement}
 use Rattle.trail.proofs.lay.Tie as tie
 use Rattle.trail.proofs.lay.Reads as reads
@@ -19,64 +20,86 @@ use Rattle.trail.proofs.lay.Lts as lts
 use Rattle.trail.proofs.lay_way.Reads as lay-way-reads
 
 abbrev Inv-loop : tie.InvT-loop
-Inv-loop net tails heads used first after t buf₀ legs root m i₀ u₀ k₀ buf i u k =
-    ((p : Parts net tails heads used first after t) → T (p .part u)) × (length (legs .aims) ≡ maxRules)
-    × Stored buf₀ 0 (trailIn net tails heads used) buf i (leftOf net tails heads used legs k u)
+Inv-loop net tails heads first after t buf₀ legs root m i₀ u₀ k₀ buf i u k =
+    (length (legs .aims) ≡ maxRules)
+    × ((w : Trailing net tails heads first after t legs) → T (w .parts .part u) × Stored buf₀ 0 (trailBy w) buf i (leftOf net tails heads (w .used) legs k u))
 
 abbrev μ-loop : tie.MeasureT-loop
-μ-loop net tails heads used first after t buf₀ legs root m i₀ u₀ k₀ buf i u k = m - k
+μ-loop net tails heads first after t buf₀ legs root m i₀ u₀ k₀ buf i u k = m - k
 
 loop-holds : tie.Need-loop-holds Inv-loop μ-loop
-loop-holds c =
-    let s = c .before in
-    (λ p. p .strong .starts, sized _ (s .args .t8 .aims) maxRules (s .good .1 .1 .1 .1 .1 .1 .1 .0 .1 .1 .1 .1 .0 .1 .0 .1), stored-none (s .pre .1 .0 .goes))
+loop-holds c = (sized _ (c .before .args .t7 .aims) maxRules (c .before .good .1 .1 .1 .1 .1 .1 .0 .1 .1 .1 .1 .0 .1 .0 .1), λ w. (w .parts .strong .starts, stored-none (w .legs-are .goes)))
 
 -- the next leg
 next : (c : lts.In-loop (lay-way-reads.Asked, lay-way-reads.Learnt) reads.Pre reads.Post Inv-loop μ-loop)
     → let s = c .before .before .before in let k = c .before .loop in
-    Leg (s .pre .0) (s .pre .1 .0) (k .inv .1) (k .u) (k .k) (k .inv .0 (s .pre .0)) (at (s .args .t8 .aims) (k .k))
-next c = leg _ _ _ _ _ _ (c .loop-test .taken)
+    (w : Trailing (s .args .net) (s .args .tails .now) (s .args .heads .now) (s .args .first .now) (s .args .after .now) (s .args .t .now) (s .args .t7))
+    → Leg (w .parts) (w .legs-are) (k .inv .0) (k .u) (k .k) (k .inv .1 w .0) (at (s .args .t7 .aims) (k .k))
+next c w = leg _ _ _ _ _ _ (c .loop-test .taken)
 
 lay-way-requires : tie.Need-lay-way-requires Inv-loop μ-loop
 lay-way-requires c κs =
     let in-loop = c .before .before .before in
     let s = in-loop .before .before .before in
-    (s .pre .0, (next in-loop .joined, stored-room (in-loop .before .loop .inv .2) (next in-loop .goes) (omega (arith, s .pre .1 .1))))
+    let w = s .pre .0 in
+    let l = next in-loop w in
+    (way-of (w .parts) (l .joined), omega (arith, stored-room (in-loop .before .loop .inv .1 w .1) (l .goes) (omega (arith, s .pre .1, w .legs-are .hops)), way-size (w .parts) (l .joined)))
 
 slice-write-buf : tie.Need-slice-write-buf Inv-loop μ-loop
 slice-write-buf c =
     let in-loop = c .before .before .before .before .before .before in
-    omega (arith, stored-list (in-loop .before .loop .inv .2) (next in-loop .goes) (c .before .before .lay-way .ensures), in-loop .before .before .before .pre .1 .1)
+    let s = in-loop .before .before .before in
+    let w = s .pre .0 in
+    let l = next in-loop w in
+    omega (arith, stored-list (in-loop .before .loop .inv .1 w .1) (l .goes) (c .before .before .lay-way .ensures (way-of (w .parts) (l .joined))), w .legs-are .hops, s .pre .1)
+
+-- the place after the way is one of the lent buffer
+place-low : (c : lts.After-slice-known2 (lay-way-reads.Asked, lay-way-reads.Learnt) reads.Pre reads.Post Inv-loop μ-loop)
+    → c .before .before .lay-way .result < length (c .before .before .before .before .before .before .before .before .before .args .buf .now)
+place-low c =
+    let in-loop = c .before .before .before .before .before .before in
+    let s = in-loop .before .before .before in
+    let w = s .pre .0 in
+    let l = next in-loop w in
+    omega (arith, stored-list (in-loop .before .loop .inv .1 w .1) (l .goes) (c .before .before .lay-way .ensures (way-of (w .parts) (l .joined))), w .legs-are .hops, s .pre .1)
 
 loop-again : tie.Need-loop-again Inv-loop μ-loop
 loop-again c =
     let in-loop = c .before .before .before .before .before .before .before in
-    let k = in-loop .before .loop in
-    let s = in-loop .before .before .before in (
-      λ p. leg p (s .pre .1 .0) (k .inv .1) (k .u) (k .k) (k .inv .0 p) (in-loop .loop-test .taken) .head-inside,
-      k .inv .1,
-      stored-one (stored-list (k .inv .2) (next in-loop .goes) (c .before .before .before .lay-way .ensures)) refl,
+    let k = in-loop .before .loop in (
+      k .inv .0,
+      λ w. let l = next in-loop w in
+          (l .head-inside, stored-one (stored-list (k .inv .1 w .1) (l .goes) (c .before .before .before .lay-way .ensures (way-of (w .parts) (l .joined)))) refl),
     )
 
 -- the way back
 home : (c : lts.After-loop (lay-way-reads.Asked, lay-way-reads.Learnt) reads.Pre reads.Post Inv-loop μ-loop)
-    → let s = c .before .before .before in let k = c .before .loop in Back (s .pre .0) (s .pre .1 .0) (k .inv .1) (k .u) (k .k) (k .inv .0 (s .pre .0))
-home c = back _ _ _ _ _ _ (c .loop-test .left)
+    → let s = c .before .before .before in let k = c .before .loop in
+    (w : Trailing (s .args .net) (s .args .tails .now) (s .args .heads .now) (s .args .first .now) (s .args .after .now) (s .args .t .now) (s .args .t7))
+    → Back (w .parts) (w .legs-are) (k .inv .0) (k .u) (k .k) (k .inv .1 w .0)
+home c w = back _ _ _ _ _ _ (c .loop-test .left)
 
 lay-way-requires-2 : tie.Need-lay-way-requires-2 Inv-loop μ-loop
 lay-way-requires-2 c κs =
     let s = c .before .before .before .before in
-    (s .pre .0, (home (c .before) .joined, stored-room (c .before .before .loop .inv .2) (home (c .before) .goes) (omega (arith, s .pre .1 .1))))
+    let w = s .pre .0 in
+    let b = home (c .before) w in
+    (way-of (w .parts) (b .joined), omega (arith, stored-room (c .before .before .loop .inv .1 w .1) (b .goes) (omega (arith, s .pre .1, w .legs-are .hops)), way-size (w .parts) (b .joined)))
 
 returns : tie.Need-returns Inv-loop μ-loop
-returns c =
+returns c w =
     let end = c .before .before .before .before in
-    laid-front (stored-all (stored-list (end .before .loop .inv .2) (home end .goes) (c .before .before .lay-way2 .ensures)) refl) (end .before .before .before .pre .1 .1)
+    let s = end .before .before .before in
+    let b = home end w in
+    laid-front (stored-all (stored-list (end .before .loop .inv .1 w .1) (b .goes) (c .before .before .lay-way2 .ensures (way-of (w .parts) (b .joined)))) refl)
+    (omega (arith, s .pre .1, w .legs-are .hops))
 
 pub lay-spec : {M : Type 1} → statement M
 lay-spec =
-    tie.close (tie.spec Inv-loop μ-loop (λ c. search needs) loop-holds (λ c. omega (arith, next c)) (λ c. omega (arith, next c)) (λ c. omega (arith, next (c .before)))
-    (λ c. omega (arith, next (c .before))) lay-way-requires (λ c. omega (arith, slice-write-buf c)) slice-write-buf (λ c. omega (arith, slice-write-buf c))
-    (λ c. omega (arith, next (c .before .before .before .before .before .before))) (λ c. omega (arith, next (c .before .before .before .before .before .before .before)))
+    tie.close (tie.spec Inv-loop μ-loop (λ c. search needs) loop-holds (λ c. omega (arith, next c (c .before .before .before .pre .0))) (λ c. omega (arith, next c (c .before .before .before .pre .0))) (λ c. let in-loop = c .before in omega (arith, next in-loop (in-loop .before .before .before .pre .0)))
+    (λ c. let in-loop = c .before in omega (arith, next in-loop (in-loop .before .before .before .pre .0))) lay-way-requires (λ c. omega (arith, place-low c, c .before .before .before .before .before .before .before .before .before .good .1 .1 .1 .1 .1 .1 .1 .0))
+    slice-write-buf (λ c. omega (arith, place-low c, c .before .before .before .before .before .before .before .before .before .good .1 .1 .1 .1 .1 .1 .1 .0))
+    (λ c. let in-loop = c .before .before .before .before .before .before in omega (arith, next in-loop (in-loop .before .before .before .pre .0))) (λ c. let in-loop = c .before .before .before .before .before .before .before in omega (arith, next in-loop (in-loop .before .before .before .pre .0)))
     (λ c. search needs) loop-again lay-way-requires-2
-    (λ c. let end = c .before .before .before .before in stored-list (end .before .loop .inv .2) (home end .goes) (c .before .before .lay-way2 .ensures) .long) returns)
+    (λ c. let end = c .before .before .before .before in let w = end .before .before .before .pre .0 in let b = home end w in
+    stored-list (end .before .loop .inv .1 w .1) (b .goes) (c .before .before .lay-way2 .ensures (way-of (w .parts) (b .joined))) .long) returns)

@@ -1,0 +1,40 @@
+-- Inner: ways over the arcs in use, and the legs of a trail by the arcs that they cross, as functions hand them on. No promise of a call needs it. Assumes nothing.
+use mathlib.Core.Path.{_≡_}
+use mathlib.Core.Bool.{Bool}
+use mathlib.Core.List.{List, [], _∷_, _++_}
+use Prim.Native.Nat.{ℕ, _≤_, _<_}
+use lib.ListN.{length, take}
+use Rattle.lists.specs.Arrays.{flag, at}
+use Rattle.lists.specs.Members.{In}
+use Rattle.limits.specs.Limits.{maxRules}
+use Rattle.routes.specs.Distance.{hop, route}
+use Rattle.routes.specs.Meaning.{InUse}
+use Rattle.arcs.specs.declared.Net.{Net}
+use Rattle.arcs.specs.declared.Legs.{Legs}
+use Rattle.arcs.specs.Table.{distanceIn, trailIn}
+
+module _ (net : Net) (tails heads : List ℕ) (used : List Bool) where
+  -- the way from u to v, hop by hop, and the first of these hops
+  abbrev pub routeIn : ℕ → ℕ → List ℕ
+  routeIn u v = route (net .switches) (net .labels) (at tails) (at heads) (flag used) u v
+
+  abbrev pub hopIn : ℕ → ℕ → ℕ
+  hopIn u v = hop (net .switches) (net .labels) (at tails) (at heads) (flag used) u v
+
+  -- a way leads from u to v
+  pub record Joined (u v : ℕ) : Type 0 where
+    pub from-in : u < net .switches
+    pub to-in : v < net .switches
+    pub reached : distanceIn net tails heads used u v < net .switches
+
+  -- from u to each of these arcs in turn and over it, and at the end to the root
+  abbrev pub along : List ℕ → ℕ → List ℕ
+  along [] u = routeIn u (net .root)
+  along (a ∷ aims) u = routeIn u (at tails a) ++ a ∷ along aims (at heads a)
+
+  -- the arcs that the legs cross are in use, the trail goes along them, and it has so many hops
+  pub record LegsOf (legs : Legs) : Type 0 where
+    pub few : legs .count ≤ maxRules
+    pub in-use : (a : ℕ) → In a (take (legs .count) (legs .aims)) → InUse (net .labels) (flag used) a
+    pub goes : trailIn net tails heads used ≡ along (take (legs .count) (legs .aims)) (net .root)
+    pub hops : legs .hops ≡ length (trailIn net tails heads used)

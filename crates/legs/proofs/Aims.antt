@@ -1,0 +1,214 @@
+-- The legs that are found, one after the other: the arcs that they cross so far, and what is left of the trail. Assumes the parts of a plan.
+use mathlib.Core.Path.{_≡_, refl, sym, ap, _∙_, subst}
+use mathlib.Core.Logic.{⊎-elim}
+use mathlib.Core.Bool.{Bool, true, not}
+use mathlib.Core.List.{List, [], _∷_, _++_, append-nil}
+use Prim.Native.Nat.{ℕ, suc, _+_, _-_, _*_, _≤_, _<_}
+use native.Mathlib.Numerals.{add-one}
+use native.Mathlib.Omega.{arith}
+use lib.Dec.{T}
+use lib.ListN.{length, set, take, replicate, length-set, length-replicate, length-append}
+use lib.Seq.{take-suc-set, append-snoc}
+use Rattle.lists.specs.Arrays.{flag, at}
+use Rattle.lists.specs.Members.{In}
+use Rattle.lists.proofs.Members.{in-append}
+use Rattle.lists.specs.Count.{count}
+use Rattle.lists.proofs.Count.{count-le}
+use Rattle.lists.proofs.Tests.{and-left}
+use Rattle.limits.specs.Limits.{maxSwitches, maxLinks, maxRules, maxHops}
+use Rattle.routes.specs.Trail.{unmarked, mark, marks, uncrossed, nearest, legs, trail}
+use Rattle.routes.specs.Meaning.{InUse}
+use Rattle.routes.proofs.Marks.{remaining, marks-less}
+use Rattle.routes.proofs.Nearest.{Nearest, nearest-none, nearest?}
+use Rattle.routes.proofs.Legs.{one-leg, last-leg, leg-leaves}
+use Rattle.arcs.specs.declared.Net.{Net}
+use Rattle.arcs.specs.Table.{cell, trailIn}
+use Rattle.arcs.specs.Parts.{Parts}
+use Rattle.arcs.proofs.Following.{follows-after}
+use Rattle.arcs.specs.Legs.{routeIn, Joined, along, LegsOf}
+use Rattle.arcs.proofs.Ways.{entry-in, parts-hops, part-joined, way-size}
+use Rattle.legs.specs.Nearest.{Lows, Tabled, NearestBy}
+use Rattle.legs.proofs.Lows.{lows-first, lows-next, nearest-low}
+
+module _ {net : Net} {tails heads : List ℕ} {used : List Bool} {first after : List ℕ} {t : List (List ℕ)} (p : Parts net tails heads used first after t) where
+  abbrev S : ℕ
+  S = net .switches
+
+  abbrev n : ℕ
+  n = net .labels
+
+  abbrev tl : ℕ → ℕ
+  tl = at tails
+
+  abbrev hd : ℕ → ℕ
+  hd = at heads
+
+  abbrev ok : ℕ → Bool
+  ok = flag used
+
+  abbrev all : List ℕ
+  all = trailIn net tails heads used
+
+  abbrev by : List ℕ → ℕ → List ℕ
+  by w u = along net tails heads used w u
+
+  abbrev pub tabled : Tabled S n t
+  tabled = record {
+    tl = tl;
+    hd = hd;
+    ok = ok;
+    few-switches = p .within .few-switches;
+    few-labels = p .within .few-labels;
+    tail-in = p .within .tail-in;
+    cells = entry-in (p .within) (p .table);
+  }
+
+  -- what is left of the trail at u, after so many legs
+  abbrev rest : ℕ → (ℕ → Bool) → ℕ → List ℕ
+  rest k m u = legs S n tl hd ok (net .root) (count n ok - k) m u
+
+  -- k legs are found with so many hops, at u, and a is the arc that the next one crosses
+  pub record Found (low aims : List ℕ) (k hops u a : ℕ) : Type 0 where
+    pub crossed : ℕ → Bool
+    pub inside : T (p .part u)
+    pub low-places : length low ≡ maxSwitches
+    pub lows : Lows S n tl ok (at low) crossed
+    pub next : a ≡ nearest S n tl hd ok crossed u
+    pub few : k + remaining ok n crossed ≤ count n ok
+    pub places : length aims ≡ maxRules
+    pub in-use : (b : ℕ) → In b (take k aims) → InUse n ok b
+    pub goes : (w : List ℕ) → by w u ≡ rest k crossed u → by (take k aims ++ w) (net .root) ≡ all
+    pub counted : hops + length (rest k crossed u) ≡ length all
+
+  pub found-none : (low : List ℕ) (a : ℕ) → low ≡ first → length low ≡ maxSwitches → NearestBy S n t low (net .root) a
+      → Found low (replicate maxRules 0) 0 0 (net .root) a
+  unfolding trail
+  found-none low a e long near = record {
+    crossed = unmarked;
+    inside = p .strong .starts;
+    low-places = long;
+    lows = lows;
+    next = near tabled unmarked lows;
+    few = omega (arith, count-le n (uncrossed ok unmarked) ok (λ b h v. and-left (ok b) true v));
+    places = length-replicate {A = ℕ} maxRules 0;
+    in-use = λ b i. absurd i;
+    goes = λ w q. q ∙ whole;
+    counted = omega (arith, ap length whole);
+  }
+    where
+      lows : Lows S n tl ok (at low) unmarked
+      lows = subst (λ (l : List ℕ). Lows S n tl ok (at l) unmarked) (sym e) (lows-first (p .within .few-switches) (p .chained) (p .within .tail-in))
+
+      whole : rest 0 unmarked (net .root) ≡ all
+      whole = let q : count n ok - 0 ≡ count n ok = omega arith in ap (λ (f : ℕ). legs S n tl hd ok (net .root) f unmarked (net .root)) q
+
+  module _ (low aims : List ℕ) (k hops u a : ℕ) (found : Found low aims k hops u a) where
+    abbrev m : ℕ → Bool
+    m = found .crossed
+
+    -- what the next leg makes
+    pub record Turn : Type 0 where
+      pub from-low : u < maxSwitches
+      pub label-low : a < 2 * maxLinks
+      pub tail-low : tl a < maxSwitches
+      pub head-in : hd a < S
+      pub one-more : k < count n ok
+      pub room : k < maxRules
+      pub short : hops + (cell t u (tl a) + 1) ≤ maxHops
+      pub again : (b : ℕ) → NearestBy S n t (set low (tl a) (at after a)) (hd a) b
+          → Found (set low (tl a) (at after a)) (set aims k a) (k + 1) (hops + (cell t u (tl a) + 1)) (hd a) b
+
+    pub turn : a < n → Turn
+    turn h = record {
+      from-low = omega (arith, j .from-in, p .within);
+      label-low = omega (arith, p .within);
+      tail-low = omega (arith, j .to-in, p .within);
+      head-in = p .within .head-in a h live;
+      one-more = omega (arith, found .few, less);
+      room = omega (arith, found .few, less, p .few-arcs);
+      short = omega (arith, size, found .counted, parts-hops p);
+      again = λ b then. record {
+        crossed = m′;
+        inside = p .strong .heads a h live;
+        low-places = length-set low (tl a) (at after a) ∙ found .low-places;
+        lows = lows;
+        next = then tabled m′ lows;
+        few = omega (arith, found .few, less);
+        places = length-set aims k a ∙ found .places;
+        in-use = λ c i. ⊎-elim (found .in-use c) (⊎-elim (λ e. subst (InUse n ok) (sym e) (h, live)) (λ z. absurd z)) (in-append c (take k aims) (a ∷ []) (subst (In c) taken i));
+        goes = λ l e. ap (λ (q : List ℕ). by (q ++ l) (net .root)) taken
+            ∙ ap (λ (q : List ℕ). by q (net .root)) (append-snoc (take k aims) a l)
+            ∙ found .goes (a ∷ l) (ap (λ (q : List ℕ). w ++ a ∷ q) e ∙ sym leg);
+        counted = omega (arith, found .counted, size);
+      };
+    }
+      where
+        near : Nearest S n tl hd ok m u a
+        near =
+            ⊎-elim (subst (Nearest S n tl hd ok m u) (sym (found .next))) (λ f. absurd (omega (arith, found .next, nearest-none S n tl hd ok m u f)))
+            (nearest? S n tl hd ok m u)
+
+        live : T (ok a)
+        live = and-left (ok a) (not (m a)) (near .is-left)
+
+        j : Joined net tails heads used u (tl a)
+        j = part-joined p u (tl a) (found .inside) (p .strong .tails a h live)
+
+        w : List ℕ
+        w = routeIn net tails heads used u (tl a)
+
+        -- what is crossed after the leg
+        m′ : ℕ → Bool
+        m′ = mark a (marks w m)
+
+        less : suc (remaining ok n m′) ≤ remaining ok n m
+        less = marks-less ok n w m a h (near .is-left)
+
+        leg : rest k m u ≡ w ++ a ∷ rest (k + 1) m′ (hd a)
+        leg =
+            let q : count n ok - k ≡ suc (count n ok - (k + 1)) = omega (arith, found .few, less) in
+            ap (λ (f : ℕ). legs S n tl hd ok (net .root) f m u) q ∙ one-leg S n tl hd ok (net .root) (count n ok - (k + 1)) m u a near
+
+        size : length (rest k m u) ≡ cell t u (tl a) + 1 + length (rest (k + 1) m′ (hd a))
+        size = omega (arith, ap length leg, length-append w (a ∷ rest (k + 1) m′ (hd a)), way-size p j)
+
+        lows : Lows S n tl ok (at (set low (tl a) (at after a))) m′
+        lows =
+            lows-next low m m′ (found .lows) a (at after a) (nearest-low (found .lows) hd u a near (j .to-in)) (omega (arith, j .to-in, p .within, found .low-places))
+            (follows-after (p .chained) (tl a) a h live refl) (λ b. leg-leaves S n tl hd ok (net .root) m u a b near (j .reached))
+
+        taken : take (k + 1) (set aims k a) ≡ take k aims ++ (a ∷ [])
+        taken = ap (λ (i : ℕ). take i (set aims k a)) (add-one k) ∙ take-suc-set aims k a (omega (arith, found .few, less, p .few-arcs, found .places))
+
+    -- what the way back makes
+    pub record End : Type 0 where
+      pub from-low : u < maxSwitches
+      pub root-low : net .root < maxSwitches
+      pub room : k ≤ maxRules
+      pub short : hops + cell t u (net .root) ≤ maxHops
+      pub legs-are : LegsOf net tails heads used (record { count = k; hops = hops + cell t u (net .root); aims = aims })
+
+    pub ends : n ≤ a → End
+    ends h = record {
+      from-low = omega (arith, j .from-in, p .within);
+      root-low = omega (arith, j .to-in, p .within);
+      room = omega (arith, found .few, p .few-arcs);
+      short = omega (arith, size, parts-hops p);
+      legs-are = record {
+        few = omega (arith, found .few, p .few-arcs);
+        in-use = found .in-use;
+        goes = sym (found .goes [] (sym end)) ∙ ap (λ (q : List ℕ). by q (net .root)) (append-nil (take k aims));
+        hops = size;
+      };
+    }
+      where
+        j : Joined net tails heads used u (net .root)
+        j = part-joined p u (net .root) (found .inside) (p .strong .starts)
+
+        end : rest k m u ≡ routeIn net tails heads used u (net .root)
+        end =
+            last-leg S n tl hd ok (net .root) (count n ok - k) m u
+            (⊎-elim (λ q. absurd (omega (arith, h, found .next, q .is-arc))) (λ f. f) (nearest? S n tl hd ok m u))
+
+        size : hops + cell t u (net .root) ≡ length all
+        size = omega (arith, found .counted, ap length end, way-size p j)

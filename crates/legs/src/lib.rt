@@ -1,0 +1,89 @@
+// The legs of the trail of a network from its root: the arc that each crosses at its end, and the hops of the whole. Inner: the functions ask of their callers what those have
+// shown, and no call of document 01 is here.
+use arcs::Legs;
+use arcs::Net;
+use plant::Plant;
+ghost use mathlib.Core.Path.{_≡_};
+ghost use Prim.Native.Nat.{_<_};
+ghost use Rattle.arcs.specs.Parts.{Parts};
+ghost use Rattle.arcs.specs.Legs.{LegsOf};
+ghost use Rattle.legs.specs.Nearest.{Tabled, NearestBy};
+
+// The uncrossed arc in use that is nearest to u, by distance and then by label; the number of labels if there is none. `low` has the lowest uncrossed label of each switch.
+fn nearest(
+    net: Net,
+    t: &[[u8; Plant::PLACES]; Plant::PLACES],
+    low: &[u16; Plant::PLACES],
+    u: u8,
+) -> u16
+    requires { ⌜ Tabled (net .switches) (net .labels) (now t) ⌝ }
+    requires { ⌜ u < net .switches ⌝ }
+    ensures { λ r. ⌜ NearestBy (net .switches) (net .labels) (now (t .entry)) (now (low .entry)) u r ⌝ }
+{
+    let n = net.labels;
+    let m = net.switches as usize;
+    let x = u as usize;
+    if low[x] < n {
+        return low[x];
+    }
+    let mut best = n;
+    let mut least = m * Plant::LABELS + n as usize;
+    let mut y: usize = 0;
+    while y < m {
+        let a = low[y];
+        if a < n {
+            let key = t[x][y] as usize * Plant::LABELS + a as usize;
+            if key < least {
+                best = a;
+                least = key;
+            }
+        }
+        y += 1;
+    }
+    best
+}
+
+// A copy of a number for each switch.
+fn copied(l: &[u16; Plant::PLACES]) -> [u16; Plant::PLACES]
+    ensures { λ r. ⌜ r ≡ now (l .entry) ⌝ }
+{
+    *l
+}
+
+// The legs of the trail. What is uncrossed is kept as the lowest uncrossed label of each switch.
+pub fn legs_of(
+    net: Net,
+    tails: &[u8; Plant::LABELS],
+    heads: &[u8; Plant::LABELS],
+    used: &[bool; Plant::LABELS],
+    first: &[u16; Plant::PLACES],
+    after: &[u16; Plant::LABELS],
+    t: [[u8; Plant::PLACES]; Plant::PLACES],
+) -> Legs
+    requires { ⌜ Parts net (now tails) (now heads) (now used) (now first) (now after) t ⌝ }
+    ensures { λ r. ⌜ LegsOf net (now (tails .entry)) (now (heads .entry)) (now (used .entry)) r ⌝ }
+{
+    let none = net.labels;
+    let root = net.root as usize;
+    let mut low = copied(first);
+    let mut aims = [0u16; Plant::MAX_RULES];
+    let mut k: usize = 0;
+    let mut hops: u16 = 0;
+    let mut u = net.root;
+    let mut a = nearest(net, &t, &low, u);
+    while a < none {
+        let i = a as usize;
+        let x = tails[i] as usize;
+        aims[k] = a;
+        k += 1;
+        hops += t[u as usize][x] as u16 + 1;
+        low[x] = after[i];
+        u = heads[i];
+        a = nearest(net, &t, &low, u);
+    }
+    Legs {
+        count: k as u16,
+        hops: hops + t[u as usize][root] as u16,
+        aims,
+    }
+}
