@@ -3,3 +3,4 @@ pub mod Chains
 pub mod Table
 pub mod Parts
 pub mod Legs
+pub mod Shows

@@ -9,6 +9,7 @@ ghost use Rattle.limits.specs.Limits.{maxLinks};
 ghost use Rattle.limits.specs.Sound.{Sound};
 ghost use Rattle.plant.specs.Links.{live};
 ghost use Rattle.walks.specs.Arcs.{tail, head};
+ghost use Rattle.walks.specs.Graph.{liveLinks};
 ghost use Rattle.arcs.specs.Net.{AllArcs};
 ghost use Rattle.arcs.specs.Chains.{Chained, TailsIn};
 
@@ -23,6 +24,16 @@ pub struct Net {
 pub struct Chains {
     pub first: [u16; Plant::PLACES],
     pub after: [u16; Plant::LABELS],
+}
+
+// How far a visit from `root` has come: `next` switches are visited, `seen` tells which, `rank` numbers them from 0 in the order of the visit, and `entered` tells
+// by which links they were entered.
+pub struct Visited {
+    pub root: u8,
+    pub next: u8,
+    pub seen: [bool; Plant::PLACES],
+    pub rank: [u8; Plant::PLACES],
+    pub entered: [bool; Plant::MAX_LINKS],
 }
 
 // The legs of a trail: the arc that each crosses at its end, and the hops of the whole. The last leg, back to the root, crosses none.
@@ -68,6 +79,13 @@ pub fn is_live(p: Plant, l: usize) -> bool
 {
     let e = p.count as usize;
     l < e
+}
+
+// E, the number of links that take part: all that are listed.
+pub fn links_in_service(p: Plant) -> u16
+    ensures { λ r. ⌜ r ≡ liveLinks p ⌝ }
+{
+    p.count
 }
 
 // A flag for each label: does its link take part in the plant?

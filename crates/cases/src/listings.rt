@@ -1,8 +1,8 @@
 // Calls 1 to 6, 18 and 19: reading and writing a listing, and its plan.
-use crate::checksum;
-use crate::input;
-use crate::show;
 use answers::Verdict;
+use caseform::checksum;
+use caseform::input;
+use caseform::show;
 use listing::Decoded;
 use listing::Written;
 use planner::Summary;

@@ -27,13 +27,12 @@
 // A plant is its switches, links (two bytes) and start, a two-byte number of link places, and first end, second end and tag (two bytes) of each; the other link
 // places are zero. A refusal is the word `refused` and its number. The line of a call that is lent a buffer ends with the buffer's checksum after the call.
 // A list prints as its count, a colon and its checksum.
-mod checksum;
-mod input;
 mod listings;
 mod packets;
 mod searches;
-mod show;
 
+use caseform::input;
+use caseform::show;
 use libc::STDIN_FILENO;
 ghost use mathlib.Core.Path.{_≡_};
 ghost use Prim.Native.Nat.{_≤_};

@@ -1,8 +1,8 @@
 // Calls 7 to 12: packets and probes. Each is given a listing, a switch and labels, and then arguments of its own.
-use crate::checksum;
-use crate::input;
-use crate::show;
 use answers::Verdict;
+use caseform::checksum;
+use caseform::input;
+use caseform::show;
 use order::Order;
 use order::Span;
 use probing::Named;

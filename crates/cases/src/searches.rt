@@ -1,6 +1,6 @@
 // Calls 13 to 17 and 20: the search, its allowance and the order quantity.
-use crate::input;
-use crate::show;
+use caseform::input;
+use caseform::show;
 use probing::Begun;
 use probing::Performed;
 use quantity::Quantity;

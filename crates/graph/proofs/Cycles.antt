@@ -29,8 +29,8 @@ use Rattle.walks.proofs.Counting.{bridge-entered}
 use Rattle.walks.proofs.Cycles.{rk, Ent, Seen, Round, one-way, entry, round-flip, round-begin, round-step, passed, level-step, not-passed}
 use Rattle.walks.proofs.Valid.{sound-valid}
 use Rattle.arcs.specs.Net.{Ends}
-use Rattle.graph.specs.declared.Visited.{Visited}
-use Rattle.graph.specs.Shows.{Shows, Visits}
+use Rattle.arcs.specs.declared.Visited.{Visited}
+use Rattle.arcs.specs.Shows.{Shows, Visits}
 use Rattle.graph.specs.Inner.{acrossOf, EntryLinks, closes, Covered}
 use Rattle.graph.proofs.Ends.{across-is}
 

@@ -22,9 +22,9 @@ use Rattle.walks.proofs.Labels.{tail-even, tail-odd, head-even, head-odd, even-
 use Rattle.walks.proofs.Visited.{visited-keeps}
 use Rattle.walks.proofs.Valid.{sound-valid}
 use Rattle.arcs.proofs.Past.{dead-past}
-use Rattle.graph.specs.declared.Visited.{Visited}
+use Rattle.arcs.specs.declared.Visited.{Visited}
 use Rattle.graph.specs.Flags.{Flags, countSet}
-use Rattle.graph.specs.Shows.{Visits}
+use Rattle.arcs.specs.Shows.{Visits}
 use Rattle.graph.specs.Inner.{inUse}
 
 -- where the test fails from k on, as many flags are set as numbers below k pass

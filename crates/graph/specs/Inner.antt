@@ -2,78 +2,17 @@
 use mathlib.Core.Path.{_≡_}
 use mathlib.Core.Bool.{Bool, true, false, not, _&&_, _||_}
 use mathlib.Core.List.{List}
-use Prim.Native.Nat.{ℕ, _+_, _*_, _/_, _≤_, _<_}
-use lib.Dec.{T, eqb, ltb}
-use lib.ListN.{length, getD, set, replicate}
-use Rattle.lists.specs.Arrays.{flag, at}
+use Prim.Native.Nat.{ℕ, _*_, _/_, _<_}
+use lib.Dec.{eqb, ltb}
+use lib.ListN.{length, getD}
 use Rattle.lists.specs.Tests.{choose}
 use Rattle.lists.specs.Members.{In}
-use Rattle.lists.specs.Count.{count}
-use Rattle.lists.specs.Numbers.{range, keep}
 use Rattle.plant.specs.declared.Plant.{Plant}
 use Rattle.plant.specs.Links.{first, second, live}
 use Rattle.limits.specs.Limits.{maxSwitches, maxLinks}
 use Rattle.walks.specs.Arcs.{head}
-use Rattle.walks.specs.Visit.{St}
-use Rattle.walks.specs.Inner.{Scan, Level}
+use Rattle.walks.specs.Inner.{Level}
 use Rattle.walks.specs.Graph.{visitedFrom, reachedFrom, enteredFrom, bridge}
-use Rattle.graph.specs.declared.Visited.{Visited}
-use Rattle.graph.specs.Shows.{Shows}
-
--- ---- the depth-first visit by value
-
--- each flagged arc goes to a switch that there can be
-abbrev pub HeadsIn : ℕ → List ℕ → List Bool → Type 0
-HeadsIn n heads flags = (a : ℕ) → a < n → T (flag flags a) → at heads a < maxSwitches
-
--- how many switches are not visited
-unfoldable pub unvisited : List Bool → ℕ
-unvisited seen = count maxSwitches (λ x. not (flag seen x))
-
--- there is a place for each switch and each link, and a number for each switch that is not visited
-pub record Room (v : Visited) : Type 0 where
-  pub seen-places : length (v .seen) ≡ maxSwitches
-  pub rank-places : length (v .rank) ≡ maxSwitches
-  pub entered-places : length (v .entered) ≡ maxLinks
-  pub numbers : v .next + unvisited (v .seen) ≤ maxSwitches
-
--- link l is entered, and the switch `to` is visited
-abbrev pub enterOf : Visited → ℕ → ℕ → Visited
-enterOf v to l = record {
-  root = v .root;
-  next = v .next + 1;
-  seen = set (v .seen) to true;
-  rank = set (v .rank) to (v .next);
-  entered = set (v .entered) l true;
-}
-
--- the root is visited, and nothing else yet
-unfoldable pub beginOf : ℕ → Visited
-beginOf root = record {
-  root = root;
-  next = 1;
-  seen = set (replicate maxSwitches false) root true;
-  rank = replicate maxSwitches 0;
-  entered = replicate maxLinks false;
-}
-
--- v has room for the switches that are not visited, and `from` is a switch that there can be
-pub record At (v : Visited) (from : ℕ) : Type 0 where
-  pub room : Room v
-  pub within : from < maxSwitches
-
--- the labels below n, the ends of their arcs, and which of them are flagged
-module _ (n : ℕ) (tl hd : ℕ → ℕ) (ok : ℕ → Bool) where
-  -- at `from` the arcs of the list are tried, and each that is entered leads on to all flagged arcs
-  abbrev pub Tries : ℕ → List ℕ → St → St → Type 0
-  Tries = Scan tl hd (keep ok (range 0 n))
-
-  -- what the visit from `from` over the flagged arcs makes of v: whatever state v shows, r shows the one that the visit leads to
-  pub record Went (v : Visited) (from : ℕ) (r : Visited) : Type 0 where
-    pub room : Room r
-    pub root-kept : r .root ≡ v .root
-    pub kept : (x : ℕ) → getD (v .seen) x false ≡ true → getD (r .seen) x false ≡ true
-    pub went : (s : St) → Shows v s → (t : St) × Shows r t × Tries from (keep ok (range 0 n)) s t
 
 -- ---- the tree of the visit from r, and the links on a cycle
 

@@ -20,8 +20,8 @@ use Rattle.limits.specs.Sound.{Sound}
 use Rattle.walks.specs.Graph.{reachedFrom}
 use Rattle.plan.specs.Plan.{Connected, connected}
 use Rattle.plan.proofs.Plan.{connected-is}
-use Rattle.graph.specs.declared.Visited.{Visited}
-use Rattle.graph.specs.Shows.{Visits}
+use Rattle.arcs.specs.declared.Visited.{Visited}
+use Rattle.arcs.specs.Shows.{Visits}
 use Rattle.codec.specs.Field.{Bytes}
 use Rattle.listing.specs.declared.Decoded.{Decoded}
 use Rattle.listing.specs.Listing.{reading}

@@ -3,6 +3,7 @@ use answers::Refusal;
 use answers::Verdict;
 use arcs::Legs;
 use arcs::Net;
+use arcs::Visited;
 use plant::Plant;
 use table::Table;
 use trail::Compared;
@@ -12,10 +13,9 @@ ghost use lib.ListN.{length};
 ghost use Rattle.answers.specs.Answers.{refused, numberOf};
 ghost use Rattle.answers.specs.Checks.{answer};
 ghost use Rattle.limits.specs.Sound.{Sound};
-ghost use Rattle.walks.specs.Graph.{liveLinks};
 ghost use Rattle.arcs.specs.Net.{Ends};
 ghost use Rattle.plan.specs.Plan.{trailOf, tableOf};
-ghost use Rattle.graph.specs.Shows.{Visits};
+ghost use Rattle.arcs.specs.Shows.{Visits};
 ghost use Rattle.trail.specs.Filled.{filledWith, Tells};
 ghost use Rattle.planning.specs.Plans.{netOf, PartsOf, WithTable, Plan};
 ghost use Rattle.planning.specs.Planning.{planningFor, planning, planningAt, Plots, Ready};
@@ -98,7 +98,7 @@ fn parts_of(
     p: Plant,
     tails: [u8; Plant::LABELS],
     heads: [u8; Plant::LABELS],
-    v: graph::Visited,
+    v: Visited,
     t: &mut [[u8; Plant::PLACES]; Plant::PLACES],
 ) -> Parts
     requires { ⌜ Sound p ⌝ }
@@ -137,8 +137,8 @@ fn plan_in(p: Plant, t: &mut [[u8; Plant::PLACES]; Plant::PLACES]) -> Planned
 {
     let tails = arcs::tails_of(p);
     let heads = arcs::heads_of(p);
-    let v = graph::visit(p, &tails, &heads, p.start);
-    if graph::reaches_all(p, v) {
+    let v = visit::visit(p, &tails, &heads, p.start);
+    if visit::reaches_all(p, v) {
         let parts = parts_of(p, tails, heads, v, t);
         return Planned {
             verdict: Verdict::Accepted,
@@ -185,13 +185,6 @@ pub fn blank() -> [[u8; Plant::PLACES]; Plant::PLACES] {
     [row; Plant::PLACES]
 }
 
-// E, the number of links that take part: all that are listed.
-pub fn links_in_service(p: Plant) -> u16
-    ensures { λ r. ⌜ r ≡ liveLinks p ⌝ }
-{
-    p.count
-}
-
 // The trail of a plan into the front of a lent buffer that has room for it; the places after it keep their contents.
 pub fn lay(x: Parts, t: &[[u8; Plant::PLACES]; Plant::PLACES], buf: &mut [u16])
     requires { ⌜ Plan x (now t) ⌝ }
@@ -235,7 +228,7 @@ pub fn numbers_of(x: Parts, t: &[[u8; Plant::PLACES]; Plant::PLACES]) -> Numbers
 {
     let bridges = graph::count_set(&x.bridges);
     let rules = graph::count_set(&x.used);
-    let links = links_in_service(x.plant);
+    let links = arcs::links_in_service(x.plant);
     Numbers {
         switches: x.plant.switches,
         links,

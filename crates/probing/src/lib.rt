@@ -137,7 +137,7 @@ fn unsound(p: Plant, search: Search) -> bool
     if !search.sound() {
         return true;
     }
-    let links = planning::links_in_service(p);
+    let links = arcs::links_in_service(p);
     !search.sound_for(links)
 }
 
@@ -287,7 +287,7 @@ fn span_in(p: Plant, switch: u8, trail: &[u16], m: u16) -> Span
     requires { ⌜ m ≤ liveLinks p ⌝ }
     ensures { λ r. ⌜ r ≡ outSpan p switch m ⌝ }
 {
-    let links = planning::links_in_service(p);
+    let links = arcs::links_in_service(p);
     if m == links {
         return order::ring_span(p, switch, trail);
     }
@@ -360,7 +360,7 @@ fn probe_over(
 {
     match probe_wanted(p, search) {
         Asked::Probe(m) => {
-            let links = planning::links_in_service(p);
+            let links = arcs::links_in_service(p);
             let e = packet::probe_run(p, table, states, switch, trail, links, m);
             Probed::Outcome(outcome_of(e))
         }
@@ -464,7 +464,7 @@ pub fn new_search(listing: &[u8], switch: u8) -> Begun
     let v = d.verdict;
     match v {
         Verdict::Accepted => {
-            let links = planning::links_in_service(d.parts.plant);
+            let links = arcs::links_in_service(d.parts.plant);
             Begun::State(Search::new(links))
         }
         Verdict::Refused(k) => Begun::Refused(k),
@@ -495,7 +495,7 @@ pub fn perform(listing: &[u8], switch: u8, calls: &[u8]) -> Performed
     let v = d.verdict;
     match v {
         Verdict::Accepted => {
-            let links = planning::links_in_service(d.parts.plant);
+            let links = arcs::links_in_service(d.parts.plant);
             Performed::Done(search::perform(links, calls))
         }
         Verdict::Refused(k) => Performed::Refused(k),

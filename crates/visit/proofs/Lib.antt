@@ -1,0 +1,4 @@
+pub mod Unvisited
+pub mod Entering
+pub mod Goes
+pub mod Whole

@@ -1,0 +1,118 @@
+// The depth-first visit of a plant from a root, and whether it reached all switches. Inner: the calls are the crates `planner` and `probing`.
+ghost use mathlib.Core.Path.{_≡_};
+ghost use Prim.Native.Nat.{_*_, _≤_, _<_};
+ghost use Rattle.lists.specs.Arrays.{flag, at};
+ghost use Rattle.lists.specs.Numbers.{every};
+ghost use Rattle.limits.specs.Limits.{maxSwitches, maxLinks};
+ghost use Rattle.limits.specs.Sound.{Sound};
+ghost use Rattle.walks.specs.Graph.{reachedFrom};
+ghost use Rattle.arcs.specs.Net.{Ends};
+ghost use Rattle.arcs.specs.Chains.{Chained};
+ghost use Rattle.arcs.specs.Shows.{Visits};
+ghost use Rattle.visit.specs.Inner.{HeadsIn, enterOf, beginOf, At, Went};
+use arcs::Visited;
+use plant::Plant;
+
+// Link l is entered, and the switch `to` is visited.
+fn enter(v: Visited, to: u8, l: usize) -> Visited
+    requires { ⌜ to < maxSwitches ⌝ }
+    requires { ⌜ l < maxLinks ⌝ }
+    requires { ⌜ v .next < maxSwitches ⌝ }
+    ensures { λ r. ⌜ r ≡ enterOf v to l ⌝ }
+{
+    let mut r = v;
+    let i = to as usize;
+    let n = r.next;
+    r.next = n + 1;
+    r.seen[i] = true;
+    r.rank[i] = n;
+    r.entered[l] = true;
+    r
+}
+
+// The visit goes on from the switch `from`, which is visited. It tries the arcs that leave it by rising label, and calls itself for each switch that it enters. The
+// number of unvisited switches falls with each call, so it calls itself no deeper than there are switches. The tails and the flags of the arcs that are tried are
+// handed over for the contract alone: `first` and `after` are their chains.
+fn visit_from(
+    tails: &[u8; Plant::LABELS],
+    heads: &[u8; Plant::LABELS],
+    flags: &[bool; Plant::LABELS],
+    first: &[u16; Plant::PLACES],
+    after: &[u16; Plant::LABELS],
+    n: u16,
+    v0: Visited,
+    from: u8,
+) -> Visited
+    requires { ⌜ n ≤ 2 * maxLinks ⌝ }
+    requires { ⌜ HeadsIn n (now heads) (now flags) ⌝ }
+    requires { ⌜ Chained n (at (now tails)) (flag (now flags)) (now first) (now after) ⌝ }
+    requires { ⌜ At v0 from ⌝ }
+    ensures { λ r. ⌜ Went n (at (now (tails .entry))) (at (now (heads .entry))) (flag (now (flags .entry))) v0 from r ⌝ }
+{
+    let mut v = v0;
+    let mut a = first[from as usize];
+    while a < n {
+        let to = heads[a as usize];
+        let j = to as usize;
+        if !v.seen[j] {
+            let l = (a / 2) as usize;
+            v = visit_from(tails, heads, flags, first, after, n, enter(v, to, l), to);
+        }
+        a = after[a as usize];
+    }
+    v
+}
+
+// The root is visited, and nothing else yet.
+fn begin(root: u8) -> Visited
+    requires { ⌜ root < maxSwitches ⌝ }
+    ensures { λ r. ⌜ r ≡ beginOf root ⌝ }
+{
+    let mut v = Visited {
+        root,
+        next: 1,
+        seen: [false; Plant::PLACES],
+        rank: [0; Plant::PLACES],
+        entered: [false; Plant::MAX_LINKS],
+    };
+    let i = root as usize;
+    v.seen[i] = true;
+    v
+}
+
+// The depth-first visit from a root.
+pub fn visit(
+    p: Plant,
+    tails: &[u8; Plant::LABELS],
+    heads: &[u8; Plant::LABELS],
+    root: u8,
+) -> Visited
+    requires { ⌜ Sound p ⌝ }
+    requires { ⌜ Ends p (now tails) (now heads) ⌝ }
+    requires { ⌜ root < p .switches ⌝ }
+    ensures { λ r. ⌜ Visits p root r ⌝ }
+{
+    let n = 2 * p.count;
+    let all = arcs::all_arcs(p);
+    let c = arcs::chains_of(tails, &all, n);
+    let first = c.first;
+    let after = c.after;
+    visit_from(tails, heads, &all, &first, &after, n, begin(root), root)
+}
+
+// Did the visit reach every switch?
+pub fn reaches_all(p: Plant, v: Visited) -> bool
+    requires { ⌜ Sound p ⌝ }
+    requires { ⌜ Visits p (v .root) v ⌝ }
+    ensures { λ r. ⌜ r ≡ every (p .switches) (reachedFrom p (v .root)) ⌝ }
+{
+    let e = p.switches as usize;
+    let mut i: usize = 0;
+    while i < e {
+        if !v.seen[i] {
+            return false;
+        }
+        i += 1;
+    }
+    true
+}
