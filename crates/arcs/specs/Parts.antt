@@ -22,3 +22,8 @@ pub record Parts (net : Net) (tails heads : List ℕ) (used : List Bool) (first 
   pub strong : Strong (net .switches) (net .labels) (at tails) (at heads) (flag used) (net .root) part
   pub chained : Chained (net .labels) (at tails) (flag used) first after
   pub table : t ≡ distancesIn net tails heads used
+
+-- the arrays are those of a plan; which of its arcs are in use no code that lays, compares or finds the legs reads
+pub record SomeParts (net : Net) (tails heads first after : List ℕ) (t : List (List ℕ)) : Type 0 where
+  pub used : List Bool
+  pub parts : Parts net tails heads used first after t

@@ -112,7 +112,6 @@ module _ {net : Net} {tails heads : List ℕ} {used : List Bool} {first after : 
       pub label-low : a < 2 * maxLinks
       pub tail-low : tl a < maxSwitches
       pub head-in : hd a < S
-      pub one-more : k < count n ok
       pub room : k < maxRules
       pub short : hops + (cell t u (tl a) + 1) ≤ maxHops
       pub again : (b : ℕ) → NearestBy S n t (set low (tl a) (at after a)) (hd a) b
@@ -124,7 +123,6 @@ module _ {net : Net} {tails heads : List ℕ} {used : List Bool} {first after : 
       label-low = omega (arith, p .within);
       tail-low = omega (arith, j .to-in, p .within);
       head-in = p .within .head-in a h live;
-      one-more = omega (arith, found .few, less);
       room = omega (arith, found .few, less, p .few-arcs);
       short = omega (arith, size, found .counted, parts-hops p);
       again = λ b then. record {

@@ -5,7 +5,7 @@ use arcs::Net;
 use plant::Plant;
 ghost use mathlib.Core.Path.{_≡_};
 ghost use Prim.Native.Nat.{_<_};
-ghost use Rattle.arcs.specs.Parts.{Parts};
+ghost use Rattle.arcs.specs.Parts.{SomeParts};
 ghost use Rattle.arcs.specs.Legs.{LegsOf};
 ghost use Rattle.legs.specs.Nearest.{Tabled, NearestBy};
 
@@ -55,13 +55,12 @@ pub fn legs_of(
     net: Net,
     tails: &[u8; Plant::LABELS],
     heads: &[u8; Plant::LABELS],
-    used: &[bool; Plant::LABELS],
     first: &[u16; Plant::PLACES],
     after: &[u16; Plant::LABELS],
     t: [[u8; Plant::PLACES]; Plant::PLACES],
 ) -> Legs
-    requires { ⌜ Parts net (now tails) (now heads) (now used) (now first) (now after) t ⌝ }
-    ensures { λ r. ⌜ LegsOf net (now (tails .entry)) (now (heads .entry)) (now (used .entry)) r ⌝ }
+    requires { ⌜ SomeParts net (now tails) (now heads) (now first) (now after) t ⌝ }
+    ensures { λ r. ⌜ ((w : SomeParts net (now (tails .entry)) (now (heads .entry)) (now (first .entry)) (now (after .entry)) t) → LegsOf net (now (tails .entry)) (now (heads .entry)) (w .used) r) ⌝ }
 {
     let none = net.labels;
     let root = net.root as usize;

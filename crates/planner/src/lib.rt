@@ -94,7 +94,7 @@ pub fn forwarding_table(listing: &[u8]) -> Tabled
     let v = d.verdict;
     match v {
         Verdict::Accepted => {
-            let table = planning::table_of(d.parts, &t);
+            let table = planning::table_of(d.parts);
             Tabled {
                 verdict: Verdict::Accepted,
                 table,
@@ -143,7 +143,7 @@ pub fn summarize(listing: &[u8]) -> Summary
     let d = planning::plan(listing, &mut t);
     let v = d.verdict;
     match v {
-        Verdict::Accepted => Summary::Plant(planning::numbers_of(d.parts, &t)),
+        Verdict::Accepted => Summary::Plant(planning::numbers_of(d.parts)),
         Verdict::Refused(k) => Summary::Refused(k),
     }
 }

@@ -6,10 +6,11 @@ use Prim.Native.Nat.{ℕ, _*_, _≤_}
 use native.Mathlib.Omega.{arith}
 use lib.ListN.{length}
 use Rattle.lists.specs.Arrays.{flag, at}
+use Rattle.lists.specs.Count.{count}
 use Rattle.lists.proofs.Count.{count-all}
 use Rattle.plant.specs.declared.Plant.{Plant}
 use Rattle.plant.specs.Links.{live}
-use Rattle.limits.specs.Limits.{maxLinks}
+use Rattle.limits.specs.Limits.{maxLinks, maxRules}
 use Rattle.limits.specs.Sound.{Sound}
 use Rattle.walks.specs.Arcs.{Valid}
 use Rattle.walks.specs.Graph.{usedFrom, arcsUsedFrom, bridge, liveLinks, bridges}
@@ -23,9 +24,9 @@ use Rattle.plan.specs.Plan.{arcsUsed, trailOf, tableOf}
 use Rattle.plan.proofs.Plan as plant
 use Rattle.table.specs.Rules.{tableIn}
 use Rattle.planning.specs.declared.Parts.{Parts}
-use Rattle.planning.specs.Plans.{Plan}
+use Rattle.planning.specs.Plans.{FromStart, Plan}
 use Rattle.planning.specs.Numbers.{numbersOf}
-use Rattle.planning.proofs.Networks.{net-trail}
+use Rattle.planning.proofs.Networks.{net-within, net-few, net-trail}
 
 pub links-few : (p : Plant) → Sound p → liveLinks p ≤ maxLinks
 unfolding liveLinks
@@ -35,16 +36,12 @@ links-few p sound = omega (arith, count-all (p .count) (live p), sound .few-link
 pub flags-same : {n : ℕ} {test : ℕ → Bool} {fs : List Bool} → Flags n test fs → flag fs ≡ test
 flags-same f = λ j a. f .tells a j
 
-module _ (x : Parts) (t : List (List ℕ)) (plan : Plan x t) where
+module _ (x : Parts) (plan : FromStart x) where
   abbrev p : Plant
   p = x .plant
 
   ok : Valid p
   ok = sound-valid p (plan .sound)
-
-  -- its parts and its legs, as laying and comparing ask for them
-  abbrev pub trailing : Trailing (x .net) (x .tails) (x .heads) (x .first) (x .after) t (x .legs)
-  trailing = record { used = x .used; parts = plan .table; legs-are = plan .parts .legs-are }
 
   -- the trail of the network is the plant's
   pub trail-is : trailIn (x .net) (x .tails) (x .heads) (x .used) ≡ trailOf p
@@ -54,7 +51,14 @@ module _ (x : Parts) (t : List (List ℕ)) (plan : Plan x t) where
   pub hops-are : x .legs .hops ≡ length (trailOf p)
   hops-are = plan .parts .legs-are .hops ∙ ap length trail-is
 
-  -- and so is its forwarding table
+  -- and there is a place for each of its labels and of its rules
+  pub places-enough : (x .net .labels ≤ 2 * maxLinks) × (count (x .net .labels) (flag (x .used)) ≤ maxRules)
+  places-enough = (
+    net-within p (plan .sound) (p .start) (plan .sound .start-in) (x .tails) (x .heads) (plan .parts .ends) (x .used) (plan .parts .used-are) (x .net) (plan .parts .net-is) .few-labels,
+    net-few p (plan .sound) (p .start) (plan .sound .start-in) (x .tails) (x .heads) (plan .parts .ends) (x .used) (plan .parts .used-are) (x .net) (plan .parts .net-is),
+  )
+
+  -- its forwarding table is the plant's
   pub table-is : tableIn (x .net .labels) (at (x .tails)) (at (x .heads)) (flag (x .used)) ≡ tableOf p
   table-is =
       let net = plan .parts .net-is in
@@ -86,3 +90,7 @@ module _ (x : Parts) (t : List (List ℕ)) (plan : Plan x t) where
       → record { switches = p .switches; links = n; bridges = b; rules = u; hops = x .legs .hops } ≡ numbersOf p
   unfolding numbersOf
   numbers-are n b u k e d = rw (k, e ∙ bridges-are, d ∙ rules-are, hops-are)
+
+-- the parts and the legs of a plan, as laying and comparing ask for them
+abbrev pub trailing : (x : Parts) (t : List (List ℕ)) → Plan x t → Trailing (x .net) (x .tails) (x .heads) (x .first) (x .after) t (x .legs)
+trailing x t plan = record { used = x .used; parts = plan .table; legs-are = plan .from-start .parts .legs-are }

@@ -69,11 +69,14 @@ module _ (p : Plant) (sound : Sound p) (r : ℕ) (r-in : r < p .switches) where
       pub net-tails : (net .labels ≤ 2 * maxLinks) × TailsIn (net .labels) tails used
       net-tails = (net-within .few-labels, λ a h t. omega (arith, net-within .tail-in a h t, net-within .few-switches))
 
+      pub net-few : count (net .labels) (flag used) ≤ maxRules
+      net-few = rw net-is few-flags
+
       pub net-parts : (first after : List ℕ) (t : List (List ℕ)) → Chained (net .labels) (at tails) (flag used) first after → t ≡ distancesIn net tails heads used
           → network.Parts net tails heads used first after t
       net-parts first after t c e = record {
         within = net-within;
-        few-arcs = rw net-is few-flags;
+        few-arcs = net-few;
         part = reachedFrom p r;
         strong = rw net-is strong;
         chained = c;

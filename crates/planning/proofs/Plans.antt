@@ -64,9 +64,11 @@ module _ (p : Plant) where
       is-planned f sound x t parts table = (
         beside-given emptyPlant (answer (planningFor p)) verdict.Accepted (x .plant) refl (for-joined (sym told ∙ f) ∙ ap given (sym (parts .plant-is))),
         λ _. record {
-          sound = subst Sound (sym (parts .plant-is)) sound;
-          connected = subst Connected (sym (parts .plant-is)) joined;
-          parts = subst (λ (q : Plant). PartsOf q (q .start) x) (sym (parts .plant-is)) (subst (λ (r : ℕ). PartsOf p r x) (visits .root-is) parts);
+          from-start = record {
+            sound = subst Sound (sym (parts .plant-is)) sound;
+            connected = subst Connected (sym (parts .plant-is)) joined;
+            parts = subst (λ (q : Plant). PartsOf q (q .start) x) (sym (parts .plant-is)) (subst (λ (r : ℕ). PartsOf p r x) (visits .root-is) parts);
+          };
           table = table;
         },
       )
@@ -124,7 +126,7 @@ module _ (s : List ℕ) (x : ℕ) where
     module _ (e : r .verdict ≡ verdict.Accepted) where
       -- as many switches in the network as in the plant
       switches-are : r .parts .net .switches ≡ r .parts .plant .switches
-      switches-are = rw (ready e .parts .net-is) refl
+      switches-are = rw (ready e .from-start .parts .net-is) refl
 
       pub at-inside : x < r .parts .net .switches → Plots (answer (planningAt s x)) r
       at-inside h =

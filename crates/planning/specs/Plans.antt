@@ -27,13 +27,17 @@ pub record PartsOf (p : Plant) (r : ℕ) (x : Parts) : Type 0 where
   pub used-are : Flags (2 * maxLinks) (usedFrom p r) (x .used)
   pub legs-are : LegsOf (x .net) (x .tails) (x .heads) (x .used) (x .legs)
 
+-- the parts x are those of a sound plant that is connected, from its start
+pub record FromStart (x : Parts) : Type 0 where
+  pub sound : Sound (x .plant)
+  pub connected : Connected (x .plant)
+  pub parts : PartsOf (x .plant) (x .plant .start) x
+
 -- with the table of distances t they are what the trail is laid by
 abbrev pub WithTable : Parts → List (List ℕ) → Type 0
 WithTable x t = network.Parts (x .net) (x .tails) (x .heads) (x .used) (x .first) (x .after) t
 
--- the parts x and the table t are the plan of a sound plant that is connected, from its start
+-- the parts x and the table t are the plan of such a plant
 pub record Plan (x : Parts) (t : List (List ℕ)) : Type 0 where
-  pub sound : Sound (x .plant)
-  pub connected : Connected (x .plant)
-  pub parts : PartsOf (x .plant) (x .plant .start) x
+  pub from-start : FromStart x
   pub table : WithTable x t

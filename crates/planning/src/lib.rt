@@ -17,7 +17,7 @@ ghost use Rattle.arcs.specs.Net.{Ends};
 ghost use Rattle.plan.specs.Plan.{trailOf, tableOf};
 ghost use Rattle.arcs.specs.Shows.{Visits};
 ghost use Rattle.trail.specs.Filled.{filledWith, Tells};
-ghost use Rattle.planning.specs.Plans.{netOf, PartsOf, WithTable, Plan};
+ghost use Rattle.planning.specs.Plans.{netOf, PartsOf, FromStart, WithTable, Plan};
 ghost use Rattle.planning.specs.Planning.{planningFor, planning, planningAt, Plots, Ready};
 ghost use Rattle.planning.specs.Numbers.{numbersOf};
 
@@ -115,7 +115,7 @@ fn parts_of(
     let after = c.after;
     let d = distance::distances(net, &tails, &heads, &used);
     *t = d;
-    let legs = legs::legs_of(net, &tails, &heads, &used, &first, &after, d);
+    let legs = legs::legs_of(net, &tails, &heads, &first, &after, d);
     Parts {
         plant: p,
         net,
@@ -210,9 +210,9 @@ pub fn compare(x: Parts, t: &[[u8; Plant::PLACES]; Plant::PLACES], lent: &[u16])
     trail::compare(x.net, &tails, &heads, &first, &after, t, x.legs, lent)
 }
 
-// The forwarding table of a plan, whose table of distances is handed over for the contract alone.
-pub fn table_of(x: Parts, t: &[[u8; Plant::PLACES]; Plant::PLACES]) -> Table
-    requires { ⌜ Plan x (now t) ⌝ }
+// The forwarding table of a plan.
+pub fn table_of(x: Parts) -> Table
+    requires { ⌜ FromStart x ⌝ }
     ensures { λ r. ⌜ r ≡ tableOf (x .plant) ⌝ }
 {
     let tails = x.tails;
@@ -221,9 +221,9 @@ pub fn table_of(x: Parts, t: &[[u8; Plant::PLACES]; Plant::PLACES]) -> Table
     table::table_of(&tails, &heads, &used, x.net.labels)
 }
 
-// The numbers of a plan, whose table of distances is handed over for the contract alone.
-pub fn numbers_of(x: Parts, t: &[[u8; Plant::PLACES]; Plant::PLACES]) -> Numbers
-    requires { ⌜ Plan x (now t) ⌝ }
+// The numbers of a plan.
+pub fn numbers_of(x: Parts) -> Numbers
+    requires { ⌜ FromStart x ⌝ }
     ensures { λ r. ⌜ r ≡ numbersOf (x .plant) ⌝ }
 {
     let bridges = graph::count_set(&x.bridges);

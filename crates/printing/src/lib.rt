@@ -88,8 +88,8 @@ fn put_plan(
     ensures { λ r. ⌜ Laid (now (buf .entry)) 0 (plantOutput (x .plant)) (now (buf .exit)) r ⌝ }
 {
     planning::lay(x, t, labels);
-    let rules = put_numbers(planning::numbers_of(x, t), buf);
-    let end = put_table(planning::table_of(x, t), buf, rules);
+    let rules = put_numbers(planning::numbers_of(x), buf);
+    let end = put_table(planning::table_of(x), buf, rules);
     text::put_trail(buf, end, labels, x.legs.hops as usize)
 }
 

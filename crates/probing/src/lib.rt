@@ -26,7 +26,7 @@ ghost use Rattle.lists.specs.Arrays.{flag};
 ghost use Rattle.walks.specs.Graph.{liveLinks};
 ghost use Rattle.plan.specs.Plan.{Connected, used, trailOf};
 ghost use Rattle.rings.specs.Injection.{orderOf};
-ghost use Rattle.planning.specs.Plans.{Plan};
+ghost use Rattle.planning.specs.Plans.{FromStart, Plan};
 ghost use Rattle.order.specs.Span.{stretchOf, frontOf};
 ghost use Rattle.packet.specs.Asked.{CanProbe};
 ghost use Rattle.packet.specs.Runs.{endOf};
@@ -154,14 +154,8 @@ fn probe_wanted(p: Plant, search: Search) -> Asked
 // ---- a packet that is no probe
 
 // A packet runs under the forwarding table of a plan alone: refusal 13. The table of distances is handed over for the contract alone.
-fn run_in(
-    x: Parts,
-    t: &[[u8; Plant::PLACES]; Plant::PLACES],
-    switch: u8,
-    labels: &[u16],
-    states: &[u8],
-) -> Ran
-    requires { ⌜ Plan x (now t) ⌝ }
+fn run_in(x: Parts, switch: u8, labels: &[u16], states: &[u8]) -> Ran
+    requires { ⌜ FromStart x ⌝ }
     ensures { λ r. ⌜ ranAnswer r ≡ answer (runIn switch (now (labels .entry)) (now (states .entry)) (x .plant)) ⌝ }
 {
     if too_few(states, x.plant.count) {
@@ -180,7 +174,7 @@ pub fn run(listing: &[u8], switch: u8, labels: &[u16], states: &[u8]) -> Ran
     let d = planning::plan_at(listing, switch, &mut t);
     let v = d.verdict;
     match v {
-        Verdict::Accepted => run_in(d.parts, &t, switch, labels, states),
+        Verdict::Accepted => run_in(d.parts, switch, labels, states),
         Verdict::Refused(k) => Ran::Refused(k),
     }
 }

@@ -5,7 +5,7 @@ use mathlib.Core.Bool.{Bool, true, false, not, _||_}
 use mathlib.Core.List.{List, []}
 use Prim.Native.Nat.{ℕ, _+_, _*_, _/_, _≤_, _<_}
 use native.Mathlib.Omega.{arith}
-use lib.Dec.{eqb}
+use lib.Dec.{T, eqb}
 use lib.ListN.{length, getD, set, replicate, length-set, length-replicate}
 use Rattle.lists.specs.Arrays.{flag, at}
 use Rattle.lists.proofs.Arrays.{flag-set}
@@ -28,10 +28,10 @@ use Rattle.walks.proofs.Fuel.{unique}
 use Rattle.walks.proofs.Visited.{begin, visited-run}
 use Rattle.walks.proofs.Valid.{sound-valid}
 use Rattle.arcs.specs.Net.{Ends, AllArcs}
-use Rattle.arcs.specs.Chains.{TailsIn}
+use Rattle.arcs.specs.Chains.{Chained, TailsIn}
 use Rattle.arcs.specs.declared.Visited.{Visited}
 use Rattle.arcs.specs.Shows.{Shows, Visits}
-use Rattle.visit.specs.Inner.{HeadsIn, unvisited, beginOf, At, Tries, Went}
+use Rattle.visit.specs.Inner.{Tried, unvisited, beginOf, At, Tries, Went}
 use Rattle.visit.proofs.Unvisited.{unvisited-set}
 
 -- ---- the beginning
@@ -82,9 +82,13 @@ module _ (p : Plant) (sound : Sound p) {tails heads : List ℕ} (ends : Ends p t
   tails-in a h t =
       omega (arith, sound .few-switches, ap (λ (f : ℕ → ℕ). f a) (ends .tails-are), tail-in p (sound-valid p sound) a (rw (all .tells a) at t))
 
-  pub heads-in : HeadsIn (2 * p .count) heads flags
+  pub heads-in : (a : ℕ) → a < 2 * p .count → T (flag flags a) → at heads a < maxSwitches
   heads-in a h t =
       omega (arith, sound .few-switches, ap (λ (f : ℕ → ℕ). f a) (ends .heads-are), head-in p (sound-valid p sound) a (rw (all .tells a) at t))
+
+  -- the arcs that the visit tries
+  abbrev pub tried : {first after : List ℕ} → Chained (2 * p .count) (at tails) (flag flags) first after → Tried (2 * p .count) heads first after
+  tried c = record { tl = at tails; ok = flag flags; heads-in = heads-in; chained = c }
 
   module _ (root : ℕ) (root-in : root < p .switches) (r : Visited) where
     -- the flagged arcs are the arcs of the plant

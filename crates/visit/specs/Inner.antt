@@ -11,12 +11,16 @@ use Rattle.lists.specs.Numbers.{range, keep}
 use Rattle.limits.specs.Limits.{maxSwitches, maxLinks}
 use Rattle.walks.specs.Visit.{St}
 use Rattle.walks.specs.Inner.{Scan}
+use Rattle.arcs.specs.Chains.{Chained}
 use Rattle.arcs.specs.declared.Visited.{Visited}
 use Rattle.arcs.specs.Shows.{Shows}
 
--- each flagged arc goes to a switch that there can be
-abbrev pub HeadsIn : ℕ → List ℕ → List Bool → Type 0
-HeadsIn n heads flags = (a : ℕ) → a < n → T (flag flags a) → at heads a < maxSwitches
+-- the arrays have the heads of some arcs, each a switch that there can be, and the chains of the flagged ones; the tails and the flags no code of the visit reads
+pub record Tried (n : ℕ) (heads first after : List ℕ) : Type 0 where
+  pub tl : ℕ → ℕ
+  pub ok : ℕ → Bool
+  pub heads-in : (a : ℕ) → a < n → T (ok a) → at heads a < maxSwitches
+  pub chained : Chained n tl ok first after
 
 -- how many switches are not visited
 unfoldable pub unvisited : List Bool → ℕ

@@ -1,15 +1,14 @@
 // The depth-first visit of a plant from a root, and whether it reached all switches. Inner: the calls are the crates `planner` and `probing`.
 ghost use mathlib.Core.Path.{_≡_};
 ghost use Prim.Native.Nat.{_*_, _≤_, _<_};
-ghost use Rattle.lists.specs.Arrays.{flag, at};
+ghost use Rattle.lists.specs.Arrays.{at};
 ghost use Rattle.lists.specs.Numbers.{every};
 ghost use Rattle.limits.specs.Limits.{maxSwitches, maxLinks};
 ghost use Rattle.limits.specs.Sound.{Sound};
 ghost use Rattle.walks.specs.Graph.{reachedFrom};
 ghost use Rattle.arcs.specs.Net.{Ends};
-ghost use Rattle.arcs.specs.Chains.{Chained};
 ghost use Rattle.arcs.specs.Shows.{Visits};
-ghost use Rattle.visit.specs.Inner.{HeadsIn, enterOf, beginOf, At, Went};
+ghost use Rattle.visit.specs.Inner.{Tried, enterOf, beginOf, At, Went};
 use arcs::Visited;
 use plant::Plant;
 
@@ -31,12 +30,9 @@ fn enter(v: Visited, to: u8, l: usize) -> Visited
 }
 
 // The visit goes on from the switch `from`, which is visited. It tries the arcs that leave it by rising label, and calls itself for each switch that it enters. The
-// number of unvisited switches falls with each call, so it calls itself no deeper than there are switches. The tails and the flags of the arcs that are tried are
-// handed over for the contract alone: `first` and `after` are their chains.
+// number of unvisited switches falls with each call, so it calls itself no deeper than there are switches.
 fn visit_from(
-    tails: &[u8; Plant::LABELS],
     heads: &[u8; Plant::LABELS],
-    flags: &[bool; Plant::LABELS],
     first: &[u16; Plant::PLACES],
     after: &[u16; Plant::LABELS],
     n: u16,
@@ -44,10 +40,9 @@ fn visit_from(
     from: u8,
 ) -> Visited
     requires { ⌜ n ≤ 2 * maxLinks ⌝ }
-    requires { ⌜ HeadsIn n (now heads) (now flags) ⌝ }
-    requires { ⌜ Chained n (at (now tails)) (flag (now flags)) (now first) (now after) ⌝ }
+    requires { ⌜ Tried n (now heads) (now first) (now after) ⌝ }
     requires { ⌜ At v0 from ⌝ }
-    ensures { λ r. ⌜ Went n (at (now (tails .entry))) (at (now (heads .entry))) (flag (now (flags .entry))) v0 from r ⌝ }
+    ensures { λ r. ⌜ ((w : Tried n (now (heads .entry)) (now (first .entry)) (now (after .entry))) → Went n (w .tl) (at (now (heads .entry))) (w .ok) v0 from r) ⌝ }
 {
     let mut v = v0;
     let mut a = first[from as usize];
@@ -56,7 +51,7 @@ fn visit_from(
         let j = to as usize;
         if !v.seen[j] {
             let l = (a / 2) as usize;
-            v = visit_from(tails, heads, flags, first, after, n, enter(v, to, l), to);
+            v = visit_from(heads, first, after, n, enter(v, to, l), to);
         }
         a = after[a as usize];
     }
@@ -97,7 +92,7 @@ pub fn visit(
     let c = arcs::chains_of(tails, &all, n);
     let first = c.first;
     let after = c.after;
-    visit_from(tails, heads, &all, &first, &after, n, begin(root), root)
+    visit_from(heads, &first, &after, n, begin(root), root)
 }
 
 // Did the visit reach every switch?

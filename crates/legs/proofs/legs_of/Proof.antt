@@ -1,10 +1,9 @@
--- The legs of the trail. The invariant: the legs found so far, and what is left of the trail. The measure: how many more legs there can be. Assumes nothing.
+-- The legs of the trail. The invariant: the legs found so far, and what is left of the trail. The measure: how many more legs there is a place for. Assumes nothing.
 use Prim.Native.Nat.{_-_}
 use native.Mathlib.Omega.{arith}
 use borrow.Author.Needs.{needs}
-use Rattle.lists.specs.Arrays.{flag}
-use Rattle.lists.specs.Count.{count}
-use Rattle.arcs.specs.Parts.{Parts}
+use Rattle.limits.specs.Limits.{maxRules}
+use Rattle.arcs.specs.Parts.{SomeParts}
 use Rattle.legs.proofs.Aims.{tabled, Found, Turn, End, found-none, turn, ends}
 use Rattle.legs.proofs.legs_of.Statement.{statement}
 use Rattle.legs.proofs.legs_of.Tie as tie
@@ -14,45 +13,45 @@ use Rattle.legs.proofs.copied.Reads as copied-reads
 use Rattle.legs.proofs.nearest.Reads as nearest-reads
 
 abbrev Inv-loop : tie.InvT-loop
-Inv-loop net tails heads used first after t none root low₀ aims₀ k₀ hops₀ u₀ a₀ low aims k hops u a = (p : Parts net tails heads used first after t) → Found p low aims k hops u a
+Inv-loop net tails heads first after t none root low₀ aims₀ k₀ hops₀ u₀ a₀ low aims k hops u a = (w : SomeParts net tails heads first after t) → Found (w .parts) low aims k hops u a
 
 abbrev μ-loop : tie.MeasureT-loop
-μ-loop net tails heads used first after t none root low₀ aims₀ k₀ hops₀ u₀ a₀ low aims k hops u a = count none (flag used) - k
+μ-loop net tails heads first after t none root low₀ aims₀ k₀ hops₀ u₀ a₀ low aims k hops u a = maxRules - k
 
 loop-holds : tie.Need-loop-holds Inv-loop μ-loop
-loop-holds c p = let l = c .before .before .before .copied in found-none p _ _ (l .ensures) (l .ok .1 .0 .1) (c .nearest .ensures)
+loop-holds c w = let l = c .before .before .before .copied in found-none (w .parts) _ _ (l .ensures) (l .ok .1 .0 .1) (c .nearest .ensures)
 
 -- what the next leg makes
 turned : (c : lts.In-loop (copied-reads.Asked, copied-reads.Learnt, nearest-reads.Asked, nearest-reads.Learnt) reads.Pre reads.Post Inv-loop μ-loop)
-    → let k = c .before .loop in Turn (c .before .before .before .before .before .before .before .pre) (k .low) (k .aims) (k .k) (k .hops) (k .u) (k .a) (k .inv _)
+    → let k = c .before .loop in Turn (c .before .before .before .before .before .before .before .pre .parts) (k .low) (k .aims) (k .k) (k .hops) (k .u) (k .a) (k .inv _)
 turned c = turn _ _ _ _ _ _ _ _ (c .loop-test .taken)
 
 -- what the way back makes
 ended : (c : lts.After-loop (copied-reads.Asked, copied-reads.Learnt, nearest-reads.Asked, nearest-reads.Learnt) reads.Pre reads.Post Inv-loop μ-loop)
-    → let k = c .before .loop in End (c .before .before .before .before .before .before .before .pre) (k .low) (k .aims) (k .k) (k .hops) (k .u) (k .a) (k .inv _)
+    → let k = c .before .loop in End (c .before .before .before .before .before .before .before .pre .parts) (k .low) (k .aims) (k .k) (k .hops) (k .u) (k .a) (k .inv _)
 ended c = ends _ _ _ _ _ _ _ _ (c .loop-test .left)
 
 nearest-requires-2 : tie.Need-nearest-requires-2 Inv-loop μ-loop
 nearest-requires-2 c κs =
     let in-loop = c .before .before .before .before .before .before in
     let s = in-loop .before .before .before .before .before .before .before in
-    (tabled (s .pre), turned in-loop .head-in)
+    (tabled (s .pre .parts), turned in-loop .head-in)
 
 loop-again : tie.Need-loop-again Inv-loop μ-loop
-loop-again c p =
+loop-again c w =
     let in-loop = c .before .before .before .before .before .before .before in
     let k = in-loop .before .loop in
-    turn p (k .low) (k .aims) (k .k) (k .hops) (k .u) (k .a) (k .inv p) (in-loop .loop-test .taken) .again _ (c .nearest2 .ensures)
+    turn (w .parts) (k .low) (k .aims) (k .k) (k .hops) (k .u) (k .a) (k .inv w) (in-loop .loop-test .taken) .again _ (c .nearest2 .ensures)
 
 pub legs-of-spec : {M : Type 1} → statement M
 legs-of-spec =
     tie.close (tie.spec Inv-loop μ-loop (λ c. search needs) (λ c κs. search needs)
-    (λ c κs. let s = c .before .before .before .before in (tabled (s .pre), s .pre .within .root-in)) loop-holds (λ c. search needs) (λ c. omega (arith, turned c))
+    (λ c κs. let s = c .before .before .before .before in (tabled (s .pre .parts), s .pre .parts .within .root-in)) loop-holds (λ c. search needs) (λ c. omega (arith, turned c))
     (λ c. omega (arith, turned (c .before))) (λ c. omega (arith, turned (c .before))) (λ c. omega (arith, turned (c .before))) (λ c. omega (arith, turned (c .before)))
     (λ c. omega (arith, turned (c .before))) (λ c. omega (arith, turned (c .before))) (λ c. omega (arith, turned (c .before))) (λ c. omega (arith, turned (c .before)))
     (λ c. omega (arith, turned (c .before .before))) (λ c. omega (arith, turned (c .before .before))) (λ c. omega (arith, turned (c .before .before)))
     (λ c. omega (arith, turned (c .before .before))) (λ c. omega (arith, turned (c .before .before))) (λ c. omega (arith, turned (c .before .before .before)))
     (λ c. omega (arith, turned (c .before .before .before))) (λ c. omega (arith, turned (c .before .before .before))) nearest-requires-2
-    (λ c. omega (arith, turned (c .before .before .before .before .before .before .before) .one-more)) loop-again
+    (λ c. omega (arith, turned (c .before .before .before .before .before .before .before) .room)) loop-again
     (λ c. omega (arith, ended c)) (λ c. omega (arith, ended c)) (λ c. omega (arith, ended c)) (λ c. omega (arith, ended c)) (λ c. omega (arith, ended c))
-    (λ c. omega (arith, ended (c .before))) (λ c. omega (arith, ended (c .before))) (λ c. ended (c .before) .legs-are))
+    (λ c. omega (arith, ended (c .before))) (λ c. omega (arith, ended (c .before))) (λ c w. let k = c .before .before .loop in ends (w .parts) (k .low) (k .aims) (k .k) (k .hops) (k .u) (k .a) (k .inv w) (c .before .loop-test .left) .legs-are))

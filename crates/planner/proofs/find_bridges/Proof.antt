@@ -15,7 +15,7 @@ returns c =
     let m = c .before in
     let r = m .before .before in
     let e = m .enum-told .given .1 in
-    beside-given _ _ _ _ refl (sym (on-giving _ (planning _) _ _ (r .plan .ensures .0) bridgeFlags _ e (flags-are _ _ (bridge-flags _ _ (r .plan .ensures .1 e)))))
+    beside-given _ _ _ _ refl (sym (on-giving _ (planning _) _ _ (r .plan .ensures .0) bridgeFlags _ e (flags-are _ _ (bridge-flags _ (r .plan .ensures .1 e .from-start)))))
 
 returns-2 : tie.Need-returns-2
 unfolding bridging

@@ -9,12 +9,12 @@ use Rattle.planner.proofs.forwarding_table.Statement.{statement}
 use Rattle.planner.proofs.forwarding_table.Tie as tie
 
 table-of-requires : tie.Need-table-of-requires
-table-of-requires c κs = c .before .before .before .plan .ensures .1 (c .before .enum-told .given .1)
+table-of-requires c κs = c .before .before .plan .ensures .1 (c .enum-told .given .1) .from-start
 
 returns : tie.Need-returns
 unfolding tabling
 returns c =
-    let m = c .before .before in
+    let m = c .before in
     beside-given _ _ _ _ refl (sym (on-giving _ (planning _) _ _ (m .before .before .plan .ensures .0) tableOf _ (m .enum-told .given .1) (c .table-of .ensures)))
 
 returns-2 : tie.Need-returns-2

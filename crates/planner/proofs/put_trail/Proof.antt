@@ -16,14 +16,14 @@ returns c =
     let s = c .before .before in
     let p = s .args .x .plant in
     let b = s .args .buffer .now in
-    let h : length b < length (trailOf p) = omega (arith, c .if1 .taken, hops-are _ _ (s .pre)) in
+    let h : length b < length (trailOf p) = omega (arith, c .if1 .taken, hops-are _ (s .pre .from-start)) in
     let r = lay-short p b h in
     (r, ap (trailLeft p b) r)
 
 lay-requires : tie.Need-lay-requires
 lay-requires c κs =
     let s = c .before .before .before in
-    (s .pre, omega (arith, c .before .if1 .left, hops-are _ _ (s .pre)))
+    (s .pre, omega (arith, c .before .if1 .left, hops-are _ (s .pre .from-start)))
 
 returns-2 : tie.Need-returns-2
 returns-2 c =
@@ -32,8 +32,8 @@ returns-2 c =
     let s = i .before .before in
     let p = s .args .x .plant in
     let b = s .args .buffer .now in
-    let h : length (trailOf p) ≤ length b = omega (arith, i .if1 .left, hops-are _ _ (s .pre)) in
-    let r = lay-enough p b h _ (hops-are _ _ (s .pre)) in
+    let h : length (trailOf p) ≤ length b = omega (arith, i .if1 .left, hops-are _ (s .pre .from-start)) in
+    let r = lay-enough p b h _ (hops-are _ (s .pre .from-start)) in
     (r, l .lay .ensures ∙ ap (trailLeft p b) r)
 
 pub put-trail-spec : {M : Type 1} → statement M

@@ -8,12 +8,12 @@ use Rattle.planner.proofs.summarize.Statement.{statement}
 use Rattle.planner.proofs.summarize.Tie as tie
 
 numbers-of-requires : tie.Need-numbers-of-requires
-numbers-of-requires c κs = c .before .before .before .plan .ensures .1 (c .before .enum-told .given .1)
+numbers-of-requires c κs = c .before .before .plan .ensures .1 (c .enum-told .given .1) .from-start
 
 returns : tie.Need-returns
 unfolding summing
 returns c =
-    let m = c .before .before in
+    let m = c .before in
     on-giving _ (planning _) _ _ (m .before .before .plan .ensures .0) numbersOf _ (m .enum-told .given .1) (c .numbers-of .ensures)
 
 returns-2 : tie.Need-returns-2

@@ -13,7 +13,7 @@ compare-requires c κs = trailing _ _ (c .before .before .before .before .before
 returns : tie.Need-returns
 returns c =
     let s = c .before .before .before .before .before .before .before .before .before .before in
-    subst (λ (w : List ℕ). Tells (s .args .lent .now) w (c .compare .result)) (trail-is _ _ (s .pre)) (c .compare .ensures (trailing _ _ (s .pre)))
+    subst (λ (w : List ℕ). Tells (s .args .lent .now) w (c .compare .result)) (trail-is _ (s .pre .from-start)) (c .compare .ensures (trailing _ _ (s .pre)))
 
 pub compare-spec : {M : Type 1} → statement M
 compare-spec = tie.close (tie.spec compare-requires returns)

@@ -14,12 +14,12 @@ lay-requires : tie.Need-lay-requires
 lay-requires c κs =
     let s = c .before .before .before .before .before .before .before .before .before .before in
     let x = s .pre .0 in
-    (trailing _ _ x, omega (arith, x .parts .legs-are .hops, ap length (trail-is _ _ x), s .pre .1))
+    (trailing _ _ x, omega (arith, x .from-start .parts .legs-are .hops, ap length (trail-is _ (x .from-start)), s .pre .1))
 
 returns : tie.Need-returns
 returns c =
     let s = c .before .before .before .before .before .before .before .before .before .before .before .before .before in
-    c .before .before .lay .ensures (trailing _ _ (s .pre .0)) ∙ ap (λ (w : List ℕ). filledWith w (s .args .buf .now)) (trail-is _ _ (s .pre .0))
+    c .before .before .lay .ensures (trailing _ _ (s .pre .0)) ∙ ap (λ (w : List ℕ). filledWith w (s .args .buf .now)) (trail-is _ (s .pre .0 .from-start))
 
 pub lay-spec : {M : Type 1} → statement M
 lay-spec = tie.close (tie.spec lay-requires (λ c. search needs) returns)

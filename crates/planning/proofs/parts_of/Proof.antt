@@ -1,5 +1,6 @@
 -- `planning::parts_of` meets its contract: each part is what the next asks for. Assumes nothing.
 use mathlib.Core.Path.{refl}
+use Rattle.arcs.proofs.Ways.{some}
 use Rattle.planning.proofs.Networks.{net-within, net-tails, net-parts}
 use borrow.Author.Needs.{needs}
 use Rattle.planning.proofs.parts_of.Statement.{statement}
@@ -21,30 +22,31 @@ distances-requires c κs =
 
 legs-of-requires : tie.Need-legs-of-requires
 legs-of-requires c κs =
-    let d = c .before .before .before .before .before in
+    let d = c .before .before .before .before in
     let k = d .before .before .before .before .before .before in
     let n = k .before .before .before in
     let u = n .before in
     let s = u .before .before .before .before .before .before .before in
-    net-parts _ (s .pre .0) _ (s .pre .1 .1 .root-in) _ _ (s .pre .1 .0) _ (u .arcs-in-use .ensures) _ (n .net-of .ensures) _ _ _ (k .chains-of .ensures) (d .distances .ensures)
+    some (net-parts _ (s .pre .0) _ (s .pre .1 .1 .root-in) _ _ (s .pre .1 .0) _ (u .arcs-in-use .ensures) _ (n .net-of .ensures) _ _ _ (k .chains-of .ensures) (d .distances .ensures))
 
 returns : tie.Need-returns
 returns c =
-    let d = c .before .before .before .before .before .before in
+    let d = c .before .before .before .before .before in
     let k = d .before .before .before .before .before .before in
     let n = k .before .before .before in
     let u = n .before in
     let b = u .before .before .before .before in
-    let s = b .before .before .before in (
+    let s = b .before .before .before in
+    let parts = net-parts _ (s .pre .0) _ (s .pre .1 .1 .root-in) _ _ (s .pre .1 .0) _ (u .arcs-in-use .ensures) _ (n .net-of .ensures) _ _ _ (k .chains-of .ensures) (d .distances .ensures) in (
       record {
         plant-is = refl;
         net-is = n .net-of .ensures;
         ends = s .pre .1 .0;
         bridges-are = b .bridges .ensures;
         used-are = u .arcs-in-use .ensures;
-        legs-are = c .legs-of .ensures;
+        legs-are = c .legs-of .ensures (some parts);
       },
-      net-parts _ (s .pre .0) _ (s .pre .1 .1 .root-in) _ _ (s .pre .1 .0) _ (u .arcs-in-use .ensures) _ (n .net-of .ensures) _ _ _ (k .chains-of .ensures) (d .distances .ensures),
+      parts,
     )
 
 pub parts-of-spec : {M : Type 1} → statement M

@@ -13,7 +13,7 @@ print-short-requires c κs =
     let m = c .before .before .before in
     let r = m .before .before .plan .ensures in
     let plan = r .1 (m .enum-told .given .1) in
-    (plan, (omega (arith, c .before .if1 .taken, hops-are _ _ plan), sym (ap outputOf (accepted _ _ _ _ (r .0) (m .enum-told .given .1)))))
+    (plan, (omega (arith, c .before .if1 .taken, hops-are _ (plan .from-start)), sym (ap outputOf (accepted _ _ _ _ (r .0) (m .enum-told .given .1)))))
 
 print-long-requires : tie.Need-print-long-requires
 print-long-requires c κs =

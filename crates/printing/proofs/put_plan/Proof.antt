@@ -14,8 +14,8 @@ put-table-requires c κs =
     let n = t .before .before .before in
     let k = n .before .before .before .before .before .before .before .before .before in
     let p = k .args .x .plant in
-    let most = table-most p _ (t .table-of .ensures) (k .pre .0 .sound) in
-    (table-few p _ (t .table-of .ensures) (k .pre .0 .sound), omega (arith, most, n .put-numbers .ensures .1, laid-same (n .put-numbers .ensures .0), k .pre .1 .1))
+    let most = table-most p _ (t .table-of .ensures) (k .pre .0 .from-start .sound) in
+    (table-few p _ (t .table-of .ensures) (k .pre .0 .from-start .sound), omega (arith, most, n .put-numbers .ensures .1, laid-same (n .put-numbers .ensures .0), k .pre .1 .1))
 
 put-trail-requires : tie.Need-put-trail-requires
 put-trail-requires c κs =
@@ -25,9 +25,9 @@ put-trail-requires c κs =
     let l = n .before .before .before .before .before in
     let k = l .before .before .before .before in
     let p = k .args .x .plant in
-    let hops = hops-are _ _ (k .pre .0) in
-    let most = table-most p _ (t .table-of .ensures) (k .pre .0 .sound) in
-    let fits = trail-fits p (k .args .labels .now) (k .pre .0 .sound) (l .lay .ensures) hops in (
+    let hops = hops-are _ (k .pre .0 .from-start) in
+    let most = table-most p _ (t .table-of .ensures) (k .pre .0 .from-start .sound) in
+    let fits = trail-fits p (k .args .labels .now) (k .pre .0 .from-start .sound) (l .lay .ensures) hops in (
       omega (arith, trail-room (trailOf p) (k .args .labels .now) _ _ (l .lay .ensures) hops),
       omega (arith, fits, most, n .put-numbers .ensures .1, r .put-table .ensures .place, laid-same (n .put-numbers .ensures .0), laid-same (r .put-table .ensures), k .pre .1 .1),
     )
@@ -41,7 +41,7 @@ returns c =
     let m = n .before .before in
     let l = m .before .before .before in
     let k = l .before .before .before .before in
-    plant-laid (k .args .x .plant) (k .args .labels .now) (m .numbers-of .ensures) (t .table-of .ensures) (l .lay .ensures) (hops-are _ _ (k .pre .0)) (n .put-numbers .ensures .0) (r .put-table .ensures)
+    plant-laid (k .args .x .plant) (k .args .labels .now) (m .numbers-of .ensures) (t .table-of .ensures) (l .lay .ensures) (hops-are _ (k .pre .0 .from-start)) (n .put-numbers .ensures .0) (r .put-table .ensures)
     (e .put-trail .ensures)
 
 pub put-plan-spec : {M : Type 1} → statement M

@@ -16,7 +16,7 @@ full-check-requires c κs =
     let j = c .before .before in
     let u = j .before in
     let s = u .before .before .before in
-    lent-can _ _ _ _ (j .judge-lent .ensures) (c .enum-told .given .1) (s .pre .sound) _ (s .pre .parts .used-are)
+    lent-can _ _ _ _ (j .judge-lent .ensures) (c .enum-told .given .1) (s .pre .from-start .sound) _ (s .pre .from-start .parts .used-are)
 
 returns : tie.Need-returns
 unfolding checkIn
@@ -26,7 +26,7 @@ returns c =
     let u = j .before in
     let a = u .before .before .before in
     let s = a .args in
-    checked (s .x .plant) (s .trail .now) (s .switch) (lent-same _ _ _ _ (j .judge-lent .ensures) (m .enum-told .given .1)) (flags-same (a .pre .parts .used-are))
+    checked (s .x .plant) (s .trail .now) (s .switch) (lent-same _ _ _ _ (j .judge-lent .ensures) (m .enum-told .given .1)) (flags-same (a .pre .from-start .parts .used-are))
     (upByLink (s .states .now)) (endOf (c .before .full-check .result)) _ (c .outcome-of .ensures) (c .before .full-check .ensures)
     ∙ sym (passed _ _ (j .judge-lent .ensures) _ (m .enum-told .given .1))
 

@@ -26,7 +26,7 @@ name-of-requires c κs =
     let d = b .before .before in
     let s = d .before .before .before in
     let g = good-here (liveLinks (s .args .x .plant)) (s .args .search) (sym (b .before .unsound .ensures) ∙ b .if2 .left) in
-    ((s .pre .sound, s .pre .connected), (trail-same _ _ (sym (d .before .differs .ensures) ∙ d .if1 .left), rw (c .says .ensures) (says-in (liveLinks (s .args .x .plant)) (s .args .search) g)))
+    ((s .pre .from-start .sound, s .pre .from-start .connected), (trail-same _ _ (sym (d .before .differs .ensures) ∙ d .if1 .left), rw (c .says .ensures) (says-in (liveLinks (s .args .x .plant)) (s .args .search) g)))
 
 returns-3 : tie.Need-returns-3
 unfolding nameIn

@@ -16,7 +16,7 @@ returns c = beside-as _ _ _ _ _ (holds 12 _ _ (sym (c .before .before .differs .
 order-of-requires : tie.Need-order-of-requires
 order-of-requires c κs =
     let s = c .before .before .before in
-    (s .pre .sound, lent-arcs (s .args .x .plant) (s .pre .sound) _ (trail-same _ _ (sym (c .before .differs .ensures) ∙ c .if1 .left)))
+    (s .pre .from-start .sound, lent-arcs (s .args .x .plant) (s .pre .from-start .sound) _ (trail-same _ _ (sym (c .before .differs .ensures) ∙ c .if1 .left)))
 
 returns-2 : tie.Need-returns-2
 returns-2 c = let d = c .before in ordered _ _ _ _ (sym (d .before .differs .ensures) ∙ d .if1 .left) (c .order-of .ensures)

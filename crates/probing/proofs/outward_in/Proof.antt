@@ -17,7 +17,7 @@ span-in-requires c κs =
     let a = c .before .before .before in
     let d = a .before in
     let s = d .before .before .before in
-    ((s .pre .sound, s .pre .connected), (trail-same _ _ (sym (d .before .differs .ensures) ∙ d .if1 .left), probe-among _ _ _ (a .probe-wanted .ensures) _ (c .before .m .given .1)))
+    ((s .pre .from-start .sound, s .pre .from-start .connected), (trail-same _ _ (sym (d .before .differs .ensures) ∙ d .if1 .left), probe-among _ _ _ (a .probe-wanted .ensures) _ (c .before .m .given .1)))
 
 returns-2 : tie.Need-returns-2
 unfolding outwardIn

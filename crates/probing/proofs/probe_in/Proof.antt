@@ -14,7 +14,7 @@ probe-over-requires c κs =
     let u = j .before in
     let s = u .before .before .before in
     let e = c .enum-told .given .1 in
-    (lent-can _ _ _ _ (j .judge-lent .ensures) e (s .pre .sound) _ (s .pre .parts .used-are), (flags-same (s .pre .parts .used-are), lent-same _ _ _ _ (j .judge-lent .ensures) e))
+    (lent-can _ _ _ _ (j .judge-lent .ensures) e (s .pre .from-start .sound) _ (s .pre .from-start .parts .used-are), (flags-same (s .pre .from-start .parts .used-are), lent-same _ _ _ _ (j .judge-lent .ensures) e))
 
 returns : tie.Need-returns
 unfolding probeIn

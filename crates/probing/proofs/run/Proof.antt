@@ -7,12 +7,12 @@ use Rattle.probing.proofs.run.Statement.{statement}
 use Rattle.probing.proofs.run.Tie as tie
 
 run-in-requires : tie.Need-run-in-requires
-run-in-requires c κs = c .before .before .before .plan-at .ensures .1 (c .before .enum-told .given .1)
+run-in-requires c κs = c .before .before .plan-at .ensures .1 (c .enum-told .given .1) .from-start
 
 returns : tie.Need-returns
 unfolding running
 returns c =
-    let m = c .before .before in
+    let m = c .before in
     on-then _ (planningAt _ _) _ _ (m .before .before .plan-at .ensures .0) (runIn _ _ _) _ (m .enum-told .given .1) (c .run-in .ensures)
 
 returns-2 : tie.Need-returns-2
