@@ -8,9 +8,8 @@ ghost use Rattle.lists.specs.Arrays.{flag, at};
 ghost use Rattle.limits.specs.Limits.{maxLinks};
 ghost use Rattle.limits.specs.Sound.{Sound};
 ghost use Rattle.plant.specs.Links.{live};
-ghost use Rattle.walks.specs.Arcs.{tail, head};
 ghost use Rattle.walks.specs.Graph.{liveLinks};
-ghost use Rattle.arcs.specs.Net.{AllArcs};
+ghost use Rattle.arcs.specs.Net.{Ends, AllArcs};
 ghost use Rattle.arcs.specs.Chains.{Chained, TailsIn};
 
 // The sizes of a network: its switches are those below `switches`, its labels those below `labels`, and its trail goes from `root`.
@@ -18,6 +17,12 @@ pub struct Net {
     pub switches: u8,
     pub labels: u16,
     pub root: u8,
+}
+
+// The tails and the heads of the arcs, by their labels.
+pub struct ArcEnds {
+    pub tails: [u8; Plant::LABELS],
+    pub heads: [u8; Plant::LABELS],
 }
 
 // The first arc of each switch, and after each arc the next of the same switch, by rising label. The number of labels stands for none.
@@ -43,34 +48,22 @@ pub struct Legs {
     pub aims: [u16; Plant::MAX_RULES],
 }
 
-// The switch that each arc leaves.
-pub fn tails_of(p: Plant) -> [u8; Plant::LABELS]
+// The switch that each arc leaves, and the one that it reaches.
+pub fn ends_of(p: Plant) -> ArcEnds
     requires { ⌜ Sound p ⌝ }
-    ensures { λ r. ⌜ at r ≡ tail p ⌝ }
+    ensures { λ r. ⌜ Ends p (r .tails) (r .heads) ⌝ }
 {
-    let mut r = [0u8; Plant::LABELS];
+    let mut tails = [0u8; Plant::LABELS];
+    let mut heads = [0u8; Plant::LABELS];
     let n = 2 * p.count as usize;
     let mut a: usize = 0;
     while a < n {
-        r[a] = tail_of(p.links[a / 2], a);
+        let l = p.links[a / 2];
+        tails[a] = tail_of(l, a);
+        heads[a] = head_of(l, a);
         a += 1;
     }
-    r
-}
-
-// The switch that each arc reaches.
-pub fn heads_of(p: Plant) -> [u8; Plant::LABELS]
-    requires { ⌜ Sound p ⌝ }
-    ensures { λ r. ⌜ at r ≡ head p ⌝ }
-{
-    let mut r = [0u8; Plant::LABELS];
-    let n = 2 * p.count as usize;
-    let mut a: usize = 0;
-    while a < n {
-        r[a] = head_of(p.links[a / 2], a);
-        a += 1;
-    }
-    r
+    ArcEnds { tails, heads }
 }
 
 // Does link l take part in the plant?

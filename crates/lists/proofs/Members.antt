@@ -2,7 +2,7 @@
 use mathlib.Core.Path.{_≡_, refl, sym, ap, _∙_}
 use mathlib.Core.Logic.{_⊎_, inl, inr}
 use mathlib.Core.Bool.{Bool, true, _&&_, _||_, and-assoc, or-assoc}
-use mathlib.Core.List.{List, [], _∷_, _++_}
+use mathlib.Core.List.{List, [], _∷_, _++_, map}
 use Prim.Native.Nat.{ℕ, zero, suc, _<_}
 use native.Mathlib.Omega.{arith}
 use lib.Dec.{T, eqb, eqb→eq}
@@ -89,6 +89,13 @@ each-at P (x ∷ xs) d h (suc i) k = each-at P xs d (h .1) i (omega arith)
 pub at-each : {A : Type 0} (P : A → Type 0) (xs : List A) (d : A) → ((i : ℕ) → i < length xs → P (getD xs i d)) → Each P xs
 at-each P [] d f = tt
 at-each P (x ∷ xs) d f = (f 0 (omega arith), at-each P xs d (λ i h. f (suc i) (omega arith)))
+
+pub in-each : (P : ℕ → Type 0) (xs : List ℕ) → ((x : ℕ) → In x xs → P x) → Each P xs
+in-each P xs f = at-each P xs 0 (λ i h. f (getD xs i 0) (getD-in xs i h))
+
+pub each-map : {A B : Type 0} (P : B → Type 0) (f : A → B) (xs : List A) → Each (λ x. P (f x)) xs → Each P (map f xs)
+each-map P f [] h = tt
+each-map P f (x ∷ xs) h = (h .0, each-map P f xs (h .1))
 
 -- a list of one value has it at every place, and past its end as the default
 pub getD-same : {A : Type 0} (n i : ℕ) (a : A) → getD (replicate n a) i a ≡ a

@@ -135,8 +135,9 @@ fn plan_in(p: Plant, t: &mut [[u8; Plant::PLACES]; Plant::PLACES]) -> Planned
     ensures { λ r. ⌜ Plots (answer (planningFor p)) r ⌝ }
     ensures { λ r. ⌜ Ready r (now (t .exit)) ⌝ }
 {
-    let tails = arcs::tails_of(p);
-    let heads = arcs::heads_of(p);
+    let e = arcs::ends_of(p);
+    let tails = e.tails;
+    let heads = e.heads;
     let v = visit::visit(p, &tails, &heads, p.start);
     if visit::reaches_all(p, v) {
         let parts = parts_of(p, tails, heads, v, t);

@@ -5,10 +5,10 @@ use mathlib.Core.List.{List, [], _∷_, _++_, map}
 use Prim.Native.Nat.{ℕ, _*_, _≤_}
 use native.Mathlib.Omega.{arith}
 use lib.Dec.{T}
-use lib.ListN.{length, getD, take, drop, length-append}
+use lib.ListN.{length, take, drop, length-append}
 use lib.Seq.{take-append-seam}
-use Rattle.lists.specs.Members.{In, Each}
-use Rattle.lists.proofs.Members.{getD-in, at-each}
+use Rattle.lists.specs.Members.{Each}
+use Rattle.lists.proofs.Members.{in-each, each-map}
 use Rattle.lists.specs.Numbers.{range, keep}
 use Rattle.lists.proofs.Numbers.{keep-in}
 use Rattle.plant.specs.declared.Plant.{Plant}
@@ -35,15 +35,6 @@ use Rattle.text.proofs.SizeLaws.{each-most, line-most}
 use Rattle.planning.specs.declared.Numbers.{Numbers}
 use Rattle.planning.specs.Numbers.{numbersOf}
 use Rattle.printing.specs.Output.{triple, plantOutput}
-
--- ---- what holds of each member
-
-in-each : (P : ℕ → Type 0) (xs : List ℕ) → ((x : ℕ) → In x xs → P x) → Each P xs
-in-each P xs f = at-each P xs 0 (λ i h. f (getD xs i 0) (getD-in xs i h))
-
-each-map : {A B : Type 0} (P : B → Type 0) (f : A → B) (xs : List A) → Each (λ x. P (f x)) xs → Each P (map f xs)
-each-map P f [] h = tt
-each-map P f (x ∷ xs) h = (h .0, each-map P f xs (h .1))
 
 -- ---- the rules of a table
 

@@ -153,7 +153,7 @@ fn probe_wanted(p: Plant, search: Search) -> Asked
 
 // ---- a packet that is no probe
 
-// A packet runs under the forwarding table of a plan alone: refusal 13. The table of distances is handed over for the contract alone.
+// A packet runs under the forwarding table of a plan alone: refusal 13.
 fn run_in(x: Parts, switch: u8, labels: &[u16], states: &[u8]) -> Ran
     requires { ⌜ FromStart x ⌝ }
     ensures { λ r. ⌜ ranAnswer r ≡ answer (runIn switch (now (labels .entry)) (now (states .entry)) (x .plant)) ⌝ }

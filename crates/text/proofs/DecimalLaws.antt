@@ -1,15 +1,15 @@
 -- Laws of numbers in decimal, over any number: what was written is read and what was read is written, the bytes are digits with no leading zero, and how many there are. Assumes nothing.
 use mathlib.Core.Path.{_≡_, refl, sym, ap, ap₂, _∙_, subst}
-use mathlib.Core.Logic.{_⊎_, inl, inr}
+use mathlib.Core.Logic.{_⊎_, inl, inr, ⊎-elim}
 use mathlib.Core.Bool.{true, false, not}
 use mathlib.Core.List.{List, [], _∷_, _++_, append-nil, append-assoc}
 use Prim.Native.Nat.{ℕ, zero, suc, _+_, _-_, _*_, _/_, _%_, _^_, _≤_, _<_}
 use native.Mathlib.Nat.{pow-suc, one-le-pow}
 use native.Mathlib.Omega.{arith}
-use borrow.Author.Tests.{lt-ltb, le-ltb, ltb-true, ltb-false, le-leb, leb-true, ne-eqb, eqb-false, not-true}
+use borrow.Author.Tests.{lt-ltb, le-ltb, le-leb, leb-true, ne-eqb, eqb-false, not-true}
 use lib.Dec.{T, eqb, ltb}
 use lib.ListN.{length, getD, length-append}
-use Rattle.lists.proofs.Tests.{bool?, true-T, not-both, and-true, if-true, if-false}
+use Rattle.lists.proofs.Tests.{below?, true-T, not-both, and-true, if-true, if-false}
 use Rattle.lists.specs.Members.{all}
 use Rattle.lists.proofs.Members.{all-append}
 use Rattle.text.specs.Decimal.{digit, digits, decimal, readAfter, readDecimal, isDigit, leads, isDecimal}
@@ -24,18 +24,11 @@ digits-more : (k n : ℕ) → 10 ≤ n → digits (suc k) n ≡ digits k (n / 10
 unfolding digits
 digits-more k n h = if-false (ltb n 10) _ _ (λ t. subst T (le-ltb n 10 h) t)
 
-ten? : (n : ℕ) → (n < 10) ⊎ (10 ≤ n)
-ten? n = go (bool? (ltb n 10))
-  where
-    go : (ltb n 10 ≡ true) ⊎ (ltb n 10 ≡ false) → (n < 10) ⊎ (10 ≤ n)
-    go (inl e) = inl (ltb-true n 10 e)
-    go (inr e) = inr (ltb-false n 10 e)
-
 -- any number of steps that is enough gives the same digits
 digits-same : (k j n : ℕ) → n ≤ k → n ≤ j → digits (suc k) n ≡ digits (suc j) n
 digits-same zero j n h i = digits-last 0 n (omega arith) ∙ sym (digits-last j n (omega arith))
 digits-same (suc k) zero n h i = digits-last (suc k) n (omega arith) ∙ sym (digits-last 0 n (omega arith))
-digits-same (suc k) (suc j) n h i = go (ten? n) (digits-same k j (n / 10))
+digits-same (suc k) (suc j) n h i = go (below? n 10) (digits-same k j (n / 10))
   where
     go : (n < 10) ⊎ (10 ≤ n) → (n / 10 ≤ k → n / 10 ≤ j → digits (suc k) (n / 10) ≡ digits (suc j) (n / 10)) → digits (suc (suc k)) n ≡ digits (suc (suc j)) n
     go (inl m) same = digits-last (suc k) n m ∙ sym (digits-last (suc j) n m)
@@ -70,7 +63,7 @@ length-more n h = ap length (decimal-more n h) ∙ length-append (decimal (n / 1
 module _ (P : ℕ → List ℕ → Type 0) (one : (n : ℕ) → n < 10 → P n (digit n ∷ [])) (more : (n : ℕ) (l : List ℕ) → 10 ≤ n → P (n / 10) l → P n (l ++ (digit (n % 10) ∷ []))) where
   up-to : (k n : ℕ) → n ≤ k → P n (decimal n)
   up-to zero n h = subst (P n) (sym (decimal-last n (omega arith))) (one n (omega arith))
-  up-to (suc k) n h = go (ten? n) (up-to k (n / 10))
+  up-to (suc k) n h = go (below? n 10) (up-to k (n / 10))
     where
       go : (n < 10) ⊎ (10 ≤ n) → (n / 10 ≤ k → P (n / 10) (decimal (n / 10))) → P n (decimal n)
       go (inl m) f = subst (P n) (sym (decimal-last n m)) (one n m)
@@ -92,9 +85,6 @@ read-decimal =
     (λ n l. readDecimal l ≡ n)
     (λ n h. omega arith)
     (λ n l h e. read-append 0 l (digit (n % 10) ∷ []) ∙ rw e (omega arith))
-
-pub decimal-injective : (m n : ℕ) → decimal m ≡ decimal n → m ≡ n
-decimal-injective m n e = sym (read-decimal m) ∙ ap readDecimal e ∙ read-decimal n
 
 -- ---- how many digits
 
@@ -127,9 +117,6 @@ decimal-least = by-digits (λ n l. (k : ℕ) → 10 ^ k ≤ n → k < length l) 
     step : (n : ℕ) (l : List ℕ) → 10 ≤ n → ((k : ℕ) → 10 ^ k ≤ n / 10 → k < length l) → (k : ℕ) → 10 ^ k ≤ n → k < length (l ++ (digit (n % 10) ∷ []))
     step n l h f zero i = rw length-append (omega arith)
     step n l h f (suc k) i = rw length-append (omega (arith, f k (tenth-above n k i)))
-
-pub decimal-some : (n : ℕ) → 1 ≤ length (decimal n)
-decimal-some = by-digits (λ n l. 1 ≤ length l) (λ n h. omega arith) (λ n l h f. rw length-append (omega arith))
 
 -- ---- the bytes are digits, with no leading zero, and such bytes are a number in decimal
 
@@ -206,8 +193,5 @@ decimal-read (b ∷ c ∷ bs) e =
 
 -- so many digits make a number below that power of ten
 pub read-below : (bs : List ℕ) (k : ℕ) → isDecimal bs ≡ true → length bs ≤ k → readDecimal bs < 10 ^ k
-read-below bs k e h = go (bool? (ltb (readDecimal bs) (10 ^ k)))
-  where
-    go : (ltb (readDecimal bs) (10 ^ k) ≡ true) ⊎ (ltb (readDecimal bs) (10 ^ k) ≡ false) → readDecimal bs < 10 ^ k
-    go (inl t) = ltb-true _ _ t
-    go (inr f) = absurd (omega (arith, decimal-least (readDecimal bs) k (ltb-false _ _ f), ap length (decimal-read bs e)))
+read-below bs k e h =
+    ⊎-elim (λ b. b) (λ f. absurd (omega (arith, decimal-least (readDecimal bs) k f, ap length (decimal-read bs e)))) (below? (readDecimal bs) (10 ^ k))

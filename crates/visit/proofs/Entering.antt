@@ -1,16 +1,18 @@
--- What entering a link does to what a value shows, and to its room. Assumes that the switch is not visited yet.
+-- How many switches are not visited, and what entering a link does to what a value shows and to its room. The last assumes that the switch is not visited yet.
 use mathlib.Core.Path.{_≡_, sym, ap, ap₂, _∙_}
 use mathlib.Core.Logic.{_⊎_, inl, inr}
-use mathlib.Core.Bool.{Bool, true, false, _||_}
-use mathlib.Core.List.{_∷_}
+use mathlib.Core.Bool.{Bool, true, false, not, _||_}
+use mathlib.Core.List.{List, _∷_}
 use Prim.Native.Nat.{ℕ, suc, _+_, _*_, _/_, _≤_, _<_}
 use native.Mathlib.Omega.{arith}
 use native.Mathlib.Numerals.{add-one}
-use lib.Dec.{eqb}
+use lib.Dec.{eqb, T-not, not-T}
 use lib.ListN.{length, getD, set, length-set}
 use lib.Seq.{getD-set-same, getD-set-other}
 use borrow.Author.Tests.{eq-eqb, ne-eqb}
-use Rattle.lists.proofs.Tests.{eq?, or-swap}
+use Rattle.lists.proofs.Tests.{eq?, or-swap, T-true, true-T, false-T}
+use Rattle.lists.proofs.Count.{count-le, count-lt}
+use Rattle.lists.proofs.Arrays.{flag-set, set-keeps}
 use Rattle.lists.specs.Members.{memb}
 use Rattle.limits.specs.Limits.{maxSwitches, maxLinks}
 use Rattle.walks.specs.Visit.{St, rank}
@@ -19,8 +21,20 @@ use Rattle.walks.proofs.Labels.{even-or-odd}
 use Rattle.arcs.specs.declared.Visited.{Visited}
 use Rattle.arcs.specs.Shows.{Shows}
 use Rattle.visit.specs.Inner.{Room, unvisited, enterOf, At}
-use Rattle.visit.proofs.Unvisited.{unvisited-set}
-use Rattle.lists.proofs.Arrays.{flag-set}
+
+-- fewer, the more flags are set
+pub unvisited-kept : (l m : List Bool) → ((x : ℕ) → getD l x false ≡ true → getD m x false ≡ true) → unvisited m ≤ unvisited l
+unfolding unvisited
+unvisited-kept l m f =
+    count-le maxSwitches (λ x. not (getD m x false)) (λ x. not (getD l x false))
+    (λ x h t. not-T (getD l x false) (λ u. T-not (getD m x false) t (true-T (getD m x false) (f x (T-true (getD l x false) u)))))
+
+pub unvisited-set : (l : List Bool) (i : ℕ) → i < maxSwitches → i < length l → getD l i false ≡ false → suc (unvisited (set l i true)) ≤ unvisited l
+unfolding unvisited
+unvisited-set l i h k e =
+    count-lt maxSwitches (λ x. not (getD l x false)) (λ x. not (getD (set l i true) x false)) i h (not-T (getD l i false) (false-T (getD l i false) e))
+    (λ t. T-not (getD (set l i true) i false) t (true-T _ (getD-set-same l i true false k)))
+    (λ x j t. not-T (getD l x false) (λ u. T-not (getD (set l i true) x false) t (true-T _ (set-keeps l i x k (T-true (getD l x false) u)))))
 
 -- label a is one of the two labels of link j, or of neither
 own-label : (j a : ℕ) → eqb j (a / 2) ≡ eqb (2 * j) a || eqb (2 * j + 1) a

@@ -1,4 +1,3 @@
-pub mod Unvisited
 pub mod Entering
 pub mod Goes
 pub mod Whole

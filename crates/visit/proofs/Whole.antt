@@ -32,7 +32,7 @@ use Rattle.arcs.specs.Chains.{Chained, TailsIn}
 use Rattle.arcs.specs.declared.Visited.{Visited}
 use Rattle.arcs.specs.Shows.{Shows, Visits}
 use Rattle.visit.specs.Inner.{Tried, unvisited, beginOf, At, Tries, Went}
-use Rattle.visit.proofs.Unvisited.{unvisited-set}
+use Rattle.visit.proofs.Entering.{unvisited-set}
 
 -- ---- the beginning
 

@@ -1,6 +1,6 @@
 -- The trail into a buffer. The invariant: what is left to store makes what the whole trail makes. The measure is the legs left. Assumes nothing.
 use mathlib.Core.Path.{_≡_, refl}
-use Prim.Native.Nat.{_-_, _<_}
+use Prim.Native.Nat.{_-_}
 use native.Mathlib.Omega.{arith}
 use borrow.Author.Needs.{needs}
 use lib.Dec.{T}
@@ -53,16 +53,6 @@ slice-write-buf c =
     let l = next in-loop w in
     omega (arith, stored-list (in-loop .before .loop .inv .1 w .1) (l .goes) (c .before .before .lay-way .ensures (way-of (w .parts) (l .joined))), w .legs-are .hops, s .pre .1)
 
--- the place after the way is one of the lent buffer
-place-low : (c : lts.After-slice-known2 (lay-way-reads.Asked, lay-way-reads.Learnt) reads.Pre reads.Post Inv-loop μ-loop)
-    → c .before .before .lay-way .result < length (c .before .before .before .before .before .before .before .before .before .args .buf .now)
-place-low c =
-    let in-loop = c .before .before .before .before .before .before in
-    let s = in-loop .before .before .before in
-    let w = s .pre .0 in
-    let l = next in-loop w in
-    omega (arith, stored-list (in-loop .before .loop .inv .1 w .1) (l .goes) (c .before .before .lay-way .ensures (way-of (w .parts) (l .joined))), w .legs-are .hops, s .pre .1)
-
 loop-again : tie.Need-loop-again Inv-loop μ-loop
 loop-again c =
     let in-loop = c .before .before .before .before .before .before .before in
@@ -97,8 +87,8 @@ returns c w =
 pub lay-spec : {M : Type 1} → statement M
 lay-spec =
     tie.close (tie.spec Inv-loop μ-loop (λ c. search needs) loop-holds (λ c. omega (arith, next c (c .before .before .before .pre .0))) (λ c. omega (arith, next c (c .before .before .before .pre .0))) (λ c. let in-loop = c .before in omega (arith, next in-loop (in-loop .before .before .before .pre .0)))
-    (λ c. let in-loop = c .before in omega (arith, next in-loop (in-loop .before .before .before .pre .0))) lay-way-requires (λ c. omega (arith, place-low c, c .before .before .before .before .before .before .before .before .before .good .1 .1 .1 .1 .1 .1 .1 .0))
-    slice-write-buf (λ c. omega (arith, place-low c, c .before .before .before .before .before .before .before .before .before .good .1 .1 .1 .1 .1 .1 .1 .0))
+    (λ c. let in-loop = c .before in omega (arith, next in-loop (in-loop .before .before .before .pre .0))) lay-way-requires (λ c. let in-loop = c .before .before .before .before .before .before in omega (arith, slice-write-buf c, in-loop .before .loop .inv .1 (in-loop .before .before .before .pre .0) .1))
+    slice-write-buf (λ c. let in-loop = c .before .before .before .before .before .before in omega (arith, slice-write-buf c, in-loop .before .loop .inv .1 (in-loop .before .before .before .pre .0) .1))
     (λ c. let in-loop = c .before .before .before .before .before .before in omega (arith, next in-loop (in-loop .before .before .before .pre .0))) (λ c. let in-loop = c .before .before .before .before .before .before .before in omega (arith, next in-loop (in-loop .before .before .before .pre .0)))
     (λ c. search needs) loop-again lay-way-requires-2
     (λ c. let end = c .before .before .before .before in let w = end .before .before .before .pre .0 in let b = home end w in

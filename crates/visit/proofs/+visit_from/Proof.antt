@@ -11,8 +11,7 @@ use Rattle.lists.specs.Arrays.{at}
 use Rattle.limits.specs.Limits.{maxSwitches, maxLinks}
 use Rattle.arcs.specs.Chains.{following}
 use Rattle.visit.specs.Inner.{Tried, unvisited}
-use Rattle.visit.proofs.Unvisited.{unvisited-kept}
-use Rattle.visit.proofs.Entering.{enter-numbers, enter-falls, enter-at}
+use Rattle.visit.proofs.Entering.{unvisited-kept, enter-numbers, enter-falls, enter-at}
 use Rattle.visit.proofs.Goes.{Goes, goes-begin, goes-end, goes-next, goes-rises, flagged, turn-old, turn-new}
 use Rattle.visit.proofs.visit_from.Reads as visit-from
 use Rattle.visit.proofs.visit_from.Kinds as visit-from-kinds
