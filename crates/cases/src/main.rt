@@ -27,7 +27,6 @@
 // A plant is its switches, links (two bytes) and start, a two-byte number of link places, and first end, second end and tag (two bytes) of each; the other link
 // places are zero. A refusal is the word `refused` and its number. The line of a call that is lent a buffer ends with the buffer's checksum after the call.
 // A list prints as its count, a colon and its checksum.
-mod listings;
 mod packets;
 mod searches;
 
@@ -46,13 +45,13 @@ fn answer(s: &[u8], at: usize) -> usize {
     let call = input::byte(s, at);
     let from = input::past(s, at, 1);
     if call < 7 {
-        return listings::answer(call, s, from);
+        return caseplans::answer(call, s, from);
     }
     if call < 13 {
         return packets::answer(call, s, from);
     }
     if call == 18 || call == 19 {
-        return listings::answer(call, s, from);
+        return caseplans::answer(call, s, from);
     }
     searches::answer(call, s, from)
 }

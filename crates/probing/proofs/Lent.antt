@@ -1,11 +1,9 @@
 -- A lent trail that is the plant's, and what the code asks for it. Assumes a sound plant.
 use mathlib.Core.Path.{_≡_, sym, _∙_, subst}
-use mathlib.Core.Bool.{Bool, true, false, not}
+use mathlib.Core.Bool.{Bool}
 use mathlib.Core.List.{List}
 use Prim.Native.Nat.{ℕ, _*_, _≤_}
-use lib.Dec.{eqb}
 use lib.ListN.{length}
-use borrow.Author.Tests.{ltb-false, not-false}
 use Rattle.lists.proofs.Tests.{true-T}
 use Rattle.plant.specs.declared.Plant.{Plant}
 use Rattle.limits.specs.Limits.{maxLinks}
@@ -14,35 +12,14 @@ use Rattle.plan.specs.Plan.{used, trailOf}
 use Rattle.plan.proofs.Plan.{used-arc}
 use Rattle.plan.proofs.Trails.{trail-is}
 use Rattle.graph.specs.Flags.{Flags}
-use Rattle.trail.specs.declared.Compared.the-variants.{Same, Other}
-use Rattle.trail.specs.Filled.{Tells}
-use Rattle.trail.proofs.Filled.{same-is}
 use Rattle.order.specs.Labels.{OverArcs}
 use Rattle.packet.specs.Asked.{CanRun, CanProbe}
 use Rattle.answers.specs.declared.Verdict.{Verdict}
 use Rattle.answers.specs.declared.Verdict.the-variants as verdict
 use Rattle.answers.specs.Checks.{Judges}
 use Rattle.answers.proofs.Checks.{none-judged}
-use Rattle.probing.specs.Conditions.{trailDiffers, statesShort, lentChecks}
-
--- no refusal 13: there is a byte for each link
-pub states-enough : (e : ℕ) (states : List ℕ) → statesShort e states ≡ false → e ≤ length states
-unfolding statesShort
-states-enough e states f = ltb-false (length states) e f
-
--- refusal 12: the lent trail begins with other hops than the plant's, or has another length
-pub hops-differ : (p : Plant) (w : List ℕ) → Tells w (trailOf p) Other → true ≡ trailDiffers p w
-unfolding trailDiffers
-hops-differ p w e = rw e
-
-pub length-differs : (p : Plant) (w : List ℕ) (hops : ℕ) (r : Bool) → Tells w (trailOf p) (Same hops) → r ≡ not (eqb (length w) hops) → r ≡ trailDiffers p w
-unfolding trailDiffers
-length-differs p w hops r e f = f ∙ rw (e .0, e .1)
-
--- no refusal 12: the lent trail is the plant's
-pub trail-same : (p : Plant) (w : List ℕ) → trailDiffers p w ≡ false → w ≡ trailOf p
-unfolding trailDiffers
-trail-same p w f = same-is w (trailOf p) .0 (not-false _ f)
+use Rattle.judging.specs.Conditions.{lentChecks}
+use Rattle.judging.proofs.Lent.{states-enough, trail-same}
 
 module _ (p : Plant) (ok : Sound p) where
   pub lent-arcs : (w : List ℕ) → w ≡ trailOf p → OverArcs p w

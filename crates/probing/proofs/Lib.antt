@@ -1,6 +1,5 @@
 pub mod Lent
 pub mod Injection
-pub mod Searching
 pub mod Results
 pub mod StateBytes
 pub mod OutwardLabels

@@ -28,10 +28,10 @@ use Rattle.search.specs.declared.Said.the-variants.{Open, AllUp, Down}
 use Rattle.search.specs.Search.{says}
 use Rattle.search.specs.Sound.{SaysIn}
 use Rattle.search.proofs.Sound.{says-in}
-use Rattle.probing.specs.Conditions.{trailDiffers, searchUnsound}
+use Rattle.judging.specs.Conditions.{trailDiffers, searchUnsound}
 use Rattle.probing.specs.Calls.{orderIn, Name, link, none, unknown, namedIn, nameIn}
 use Rattle.probing.proofs.Injection.{order-links, order-length}
-use Rattle.probing.proofs.Searching.{good-here}
+use Rattle.judging.proofs.Searching.{good-here}
 
 -- each link of the plant once, and no other
 pub record EachOnce (p : Plant) (o : Order) : Type 0 where

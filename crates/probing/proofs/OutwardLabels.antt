@@ -21,11 +21,11 @@ use Rattle.order.specs.declared.Span.{Span}
 use Rattle.order.specs.Span.{ringSpan, spanOf, stretchOf, frontOf}
 use Rattle.order.proofs.Spans.{ring-parts, span-outward}
 use Rattle.search.specs.declared.Search.{Search}
-use Rattle.probing.specs.Conditions.{trailDiffers, lentChecks, wantedChecks}
+use Rattle.judging.specs.Conditions.{trailDiffers, lentChecks, wantedChecks}
 use Rattle.probing.specs.Calls.{outcomeOf, checkIn, probeOutcome, outLabels, outSpan, outwardIn, outgoing, OutwardParts}
 use Rattle.planning.specs.Planning.{planningAt}
 use Rattle.search.specs.Search.{wanted}
-use Rattle.probing.proofs.Lent.{trail-same}
+use Rattle.judging.proofs.Lent.{trail-same}
 
 module _ (p : Plant) (x m : ℕ) where
   -- what stands at the two parts of the trail, one after the other

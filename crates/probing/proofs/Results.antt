@@ -29,12 +29,12 @@ use Rattle.packet.proofs.Probes.{from-switch}
 use Rattle.search.specs.declared.Said.{Said}
 use Rattle.search.specs.declared.Said.the-variants.{Down}
 use Rattle.search.specs.declared.Outcome.{Outcome}
-use Rattle.probing.specs.Conditions.{trailDiffers}
+use Rattle.judging.specs.Conditions.{trailDiffers}
 use Rattle.probing.specs.Calls.{outcomeOf, orderIn, outSpan, link, namedIn}
 use Rattle.probing.specs.Answers.{Orders}
 use Rattle.answers.proofs.Checks.{fails}
 use Rattle.answers.proofs.Beside.{beside-given}
-use Rattle.probing.proofs.Lent.{trail-same}
+use Rattle.judging.proofs.Lent.{trail-same}
 
 -- ---- a packet that is no probe
 

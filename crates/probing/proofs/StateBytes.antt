@@ -24,7 +24,7 @@ use Rattle.rings.proofs.Rules.{rule-arc, bytes-past}
 use Rattle.rings.specs.Injection.{ringOf}
 use Rattle.rings.proofs.Injection as injection
 use Rattle.search.specs.declared.Search.{Search}
-use Rattle.probing.specs.Conditions.{trailDiffers, statesShort, wantedChecks}
+use Rattle.judging.specs.Conditions.{trailDiffers, statesShort, wantedChecks}
 use Rattle.probing.specs.Calls.{runIn, running, outcomeOf, checkIn, checking, probeIn, probing}
 use Rattle.planning.specs.Planning.{planningAt}
 use Rattle.search.specs.Search.{wanted}

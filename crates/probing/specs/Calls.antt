@@ -30,7 +30,7 @@ use Rattle.search.specs.declared.Progress.{Progress}
 use Rattle.search.specs.Search.{newSearch, says, wanted}
 use Rattle.search.specs.Calls.{Call, perform, begun}
 use Rattle.planning.specs.Planning.{planningAt}
-use Rattle.probing.specs.Conditions.{trailDiffers, statesShort, searchUnsound, lentChecks, wantedChecks}
+use Rattle.judging.specs.Conditions.{trailDiffers, statesShort, searchUnsound, lentChecks, wantedChecks}
 
 -- ---- a packet that is no probe: 1 to 9, 11, 13
 

@@ -33,7 +33,7 @@ use Rattle.search.specs.declared.Outcome.{Outcome}
 use Rattle.search.specs.declared.Outcome.the-variants.{Returned, Lost}
 use Rattle.planning.specs.Planning.{notConnected, planning, planningAt, switchOutOfRange}
 use Rattle.answers.specs.Checks.{answer}
-use Rattle.probing.specs.Conditions.{trailDiffers, statesShort, searchUnsound}
+use Rattle.judging.specs.Conditions.{trailDiffers, statesShort, searchUnsound}
 use Rattle.probing.specs.Calls.{runIn, checkIn, orderIn, outSpan, outwardIn, probeIn, Name, link, none, unknown, nameIn}
 
 pub record Row : Type 0 where

@@ -1,4 +1,3 @@
-pub mod Conditions
 pub mod Calls
 pub mod Answers
 pub mod Cases

@@ -13,14 +13,10 @@ use search::Progress;
 use search::Said;
 use search::Search;
 use search::Told;
-use trail::Compared;
 ghost use mathlib.Core.Path.{_≡_};
-ghost use mathlib.Core.Bool.{not};
 ghost use Prim.Native.Nat.{_≤_};
-ghost use lib.Dec.{eqb};
-ghost use lib.ListN.{length};
 ghost use Rattle.answers.specs.Answers.{given, refused, numberOf};
-ghost use Rattle.answers.specs.Checks.{Judges, answer};
+ghost use Rattle.answers.specs.Checks.{answer};
 ghost use Rattle.limits.specs.Sound.{Sound};
 ghost use Rattle.lists.specs.Arrays.{flag};
 ghost use Rattle.walks.specs.Graph.{liveLinks};
@@ -33,7 +29,6 @@ ghost use Rattle.packet.specs.Runs.{endOf};
 ghost use Rattle.search.specs.Search.{ask, give, askedOf, toldOf};
 ghost use Rattle.search.specs.Calls.{callsIn};
 ghost use Rattle.search.specs.Sound.{SaysIn};
-ghost use Rattle.probing.specs.Conditions.{trailDiffers, statesShort, searchUnsound, lentChecks, probeWanted};
 ghost use Rattle.probing.specs.Calls.{runIn, running, outcomeOf, checkIn, checking, orderIn, ordering, outSpan, outwardIn, outgoing, OutwardParts, probeOver, probeIn, probing, namedIn, nameIn, naming, beginning, performing};
 ghost use Rattle.probing.specs.Answers.{ranAnswer, probedAnswer, Orders, outwardAnswer, namedAnswer, begunAnswer, performedAnswer};
 
@@ -82,75 +77,6 @@ pub enum Performed {
     Refused(Refusal),
 }
 
-// ---- the refusals
-
-// Has the lent trail another length than these hops?
-fn other_length(trail: &[u16], hops: usize) -> bool
-    ensures { λ r. ⌜ r ≡ not (eqb (length (now (trail .entry))) hops) ⌝ }
-{
-    trail.len() != hops
-}
-
-// Refusal 12: does the lent trail begin with other hops than the plant's, or has it another length?
-fn differs(x: Parts, t: &[[u8; Plant::PLACES]; Plant::PLACES], trail: &[u16]) -> bool
-    requires { ⌜ Plan x (now t) ⌝ }
-    ensures { λ r. ⌜ r ≡ trailDiffers (x .plant) (now (trail .entry)) ⌝ }
-{
-    match planning::compare(x, t, trail) {
-        Compared::Same(hops) => other_length(trail, hops),
-        Compared::Other => true,
-    }
-}
-
-// Refusal 13: are there fewer state bytes than links?
-fn too_few(states: &[u8], links: u16) -> bool
-    ensures { λ r. ⌜ r ≡ statesShort links (now (states .entry)) ⌝ }
-{
-    states.len() < links as usize
-}
-
-// Refusals 12 and 13 of a lent trail and state bytes.
-fn judge_lent(
-    x: Parts,
-    t: &[[u8; Plant::PLACES]; Plant::PLACES],
-    trail: &[u16],
-    states: &[u8],
-) -> Verdict
-    requires { ⌜ Plan x (now t) ⌝ }
-    ensures { λ r. ⌜ Judges (lentChecks (x .plant) (now (trail .entry)) (now (states .entry))) r ⌝ }
-{
-    let other = differs(x, t, trail);
-    let short = too_few(states, x.plant.count);
-    if other {
-        return Verdict::Refused(Refusal::TrailDiffers);
-    }
-    if short {
-        return Verdict::Refused(Refusal::StatesShort);
-    }
-    Verdict::Accepted
-}
-
-// Refusal 14, in a call with a listing: a search is over the links that take part.
-fn unsound(p: Plant, search: Search) -> bool
-    ensures { λ r. ⌜ r ≡ searchUnsound (liveLinks p) search ⌝ }
-{
-    if !search.sound() {
-        return true;
-    }
-    let links = arcs::links_in_service(p);
-    !search.sound_for(links)
-}
-
-// The probe that a search wants over the links of a plant: refusals 14 and 15.
-fn probe_wanted(p: Plant, search: Search) -> Asked
-    ensures { λ r. ⌜ askedOf r ≡ answer (probeWanted (liveLinks p) search) ⌝ }
-{
-    if unsound(p, search) {
-        return Asked::Refused(Refusal::SearchUnsound);
-    }
-    search.ask()
-}
-
 // ---- a packet that is no probe
 
 // A packet runs under the forwarding table of a plan alone: refusal 13.
@@ -158,7 +84,7 @@ fn run_in(x: Parts, switch: u8, labels: &[u16], states: &[u8]) -> Ran
     requires { ⌜ FromStart x ⌝ }
     ensures { λ r. ⌜ ranAnswer r ≡ answer (runIn switch (now (labels .entry)) (now (states .entry)) (x .plant)) ⌝ }
 {
-    if too_few(states, x.plant.count) {
+    if judging::too_few(states, x.plant.count) {
         return Ran::Refused(Refusal::StatesShort);
     }
     let used = x.used;
@@ -203,7 +129,7 @@ fn check_in(
     ensures { λ r. ⌜ probedAnswer r ≡ answer (checkIn switch (now (trail .entry)) (now (states .entry)) (x .plant)) ⌝ }
 {
     let used = x.used;
-    match judge_lent(x, t, trail, states) {
+    match judging::judge_lent(x, t, trail, states) {
         Verdict::Accepted => {
             let e = packet::full_check(x.plant, used, states, switch, trail);
             Probed::Outcome(outcome_of(e))
@@ -248,7 +174,7 @@ fn order_in(
     requires { ⌜ Plan x (now t) ⌝ }
     ensures { λ r. ⌜ Orders (answer (orderIn switch (now (trail .entry)) (x .plant))) r ⌝ }
 {
-    if differs(x, t, trail) {
+    if judging::differs(x, t, trail) {
         return refused_order(Refusal::TrailDiffers);
     }
     let order = order::order_of(x.plant, switch, trail);
@@ -299,10 +225,10 @@ fn outward_in(
     requires { ⌜ Plan x (now t) ⌝ }
     ensures { λ r. ⌜ outwardAnswer r ≡ answer (outwardIn switch (now (trail .entry)) search (x .plant)) ⌝ }
 {
-    if differs(x, t, trail) {
+    if judging::differs(x, t, trail) {
         return Outward::Refused(Refusal::TrailDiffers);
     }
-    match probe_wanted(x.plant, search) {
+    match judging::probe_wanted(x.plant, search) {
         Asked::Probe(m) => Outward::Parts(span_in(x.plant, switch, trail, m)),
         Asked::Refused(k) => Outward::Refused(k),
     }
@@ -352,7 +278,7 @@ fn probe_over(
     requires { ⌜ now trail ≡ trailOf p ⌝ }
     ensures { λ r. ⌜ probedAnswer r ≡ answer (probeOver p switch (now (states .entry)) search) ⌝ }
 {
-    match probe_wanted(p, search) {
+    match judging::probe_wanted(p, search) {
         Asked::Probe(m) => {
             let links = arcs::links_in_service(p);
             let e = packet::probe_run(p, table, states, switch, trail, links, m);
@@ -375,7 +301,7 @@ fn probe_in(
     ensures { λ r. ⌜ probedAnswer r ≡ answer (probeIn switch (now (trail .entry)) (now (states .entry)) search (x .plant)) ⌝ }
 {
     let used = x.used;
-    match judge_lent(x, t, trail, states) {
+    match judging::judge_lent(x, t, trail, states) {
         Verdict::Accepted => probe_over(x.plant, used, switch, trail, states, search),
         Verdict::Refused(k) => Probed::Refused(k),
     }
@@ -425,10 +351,10 @@ fn name_in(
     requires { ⌜ Plan x (now t) ⌝ }
     ensures { λ r. ⌜ namedAnswer r ≡ answer (nameIn switch (now (trail .entry)) search (x .plant)) ⌝ }
 {
-    if differs(x, t, trail) {
+    if judging::differs(x, t, trail) {
         return Named::Refused(Refusal::TrailDiffers);
     }
-    if unsound(x.plant, search) {
+    if judging::unsound(x.plant, search) {
         return Named::Refused(Refusal::SearchUnsound);
     }
     name_of(x.plant, switch, trail, search.says())

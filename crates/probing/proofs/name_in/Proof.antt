@@ -4,8 +4,8 @@ use Rattle.walks.specs.Graph.{liveLinks}
 use Rattle.search.proofs.Sound.{says-in}
 use Rattle.probing.specs.Calls.{nameIn}
 use Rattle.answers.proofs.Checks.{holds, fails}
-use Rattle.probing.proofs.Lent.{trail-same}
-use Rattle.probing.proofs.Searching.{good-here}
+use Rattle.judging.proofs.Lent.{trail-same}
+use Rattle.judging.proofs.Searching.{good-here}
 use borrow.Author.Needs.{needs}
 use Rattle.probing.proofs.name_in.Statement.{statement}
 use Rattle.probing.proofs.name_in.Tie as tie

@@ -2,7 +2,8 @@
 use mathlib.Core.Path.{sym, _∙_}
 use Rattle.probing.specs.Calls.{orderIn}
 use Rattle.answers.proofs.Checks.{holds}
-use Rattle.probing.proofs.Lent.{trail-same, lent-arcs}
+use Rattle.judging.proofs.Lent.{trail-same}
+use Rattle.probing.proofs.Lent.{lent-arcs}
 use Rattle.answers.proofs.Beside.{beside-as}
 use Rattle.probing.proofs.Results.{ordered}
 use borrow.Author.Needs.{needs}

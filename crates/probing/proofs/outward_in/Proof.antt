@@ -2,8 +2,8 @@
 use mathlib.Core.Path.{sym, _∙_}
 use Rattle.probing.specs.Calls.{outSpan, outwardIn}
 use Rattle.answers.proofs.Checks.{holds, fails}
-use Rattle.probing.proofs.Lent.{trail-same}
-use Rattle.probing.proofs.Searching.{probe-given, probe-among, probe-refused}
+use Rattle.judging.proofs.Lent.{trail-same}
+use Rattle.judging.proofs.Searching.{probe-given, probe-among, probe-refused}
 use borrow.Author.Needs.{needs}
 use Rattle.probing.proofs.outward_in.Statement.{statement}
 use Rattle.probing.proofs.outward_in.Tie as tie

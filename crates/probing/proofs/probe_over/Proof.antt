@@ -3,7 +3,7 @@ use native.Mathlib.Omega.{arith}
 use Rattle.packet.specs.Runs.{endOf}
 use Rattle.planning.proofs.Counted.{links-few}
 use Rattle.probing.specs.Calls.{probeOutcome}
-use Rattle.probing.proofs.Searching.{probe-given, probe-among, probe-refused}
+use Rattle.judging.proofs.Searching.{probe-given, probe-among, probe-refused}
 use Rattle.probing.proofs.Results.{probed}
 use borrow.Author.Needs.{needs}
 use Rattle.probing.proofs.probe_over.Statement.{statement}

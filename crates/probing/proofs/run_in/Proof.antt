@@ -5,7 +5,8 @@ use Rattle.packet.proofs.Probes.{injected-hops}
 use Rattle.probing.specs.Calls.{runIn}
 use Rattle.answers.proofs.Checks.{holds, fails}
 use Rattle.planning.proofs.Counted.{flags-same}
-use Rattle.probing.proofs.Lent.{states-enough, can-run}
+use Rattle.judging.proofs.Lent.{states-enough}
+use Rattle.probing.proofs.Lent.{can-run}
 use Rattle.probing.proofs.Results.{ran-as}
 use borrow.Author.Needs.{needs}
 use Rattle.probing.proofs.run_in.Statement.{statement}

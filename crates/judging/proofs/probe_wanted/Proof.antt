@@ -1,9 +1,9 @@
 -- The probe wanted: 14 with the listing, then what the call for a probe answers. Assumes nothing.
 use mathlib.Core.Path.{sym, _∙_}
-use Rattle.probing.proofs.Searching.{wanted-unsound, wanted-sound}
+use Rattle.judging.proofs.Searching.{wanted-unsound, wanted-sound}
 use borrow.Author.Needs.{needs}
-use Rattle.probing.proofs.probe_wanted.Statement.{statement}
-use Rattle.probing.proofs.probe_wanted.Tie as tie
+use Rattle.judging.proofs.probe_wanted.Statement.{statement}
+use Rattle.judging.proofs.probe_wanted.Tie as tie
 
 returns : tie.Need-returns
 returns c = wanted-unsound _ _ (sym (c .before .unsound .ensures) ∙ c .if1 .taken)

@@ -2,9 +2,9 @@
 use mathlib.Core.Path.{subst}
 use Rattle.trail.specs.Filled.{Tells}
 use borrow.Author.Needs.{needs}
-use Rattle.probing.proofs.Lent.{length-differs, hops-differ}
-use Rattle.probing.proofs.differs.Statement.{statement}
-use Rattle.probing.proofs.differs.Tie as tie
+use Rattle.judging.proofs.Lent.{length-differs, hops-differ}
+use Rattle.judging.proofs.differs.Statement.{statement}
+use Rattle.judging.proofs.differs.Tie as tie
 
 returns : tie.Need-returns
 returns c =

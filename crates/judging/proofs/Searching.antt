@@ -14,7 +14,7 @@ use Rattle.search.specs.declared.Asked.the-variants as asked
 use Rattle.search.specs.Search.{sound, soundFor, wanted, ask, askedOf}
 use Rattle.search.specs.Sound.{Good}
 use Rattle.search.proofs.Sound.{sound-good, wanted-in}
-use Rattle.probing.specs.Conditions.{searchUnsound, wantedChecks, probeWanted}
+use Rattle.judging.specs.Conditions.{searchUnsound, wantedChecks, probeWanted}
 
 module _ (e : ℕ) (q : Search) where
   -- ---- refusal 14

@@ -1,8 +1,8 @@
 -- Refusals 12 and 13, in this order. Assumes nothing.
 use mathlib.Core.Path.{sym, _∙_}
 use borrow.Author.Needs.{needs}
-use Rattle.probing.proofs.judge_lent.Statement.{statement}
-use Rattle.probing.proofs.judge_lent.Tie as tie
+use Rattle.judging.proofs.judge_lent.Statement.{statement}
+use Rattle.judging.proofs.judge_lent.Tie as tie
 
 returns : tie.Need-returns
 returns c = record { first = simp (sym (c .before .before .differs .ensures) ∙ c .if1 .taken) }

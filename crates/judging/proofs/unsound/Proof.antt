@@ -4,10 +4,10 @@ use mathlib.Core.Bool.{not}
 use Prim.Native.Nat.{ℕ}
 use borrow.Author.Tests.{not-true, not-false}
 use Rattle.search.specs.Search.{soundFor}
-use Rattle.probing.proofs.Searching.{unsound-itself, unsound-here}
+use Rattle.judging.proofs.Searching.{unsound-itself, unsound-here}
 use borrow.Author.Needs.{needs}
-use Rattle.probing.proofs.unsound.Statement.{statement}
-use Rattle.probing.proofs.unsound.Tie as tie
+use Rattle.judging.proofs.unsound.Statement.{statement}
+use Rattle.judging.proofs.unsound.Tie as tie
 
 returns : tie.Need-returns
 returns c = unsound-itself _ _ (sym (c .before .sound .ensures) ∙ not-true _ (c .if1 .taken))

@@ -1,4 +1,4 @@
-// Calls 1 to 6, 18 and 19: reading and writing a listing, and its plan.
+// Calls 1 to 6, 18 and 19 of the program `cases`: reading and writing a listing, and its plan. Its main file has the table of cases.
 use answers::Verdict;
 use caseform::checksum;
 use caseform::input;

@@ -1,0 +1,84 @@
+// The conditions of refusals 12 to 15 in a call that is given a listing: of a lent trail, of state bytes and of a search. Inner: the calls are the crates `planner` and `probing`.
+use answers::Refusal;
+use answers::Verdict;
+use planning::Parts;
+use plant::Plant;
+use search::Asked;
+use search::Search;
+use trail::Compared;
+ghost use mathlib.Core.Path.{_≡_};
+ghost use mathlib.Core.Bool.{not};
+ghost use lib.Dec.{eqb};
+ghost use lib.ListN.{length};
+ghost use Rattle.answers.specs.Checks.{Judges, answer};
+ghost use Rattle.walks.specs.Graph.{liveLinks};
+ghost use Rattle.planning.specs.Plans.{Plan};
+ghost use Rattle.search.specs.Search.{askedOf};
+ghost use Rattle.judging.specs.Conditions.{trailDiffers, statesShort, searchUnsound, lentChecks, probeWanted};
+
+// Has the lent trail another length than these hops?
+fn other_length(trail: &[u16], hops: usize) -> bool
+    ensures { λ r. ⌜ r ≡ not (eqb (length (now (trail .entry))) hops) ⌝ }
+{
+    trail.len() != hops
+}
+
+// Refusal 12: does the lent trail begin with other hops than the plant's, or has it another length?
+pub fn differs(x: Parts, t: &[[u8; Plant::PLACES]; Plant::PLACES], trail: &[u16]) -> bool
+    requires { ⌜ Plan x (now t) ⌝ }
+    ensures { λ r. ⌜ r ≡ trailDiffers (x .plant) (now (trail .entry)) ⌝ }
+{
+    match planning::compare(x, t, trail) {
+        Compared::Same(hops) => other_length(trail, hops),
+        Compared::Other => true,
+    }
+}
+
+// Refusal 13: are there fewer state bytes than links?
+pub fn too_few(states: &[u8], links: u16) -> bool
+    ensures { λ r. ⌜ r ≡ statesShort links (now (states .entry)) ⌝ }
+{
+    states.len() < links as usize
+}
+
+// Refusals 12 and 13 of a lent trail and state bytes.
+pub fn judge_lent(
+    x: Parts,
+    t: &[[u8; Plant::PLACES]; Plant::PLACES],
+    trail: &[u16],
+    states: &[u8],
+) -> Verdict
+    requires { ⌜ Plan x (now t) ⌝ }
+    ensures { λ r. ⌜ Judges (lentChecks (x .plant) (now (trail .entry)) (now (states .entry))) r ⌝ }
+{
+    let other = differs(x, t, trail);
+    let short = too_few(states, x.plant.count);
+    if other {
+        return Verdict::Refused(Refusal::TrailDiffers);
+    }
+    if short {
+        return Verdict::Refused(Refusal::StatesShort);
+    }
+    Verdict::Accepted
+}
+
+// Refusal 14, in a call with a listing: a search is over the links that take part.
+pub fn unsound(p: Plant, search: Search) -> bool
+    ensures { λ r. ⌜ r ≡ searchUnsound (liveLinks p) search ⌝ }
+{
+    if !search.sound() {
+        return true;
+    }
+    let links = arcs::links_in_service(p);
+    !search.sound_for(links)
+}
+
+// The probe that a search wants over the links of a plant: refusals 14 and 15.
+pub fn probe_wanted(p: Plant, search: Search) -> Asked
+    ensures { λ r. ⌜ askedOf r ≡ answer (probeWanted (liveLinks p) search) ⌝ }
+{
+    if unsound(p, search) {
+        return Asked::Refused(Refusal::SearchUnsound);
+    }
+    search.ask()
+}
