@@ -4,3 +4,4 @@ pub mod Chain
 pub mod Following
 pub mod Entries
 pub mod Ways
+pub mod Ends

@@ -6,9 +6,11 @@ use native.Mathlib.Omega.{arith}
 use borrow.Author.Tests.{le-ltb}
 use Rattle.plant.specs.declared.Link.{Link}
 use Rattle.plant.specs.declared.Plant.{Plant}
-use Rattle.plant.specs.Links.{side, live}
+use Rattle.plant.specs.Links.{first, side, live}
 use Rattle.limits.specs.Sound.{Sound}
+use Rattle.lists.proofs.Tests.{and-comm}
 use Rattle.walks.specs.Arcs.{tail, head}
+use Rattle.walks.specs.Graph.{reachedFrom, bridge, bridgeFrom}
 
 side-same : (k x : ℕ) → side k x x ≡ x
 side-same zero x = refl
@@ -27,3 +29,8 @@ module _ (p : Plant) (a : ℕ) (past : 2 * p .count ≤ a) where
     pub head-past : head p a ≡ 0
     unfolding head
     head-past = ap (λ (k : Link). side (a % 2) (k .second) (k .first)) (sound .zeros (a / 2) (omega arith)) ∙ side-same (a % 2) 0
+
+-- a link past them is no bridge at a switch that is reached
+pub bridge-past : (p : Plant) (r l : ℕ) → p .count ≤ l → bridgeFrom p r l ≡ false
+unfolding bridge live
+bridge-past p r l h = and-comm (reachedFrom p r (first p l)) (bridge p l) ∙ rw (le-ltb l (p .count) h)

@@ -4,3 +4,4 @@ pub mod Table
 pub mod Parts
 pub mod Legs
 pub mod Shows
+pub mod Flags

@@ -1,5 +1,5 @@
 -- The links by which the switches were entered, the links on a cycle, and bridges, by what the code reads of them. Assumes a sound plant and its visit from a root.
-use mathlib.Core.Path.{_≡_, refl, sym, ap, _∙_, subst}
+use mathlib.Core.Path.{_≡_, refl, sym, ap, ap₂, _∙_, subst}
 use mathlib.Core.Logic.{_⊎_, inl, inr, ⊎-elim}
 use mathlib.Core.Bool.{Bool, true, false, not, _&&_}
 use mathlib.Core.List.{List}
@@ -32,7 +32,9 @@ use Rattle.arcs.specs.Net.{Ends}
 use Rattle.arcs.specs.declared.Visited.{Visited}
 use Rattle.arcs.specs.Shows.{Shows, Visits}
 use Rattle.graph.specs.Inner.{acrossOf, EntryLinks, closes, Covered}
-use Rattle.graph.proofs.Ends.{across-is}
+
+across-is : {p : Plant} {tails heads : List ℕ} → Ends p tails heads → (l x : ℕ) → acrossOf (at tails) (at heads) l x ≡ acrossOf (tail p) (head p) l x
+across-is e l x = ap₂ (λ (f g : ℕ → ℕ). acrossOf f g l x) (e .tails-are) (e .heads-are)
 
 -- a flag that is not set after one more is set was not set before
 unmarked : (flags : List Bool) (l m : ℕ) → l < length flags → getD (set flags l true) m false ≡ false → getD flags m false ≡ false

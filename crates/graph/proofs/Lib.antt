@@ -1,3 +1,1 @@
-pub mod Ends
 pub mod Cycles
-pub mod Uses

@@ -1,9 +1,9 @@
 -- Inner: what the loops and the inner functions of this crate keep. No promise of a call needs it.
 use mathlib.Core.Path.{_≡_}
-use mathlib.Core.Bool.{Bool, true, false, not, _&&_, _||_}
+use mathlib.Core.Bool.{Bool, true, false, not, _&&_}
 use mathlib.Core.List.{List}
 use Prim.Native.Nat.{ℕ, _*_, _/_, _<_}
-use lib.Dec.{eqb, ltb}
+use lib.Dec.{eqb}
 use lib.ListN.{length, getD}
 use Rattle.lists.specs.Tests.{choose}
 use Rattle.lists.specs.Members.{In}
@@ -35,9 +35,3 @@ module _ (p : Plant) (r : ℕ) where
     pub places : length flags ≡ maxLinks
     pub sure : (l : ℕ) → getD flags l false ≡ true → bridge p l ≡ false
     pub all : (a : ℕ) → In a (visitedFrom p r .ent) → getD flags (a / 2) false ≡ false → (k : ℕ) → k < n → closes k ≡ true → Level p r a (first p k) (second p k)
-
--- ---- arcs in use
-
--- is an arc in use whose link is a bridge or not, and entered or not, and whose tail and head have these numbers in the visit?
-unfoldable pub inUse : Bool → Bool → ℕ → ℕ → Bool
-inUse bridge entered tail head = bridge || choose entered (ltb tail head) (ltb head tail)

@@ -12,7 +12,7 @@ use Rattle.answers.specs.Checks.{answer}
 use Rattle.answers.proofs.Checks.{goes-on, stops, result-given}
 use Rattle.limits.specs.Limits.{maxLinks}
 use Rattle.walks.specs.Graph.{bridge}
-use Rattle.graph.specs.Flags.{Flags}
+use Rattle.arcs.specs.Flags.{Flags}
 use Rattle.plan.specs.Plan.{trailOf}
 use Rattle.planning.specs.Planning.{planning}
 use Rattle.planner.specs.Calls.{bridgeFlags, placesShort, laying, trailing, trailLeft, laidOut}

@@ -16,8 +16,8 @@ use Rattle.walks.specs.Arcs.{Valid}
 use Rattle.walks.specs.Graph.{usedFrom, arcsUsedFrom, bridge, liveLinks, bridges}
 use Rattle.walks.proofs.Counting.{bridge-all, bridges-all}
 use Rattle.walks.proofs.Valid.{sound-valid}
-use Rattle.graph.specs.Flags.{Flags, countSet}
-use Rattle.graph.proofs.Uses.{bridges-counted, arcs-counted}
+use Rattle.arcs.specs.Flags.{Flags, countSet}
+use Rattle.uses.proofs.Uses.{bridges-counted, arcs-counted}
 use Rattle.arcs.specs.Table.{trailIn}
 use Rattle.trail.specs.Ways.{Trailing}
 use Rattle.plan.specs.Plan.{arcsUsed, trailOf, tableOf}

@@ -26,7 +26,7 @@ use Rattle.arcs.specs.Net.{Ends, Within}
 use Rattle.arcs.specs.Chains.{TailsIn, Chained}
 use Rattle.arcs.specs.Table.{distancesIn, trailIn}
 use Rattle.arcs.specs.Parts as network
-use Rattle.graph.specs.Flags.{Flags}
+use Rattle.arcs.specs.Flags.{Flags}
 use Rattle.planning.specs.Plans.{netOf}
 
 module _ (p : Plant) (sound : Sound p) (r : ℕ) (r-in : r < p .switches) where

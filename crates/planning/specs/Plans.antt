@@ -10,7 +10,7 @@ use Rattle.plan.specs.Plan.{Connected}
 use Rattle.arcs.specs.declared.Net.{Net}
 use Rattle.arcs.specs.Net.{Ends}
 use Rattle.arcs.specs.Parts as network
-use Rattle.graph.specs.Flags.{Flags}
+use Rattle.arcs.specs.Flags.{Flags}
 use Rattle.arcs.specs.Legs.{LegsOf}
 use Rattle.planning.specs.declared.Parts.{Parts}
 

@@ -108,7 +108,7 @@ fn parts_of(
     ensures { λ r. ⌜ WithTable r (now (t .exit)) ⌝ }
 {
     let bridges = graph::bridges(p, &tails, &heads, v);
-    let used = graph::arcs_in_use(p, &tails, &heads, v, &bridges);
+    let used = uses::arcs_in_use(p, &tails, &heads, v, &bridges);
     let net = net_of(p, v.root);
     let c = arcs::chains_of(&tails, &used, net.labels);
     let first = c.first;
@@ -227,8 +227,8 @@ pub fn numbers_of(x: Parts) -> Numbers
     requires { ⌜ FromStart x ⌝ }
     ensures { λ r. ⌜ r ≡ numbersOf (x .plant) ⌝ }
 {
-    let bridges = graph::count_set(&x.bridges);
-    let rules = graph::count_set(&x.used);
+    let bridges = uses::count_set(&x.bridges);
+    let rules = uses::count_set(&x.used);
     let links = arcs::links_in_service(x.plant);
     Numbers {
         switches: x.plant.switches,

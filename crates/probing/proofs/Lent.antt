@@ -11,7 +11,7 @@ use Rattle.limits.specs.Sound.{Sound}
 use Rattle.plan.specs.Plan.{used, trailOf}
 use Rattle.plan.proofs.Plan.{used-arc}
 use Rattle.plan.proofs.Trails.{trail-is}
-use Rattle.graph.specs.Flags.{Flags}
+use Rattle.arcs.specs.Flags.{Flags}
 use Rattle.order.specs.Labels.{OverArcs}
 use Rattle.packet.specs.Asked.{CanRun, CanProbe}
 use Rattle.answers.specs.declared.Verdict.{Verdict}

@@ -8,7 +8,7 @@ use native.Mathlib.Omega.{arith}
 use Rattle.lists.specs.Arrays.{flag}
 use Rattle.lists.proofs.Laid.{Laid, laid-none, laid-put, laid-all}
 use Rattle.limits.specs.Limits.{maxLinks}
-use Rattle.graph.proofs.Uses.{bridge-past}
+use Rattle.arcs.proofs.Past.{bridge-past}
 use Rattle.graph.proofs.Cycles.{bridge-flag}
 use Rattle.graph.proofs.bridges.Statement.{statement}
 use Rattle.graph.proofs.bridges.Tie as tie

@@ -8,7 +8,7 @@ use Rattle.lists.specs.Arrays.{at}
 use Rattle.plant.specs.declared.Plant.{Plant}
 use Rattle.limits.specs.Limits.{maxSwitches, maxLinks}
 use Rattle.graph.specs.Inner.{acrossOf}
-use Rattle.graph.proofs.Ends.{first-end, second-end}
+use Rattle.arcs.proofs.Ends.{first-end, second-end}
 use Rattle.graph.proofs.Cycles.{seen-place, Climbing, Given, climb-begin, climb-flip, Back, climb-back, climb-end}
 use Rattle.graph.proofs.climb.Statement.{statement}
 use Rattle.graph.proofs.climb.Tie as tie

@@ -4,7 +4,7 @@ use Prim.Native.Nat.{_*_}
 use native.Mathlib.Omega.{arith}
 use borrow.Author.Needs.{needs}
 use borrow.Author.Tests.{not-true, not-false}
-use Rattle.graph.proofs.Ends.{first-end, tail-place}
+use Rattle.arcs.proofs.Ends.{first-end, tail-place}
 use Rattle.graph.proofs.Cycles.{closes-dead, closes-entered, closes-seen}
 use Rattle.graph.proofs.closes_cycle.Statement.{statement}
 use Rattle.graph.proofs.closes_cycle.Tie as tie

@@ -5,7 +5,7 @@ use native.Mathlib.Omega.{arith}
 use Rattle.lists.specs.Arrays.{at}
 use Rattle.limits.specs.Limits.{maxSwitches}
 use Rattle.graph.specs.Inner.{EntryLinks}
-use Rattle.graph.proofs.Ends.{first-end, second-end, tail-place, head-place}
+use Rattle.arcs.proofs.Ends.{first-end, second-end, tail-place, head-place}
 use Rattle.graph.proofs.Cycles.{entry-none, entry-pass, entry-second, entry-first, entry-all}
 use Rattle.graph.proofs.entry_links.Statement.{statement}
 use Rattle.graph.proofs.entry_links.Tie as tie

@@ -1,7 +1,7 @@
--- `graph::in_use` meets its contract. Assumes nothing.
-use Rattle.graph.specs.Inner.{inUse}
-use Rattle.graph.proofs.in_use.Statement.{statement}
-use Rattle.graph.proofs.in_use.Tie as tie
+-- `uses::in_use` meets its contract. Assumes nothing.
+use Rattle.uses.specs.Inner.{inUse}
+use Rattle.uses.proofs.in_use.Statement.{statement}
+use Rattle.uses.proofs.in_use.Tie as tie
 
 returns : tie.Need-returns
 unfolding inUse

@@ -6,7 +6,6 @@ use Prim.Native.Nat.{ℕ, _+_, _-_, _*_, _/_, _≤_}
 use native.Mathlib.Omega.{arith}
 use lib.Dec.{T}
 use lib.ListN.{getD}
-use borrow.Author.Tests.{le-ltb}
 use Rattle.lists.specs.Count.{count}
 use Rattle.lists.proofs.Tests.{T-true, true-T, not-both, not-true-false, and-comm}
 use Rattle.lists.proofs.Members.{memb→in, in→memb}
@@ -21,11 +20,11 @@ use Rattle.walks.specs.Graph.{reachedFrom, visitedFrom, chosenFrom, usedFrom, b
 use Rattle.walks.proofs.Labels.{tail-even, tail-odd, head-even, head-odd, even-half, odd-half, even-arc, odd-arc}
 use Rattle.walks.proofs.Visited.{visited-keeps}
 use Rattle.walks.proofs.Valid.{sound-valid}
-use Rattle.arcs.proofs.Past.{dead-past}
+use Rattle.arcs.proofs.Past.{dead-past, bridge-past}
 use Rattle.arcs.specs.declared.Visited.{Visited}
-use Rattle.graph.specs.Flags.{Flags, countSet}
+use Rattle.arcs.specs.Flags.{Flags, countSet}
 use Rattle.arcs.specs.Shows.{Visits}
-use Rattle.graph.specs.Inner.{inUse}
+use Rattle.uses.specs.Inner.{inUse}
 
 -- where the test fails from k on, as many flags are set as numbers below k pass
 flags-count : (n : ℕ) (test : ℕ → Bool) (k : ℕ) (flags : List Bool) → Flags n test flags → k ≤ n → ((j : ℕ) → k ≤ j → test j ≡ false) → countSet flags ≡ count k test
@@ -35,11 +34,7 @@ flags-count n test k flags f h g =
     ap (λ (m : ℕ). count m (λ i. getD flags i false)) (f .places ∙ e) ∙ count-same (k + (n - k)) (λ i. getD flags i false) test (f .tells) ∙ count-past test k (n - k) g
 
 module _ (p : Plant) (r : ℕ) where
-  -- ---- what does not take part is no bridge, and has no arc in use
-
-  pub bridge-past : (l : ℕ) → p .count ≤ l → bridgeFrom p r l ≡ false
-  unfolding bridge live
-  bridge-past l h = and-comm (reachedFrom p r (first p l)) (bridge p l) ∙ rw (le-ltb l (p .count) h)
+  -- ---- what does not take part has no arc in use
 
   pub used-dead : (a l : ℕ) → a / 2 ≡ l → live p l ≡ false → usedFrom p r a ≡ false
   unfolding usedFrom
@@ -52,7 +47,7 @@ module _ (p : Plant) (r : ℕ) where
 
   pub bridges-counted : (flags : List Bool) → Sound p → Flags maxLinks (bridgeFrom p r) flags → countSet flags ≡ bridgesFrom p r
   unfolding bridgesFrom
-  bridges-counted flags sound f = flags-count maxLinks (bridgeFrom p r) (p .count) flags f (sound .few-links) bridge-past
+  bridges-counted flags sound f = flags-count maxLinks (bridgeFrom p r) (p .count) flags f (sound .few-links) (bridge-past p r)
 
   pub arcs-counted : (flags : List Bool) → Sound p → Flags (2 * maxLinks) (usedFrom p r) flags → countSet flags ≡ arcsUsedFrom p r
   unfolding arcsUsedFrom

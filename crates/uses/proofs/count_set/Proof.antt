@@ -1,4 +1,4 @@
--- `graph::count_set` meets its contract. The loop's invariant: n flags are set below i. Assumes nothing.
+-- `uses::count_set` meets its contract. The loop's invariant: n flags are set below i. Assumes nothing.
 use mathlib.Core.Path.{_≡_, refl, sym, ap, _∙_}
 use mathlib.Core.Logic.{⊎-elim}
 use mathlib.Core.Bool.{false}
@@ -7,9 +7,9 @@ use native.Mathlib.Omega.{arith}
 use lib.ListN.{length, getD}
 use Rattle.lists.specs.Count.{count}
 use Rattle.lists.proofs.Count.{count-all}
-use Rattle.graph.specs.Flags.{countSet}
-use Rattle.graph.proofs.count_set.Statement.{statement}
-use Rattle.graph.proofs.count_set.Tie as tie
+use Rattle.arcs.specs.Flags.{countSet}
+use Rattle.uses.proofs.count_set.Statement.{statement}
+use Rattle.uses.proofs.count_set.Tie as tie
 use Rattle.lists.proofs.Stepwise.{count-yes, count-no}
 
 abbrev Inv-loop : tie.InvT-loop

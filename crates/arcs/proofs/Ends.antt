@@ -1,5 +1,5 @@
 -- The ends of links and arcs, read from the arrays of tails and heads. Assumes a sound plant where they are said to be switches that there can be.
-use mathlib.Core.Path.{_≡_, ap, ap₂, _∙_}
+use mathlib.Core.Path.{_≡_, ap, _∙_}
 use mathlib.Core.Logic.{⊎-elim}
 use mathlib.Core.List.{List}
 use Prim.Native.Nat.{ℕ, _*_, _/_, _<_}
@@ -14,9 +14,7 @@ use Rattle.walks.specs.Arcs.{tail, head}
 use Rattle.walks.proofs.Live.{below-live}
 use Rattle.walks.proofs.Labels.{tail-even, head-even, tail-in, head-in}
 use Rattle.walks.proofs.Valid.{sound-valid}
-use Rattle.arcs.specs.Net.{Ends}
 use Rattle.arcs.proofs.Past.{tail-past, head-past}
-use Rattle.graph.specs.Inner.{acrossOf}
 
 module _ (p : Plant) (xs : List ℕ) where
   module _ (e : at xs ≡ tail p) where
@@ -38,6 +36,3 @@ module _ (p : Plant) (xs : List ℕ) where
     head-place sound a =
         ⊎-elim (λ h. omega (arith, ap (λ (f : ℕ → ℕ). f a) e, sound .few-switches, head-in p (sound-valid p sound) a (below-live p (a / 2) (omega arith))))
         (λ h. omega (arith, ap (λ (f : ℕ → ℕ). f a) e, head-past p a h sound)) (below? a (2 * p .count))
-
-pub across-is : {p : Plant} {tails heads : List ℕ} → Ends p tails heads → (l x : ℕ) → acrossOf (at tails) (at heads) l x ≡ acrossOf (tail p) (head p) l x
-across-is e l x = ap₂ (λ (f g : ℕ → ℕ). acrossOf f g l x) (e .tails-are) (e .heads-are)

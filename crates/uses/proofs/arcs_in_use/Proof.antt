@@ -1,4 +1,4 @@
--- `graph::arcs_in_use` meets its contract. The loop's invariant: the flags below 2 l are laid. Assumes nothing.
+-- `uses::arcs_in_use` meets its contract. The loop's invariant: the flags below 2 l are laid. Assumes nothing.
 use mathlib.Core.Path.{_≡_, sym, _∙_}
 use mathlib.Core.Logic.{⊎-elim}
 use mathlib.Core.Bool.{false}
@@ -9,10 +9,10 @@ use Rattle.lists.proofs.Laid.{Laid, laid-none, laid-put-two, laid-pass-two, lai
 use Rattle.limits.specs.Limits.{maxSwitches, maxLinks}
 use Rattle.walks.specs.Graph.{usedFrom}
 use Rattle.walks.proofs.Labels.{even-half, odd-half}
-use Rattle.graph.proofs.Ends.{first-end, second-end, tail-place, head-place}
-use Rattle.graph.proofs.Uses.{used-dead, used-past, used-pair, used-none}
-use Rattle.graph.proofs.arcs_in_use.Statement.{statement}
-use Rattle.graph.proofs.arcs_in_use.Tie as tie
+use Rattle.arcs.proofs.Ends.{first-end, second-end, tail-place, head-place}
+use Rattle.uses.proofs.Uses.{used-dead, used-past, used-pair, used-none}
+use Rattle.uses.proofs.arcs_in_use.Statement.{statement}
+use Rattle.uses.proofs.arcs_in_use.Tie as tie
 
 abbrev Inv-loop : tie.InvT-loop
 Inv-loop p tails heads b v u₀ n l₀ u l = (l ≤ n) × Laid false (2 * maxLinks) (usedFrom p (v .root)) (2 * l) u
