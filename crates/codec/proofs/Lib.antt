@@ -2,7 +2,6 @@ pub mod Taken
 pub mod FieldLaws
 pub mod LayoutLaws
 pub mod PartLaws
-pub mod PutLaws
 pub mod PartRoundTrip
 pub mod ConditionLaws
 pub mod PartFront

@@ -416,7 +416,7 @@ pub fn perform(listing: &[u8], switch: u8, calls: &[u8]) -> Performed
     match v {
         Verdict::Accepted => {
             let links = arcs::links_in_service(d.parts.plant);
-            Performed::Done(search::perform(links, calls))
+            Performed::Done(performing::perform(links, calls))
         }
         Verdict::Refused(k) => Performed::Refused(k),
     }

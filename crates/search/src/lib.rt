@@ -1,10 +1,8 @@
-// The search for the first broken link: its state, the call for a probe, the call that gives an outcome, and a list of calls. Inner: the calls are the crates `planner` and `probing`.
+// The search for the first broken link: its state, the call for a probe and the call that gives an outcome. Inner: the calls are the crates `planner` and `probing`.
 ghost use mathlib.Core.Path.{_≡_};
 ghost use mathlib.Core.Bool.{true};
-ghost use Prim.Native.Nat.{_≤_, _<_, _+_};
 ghost use Rattle.answers.specs.Checks.{Judges, answer};
 ghost use Rattle.search.specs.Search.{newSearch, counts, sound, soundFor, says, ended, wanted, narrowed, next, settles, callChecks, ask, give, askedOf, toldOf};
-ghost use Rattle.search.specs.Calls.{outcomeIn, callIn, callsIn, step, perform, begun};
 use answers::Refusal;
 use answers::Verdict;
 use plant::Plant;
@@ -142,7 +140,7 @@ impl Search {
     }
 
     // Does an accepted outcome settle its probe, so that the probe is counted? Each does.
-    fn settles(self, o: Outcome) -> bool
+    pub fn settles(self, o: Outcome) -> bool
         ensures { λ r. ⌜ r ≡ settles self o ⌝ }
     {
         match o {
@@ -203,58 +201,4 @@ fn narrowed(low: u16, high: u16) -> Search
     } else {
         Search::Halving(low, high)
     }
-}
-
-// An outcome as a byte: 1 is returned, any other is lost.
-fn outcome_in(b: u8) -> Outcome
-    ensures { λ r. ⌜ r ≡ outcomeIn b ⌝ }
-{
-    if b == 1 {
-        Outcome::Returned
-    } else {
-        Outcome::Lost
-    }
-}
-
-// One call, as a byte: 0 asks for a probe, 1 gives returned, any other gives lost.
-fn step(p: Progress, b: u8) -> Progress
-    requires { do ⌜ p .probes < (← ⟦usize::MAX⟧) ⌝ }
-    ensures { λ r. ⌜ r ≡ step p (callIn b) ⌝ }
-    ensures { λ r. ⌜ r .probes ≤ p .probes + 1 ⌝ }
-{
-    let s = p.state;
-    let before = p.probes;
-    if b == 0 {
-        // The answer is for the caller alone: the state stays as it is.
-        s.ask();
-        return p;
-    }
-    let o = outcome_in(b);
-    let after = before + s.settles(o) as usize;
-    match s.give(o) {
-        Told::State(t) => Progress {
-            state: t,
-            probes: after,
-        },
-        Told::Refused(_) => Progress {
-            state: s,
-            probes: before,
-        },
-    }
-}
-
-// Performs a list of calls, each a byte, after a new search over so many links.
-pub fn perform(links: u16, calls: &[u8]) -> Progress
-    ensures { λ r. ⌜ r ≡ perform (begun links) (callsIn (now (calls .entry))) ⌝ }
-{
-    let mut p = Progress {
-        state: Search::new(links),
-        probes: 0,
-    };
-    let mut i: usize = 0;
-    while i < calls.len() {
-        p = step(p, calls[i]);
-        i += 1;
-    }
-    p
 }

@@ -4,7 +4,7 @@ use native.Mathlib.Omega.{arith}
 use borrow.Author.Needs.{needs}
 use lib.ListN.{drop}
 use Rattle.plant.specs.Links.{zeroLink, linkAt}
-use Rattle.codec.proofs.PutLaws.{Laid, laid-none, laid-room, laid-one, laid-all}
+use Rattle.encoder.proofs.PutLaws.{Laid, laid-none, laid-room, laid-one, laid-all}
 use Rattle.listing.specs.Listing.{linksOf, linkBytes, linksBytes}
 use Rattle.listing.proofs.WriteLaws.{link-by, left-next, left-none}
 use Rattle.writing.proofs.put_links.Statement.{statement}

@@ -1,14 +1,14 @@
--- `codec::put_number` meets its contract: the last bytes, laid into the buffer, give what all of them give. Assumes nothing.
+-- `encoder::put_number` meets its contract: the last bytes, laid into the buffer, give what all of them give. Assumes nothing.
 use mathlib.Core.Path.{_≡_, refl, _∙_}
 use Prim.Native.Nat.{_+_, _-_, _≤_}
 use native.Mathlib.Omega.{arith}
 use borrow.Author.Needs.{needs}
 use lib.ListN.{length, length-set}
 use lib.Seq.{sets}
 use Rattle.codec.specs.Field.{bytesOf}
-use Rattle.codec.proofs.PutLaws.{bytes-next}
-use Rattle.codec.proofs.put_number.Statement.{statement}
-use Rattle.codec.proofs.put_number.Tie as tie
+use Rattle.encoder.proofs.PutLaws.{bytes-next}
+use Rattle.encoder.proofs.put_number.Statement.{statement}
+use Rattle.encoder.proofs.put_number.Tie as tie
 
 abbrev Inv-loop : tie.InvT-loop
 Inv-loop buf₀ at width value v₀ left₀ buf v left =

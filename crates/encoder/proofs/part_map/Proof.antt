@@ -1,10 +1,10 @@
--- `codec::part_map` meets its contract. The loop goes from the high bit down: m is the map of the fields from i on. Assumes nothing.
+-- `encoder::part_map` meets its contract. The loop goes from the high bit down: m is the map of the fields from i on. Assumes nothing.
 use mathlib.Core.Path.{_≡_}
 use native.Mathlib.Omega.{arith}
 use borrow.Author.Needs.{needs}
 use Rattle.codec.proofs.LayoutLaws.{MapFrom, map-end, map-room, map-next}
-use Rattle.codec.proofs.part_map.Statement.{statement}
-use Rattle.codec.proofs.part_map.Tie as tie
+use Rattle.encoder.proofs.part_map.Statement.{statement}
+use Rattle.encoder.proofs.part_map.Tie as tie
 
 abbrev Inv-loop : tie.InvT-loop
 Inv-loop layout values m₀ i₀ m i = MapFrom layout values i m

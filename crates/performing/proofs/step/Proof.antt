@@ -1,11 +1,11 @@
 -- `step` meets its contract: the byte 0 changes nothing, an accepted outcome is counted if it settles its probe, a refused one is not. Assumes nothing.
 use mathlib.Core.Path.{sym, ap, _∙_}
 use native.Mathlib.Omega.{arith}
 use Rattle.search.specs.Search.{toldOf}
-use Rattle.search.proofs.Laws.{byte-bit, step-asks, step-given, step-refused}
+use Rattle.performing.proofs.Laws.{byte-bit, step-asks, step-given, step-refused}
 use borrow.Author.Needs.{needs}
-use Rattle.search.proofs.step.Statement.{statement}
-use Rattle.search.proofs.step.Tie as tie
+use Rattle.performing.proofs.step.Statement.{statement}
+use Rattle.performing.proofs.step.Tie as tie
 
 returns : tie.Need-returns
 returns c = (step-asks _ _ (c .before .if1 .taken), omega arith)

@@ -1,12 +1,12 @@
--- `codec::put_fields` meets its contract: the bytes of the fields from i on, laid into the buffer, give what all of them give. Assumes nothing.
+-- `encoder::put_fields` meets its contract: the bytes of the fields from i on, laid into the buffer, give what all of them give. Assumes nothing.
 use Prim.Native.Nat.{_+_, _-_, _≤_}
 use native.Mathlib.Omega.{arith}
 use borrow.Author.Needs.{needs}
 use Rattle.codec.specs.Part.{bodyOf}
 use Rattle.codec.specs.Layout.{fieldsOf}
-use Rattle.codec.proofs.PutLaws.{bodyFrom, bytesAt, Laid, laid-none, laid-room, laid-one, laid-all, body-next, body-end}
-use Rattle.codec.proofs.put_fields.Statement.{statement}
-use Rattle.codec.proofs.put_fields.Tie as tie
+use Rattle.encoder.proofs.PutLaws.{bodyFrom, bytesAt, Laid, laid-none, laid-room, laid-one, laid-all, body-next, body-end}
+use Rattle.encoder.proofs.put_fields.Statement.{statement}
+use Rattle.encoder.proofs.put_fields.Tie as tie
 
 abbrev Inv-loop : tie.InvT-loop
 Inv-loop buf₀ from layout values n at₀ i₀ buf at i =

@@ -1,13 +1,13 @@
--- `codec::put_field` meets its contract. Assumes nothing.
+-- `encoder::put_field` meets its contract. Assumes nothing.
 use mathlib.Core.Path.{sym, ap, _∙_}
 use native.Mathlib.Omega.{arith}
 use denote.Ref.{now}
 use lib.ListN.{length}
 use lib.Seq.{sets}
-use Rattle.codec.proofs.PutLaws.{field-none, field-some, field-size}
+use Rattle.encoder.proofs.PutLaws.{field-none, field-some, field-size}
 use borrow.Author.Needs.{needs}
-use Rattle.codec.proofs.put_field.Statement.{statement}
-use Rattle.codec.proofs.put_field.Tie as tie
+use Rattle.encoder.proofs.put_field.Statement.{statement}
+use Rattle.encoder.proofs.put_field.Tie as tie
 
 returns : tie.Need-returns
 returns c =

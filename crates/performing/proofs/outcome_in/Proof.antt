@@ -1,7 +1,7 @@
 -- `outcome_in` meets its contract: its test is the definition's. Assumes nothing.
 use borrow.Author.Tests.{eq-eqb, ne-eqb}
-use Rattle.search.proofs.outcome_in.Statement.{statement}
-use Rattle.search.proofs.outcome_in.Tie as tie
+use Rattle.performing.proofs.outcome_in.Statement.{statement}
+use Rattle.performing.proofs.outcome_in.Tie as tie
 
 returns : tie.Need-returns
 returns c = simp (eq-eqb _ _ (c .if1 .taken))

@@ -1,13 +1,13 @@
--- `codec::put_part` meets its contract. Assumes nothing.
+-- `encoder::put_part` meets its contract. Assumes nothing.
 use mathlib.Core.Path.{_∙_}
 use native.Mathlib.Omega.{arith}
 use borrow.Author.Needs.{needs}
 use lib.ListN.{length-set}
 use Rattle.codec.specs.Layout.{fieldsOf}
-use Rattle.codec.proofs.PutLaws.{part-room, part-end, part-same, part-laid}
+use Rattle.encoder.proofs.PutLaws.{part-room, part-end, part-same, part-laid}
 use borrow.Author.Needs.{needs}
-use Rattle.codec.proofs.put_part.Statement.{statement}
-use Rattle.codec.proofs.put_part.Tie as tie
+use Rattle.encoder.proofs.put_part.Statement.{statement}
+use Rattle.encoder.proofs.put_part.Tie as tie
 
 slice-write-buf : tie.Need-slice-write-buf
 slice-write-buf c =

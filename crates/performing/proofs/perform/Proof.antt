@@ -4,11 +4,11 @@ use Prim.Native.Nat.{_-_, _≤_}
 use native.Mathlib.Omega.{arith}
 use lib.ListN.{length, drop}
 use borrow.Author.Needs.{needs}
 use Rattle.search.specs.declared.Search.{Search}
 use Rattle.search.specs.Calls.{callsIn, perform, begun}
-use Rattle.search.proofs.Laws.{perform-on, perform-all}
-use Rattle.search.proofs.perform.Statement.{statement}
-use Rattle.search.proofs.perform.Tie as tie
+use Rattle.performing.proofs.Laws.{perform-on, perform-all}
+use Rattle.performing.proofs.perform.Statement.{statement}
+use Rattle.performing.proofs.perform.Tie as tie
 
 abbrev Inv-loop : tie.InvT-loop
 Inv-loop links calls p₀ i₀ p i =

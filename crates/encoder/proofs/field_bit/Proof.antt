@@ -1,8 +1,8 @@
--- `codec::field_bit` meets its contract. Assumes nothing.
+-- `encoder::field_bit` meets its contract. Assumes nothing.
 use native.Mathlib.Omega.{arith}
 use borrow.Author.Tests.{eq-eqb, ne-eqb}
-use Rattle.codec.proofs.field_bit.Statement.{statement}
-use Rattle.codec.proofs.field_bit.Tie as tie
+use Rattle.encoder.proofs.field_bit.Statement.{statement}
+use Rattle.encoder.proofs.field_bit.Tie as tie
 
 returns : tie.Need-returns
 returns c = (simp (eq-eqb _ _ (c .if1 .taken)), omega arith)

@@ -1,13 +1,13 @@
--- `codec::part_size` meets its contract. Assumes nothing.
+-- `encoder::part_size` meets its contract. Assumes nothing.
 use mathlib.Core.Path.{ap, _∙_}
 use native.Mathlib.Omega.{arith}
 use borrow.Author.Needs.{needs}
 use Rattle.codec.specs.Part.{size, partBytes}
 use Rattle.codec.specs.Layout.{fieldsOf}
 use Rattle.codec.proofs.PartRoundTrip.{size-written}
 use borrow.Author.Needs.{needs}
-use Rattle.codec.proofs.part_size.Statement.{statement}
-use Rattle.codec.proofs.part_size.Tie as tie
+use Rattle.encoder.proofs.part_size.Statement.{statement}
+use Rattle.encoder.proofs.part_size.Tie as tie
 
 returns : tie.Need-returns
 unfolding partBytes
