@@ -107,7 +107,7 @@ fn parts_of(
     ensures { λ r. ⌜ PartsOf p (v .root) r ⌝ }
     ensures { λ r. ⌜ WithTable r (now (t .exit)) ⌝ }
 {
-    let bridges = graph::bridges(p, &tails, &heads, v);
+    let bridges = bridges::bridges_of(p, &tails, &heads, v);
     let used = uses::arcs_in_use(p, &tails, &heads, v, &bridges);
     let net = net_of(p, v.root);
     let c = arcs::chains_of(&tails, &used, net.labels);

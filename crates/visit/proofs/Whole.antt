@@ -31,7 +31,7 @@ use Rattle.arcs.specs.Net.{Ends, AllArcs}
 use Rattle.arcs.specs.Chains.{Chained, TailsIn}
 use Rattle.arcs.specs.declared.Visited.{Visited}
 use Rattle.arcs.specs.Shows.{Shows, Visits}
-use Rattle.visit.specs.Inner.{Tried, unvisited, beginOf, At, Tries, Went}
+use Rattle.visit.specs.Inner.{SomeArcs, unvisited, beginOf, At, Tries, Went}
 use Rattle.visit.proofs.Entering.{unvisited-set}
 
 -- ---- the beginning
@@ -87,7 +87,7 @@ module _ (p : Plant) (sound : Sound p) {tails heads : List ℕ} (ends : Ends p t
       omega (arith, sound .few-switches, ap (λ (f : ℕ → ℕ). f a) (ends .heads-are), head-in p (sound-valid p sound) a (rw (all .tells a) at t))
 
   -- the arcs that the visit tries
-  abbrev pub tried : {first after : List ℕ} → Chained (2 * p .count) (at tails) (flag flags) first after → Tried (2 * p .count) heads first after
+  abbrev pub tried : {first after : List ℕ} → Chained (2 * p .count) (at tails) (flag flags) first after → SomeArcs (2 * p .count) heads first after
   tried c = record { tl = at tails; ok = flag flags; heads-in = heads-in; chained = c }
 
   module _ (root : ℕ) (root-in : root < p .switches) (r : Visited) where

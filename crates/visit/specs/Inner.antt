@@ -16,7 +16,7 @@ use Rattle.arcs.specs.declared.Visited.{Visited}
 use Rattle.arcs.specs.Shows.{Shows}
 
 -- the arrays have the heads of some arcs, each a switch that there can be, and the chains of the flagged ones; the tails and the flags no code of the visit reads
-pub record Tried (n : ℕ) (heads first after : List ℕ) : Type 0 where
+pub record SomeArcs (n : ℕ) (heads first after : List ℕ) : Type 0 where
   pub tl : ℕ → ℕ
   pub ok : ℕ → Bool
   pub heads-in : (a : ℕ) → a < n → T (ok a) → at heads a < maxSwitches

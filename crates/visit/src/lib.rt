@@ -8,7 +8,7 @@ ghost use Rattle.limits.specs.Sound.{Sound};
 ghost use Rattle.walks.specs.Graph.{reachedFrom};
 ghost use Rattle.arcs.specs.Net.{Ends};
 ghost use Rattle.arcs.specs.Shows.{Visits};
-ghost use Rattle.visit.specs.Inner.{Tried, enterOf, beginOf, At, Went};
+ghost use Rattle.visit.specs.Inner.{SomeArcs, enterOf, beginOf, At, Went};
 use arcs::Visited;
 use plant::Plant;
 
@@ -40,9 +40,9 @@ fn visit_from(
     from: u8,
 ) -> Visited
     requires { ⌜ n ≤ 2 * maxLinks ⌝ }
-    requires { ⌜ Tried n (now heads) (now first) (now after) ⌝ }
+    requires { ⌜ SomeArcs n (now heads) (now first) (now after) ⌝ }
     requires { ⌜ At v0 from ⌝ }
-    ensures { λ r. ⌜ ((w : Tried n (now (heads .entry)) (now (first .entry)) (now (after .entry))) → Went n (w .tl) (at (now (heads .entry))) (w .ok) v0 from r) ⌝ }
+    ensures { λ r. ⌜ ((w : SomeArcs n (now (heads .entry)) (now (first .entry)) (now (after .entry))) → Went n (w .tl) (at (now (heads .entry))) (w .ok) v0 from r) ⌝ }
 {
     let mut v = v0;
     let mut a = first[from as usize];

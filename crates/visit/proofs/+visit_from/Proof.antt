@@ -10,7 +10,7 @@ use borrow.Fn.PlainCycle.{Measures, is, falls, and}
 use Rattle.lists.specs.Arrays.{at}
 use Rattle.limits.specs.Limits.{maxSwitches, maxLinks}
 use Rattle.arcs.specs.Chains.{following}
-use Rattle.visit.specs.Inner.{Tried, unvisited}
+use Rattle.visit.specs.Inner.{SomeArcs, unvisited}
 use Rattle.visit.proofs.Entering.{unvisited-kept, enter-numbers, enter-falls, enter-at}
 use Rattle.visit.proofs.Goes.{Goes, goes-begin, goes-end, goes-next, goes-rises, flagged, turn-old, turn-new}
 use Rattle.visit.proofs.visit_from.Reads as visit-from
@@ -37,7 +37,7 @@ abbrev calls : ℕ → lts.Claims
 calls t = (enter-reads.Asked, enter-reads.Learnt, visit-from-below t, visit-from.Post)
 
 abbrev Inv : lts.InvT-loop
-Inv heads first after n from v₀ a₀ v a = (w : Tried n heads first after) → Goes n (w .tl) (at heads) (w .ok) from a v₀ v
+Inv heads first after n from v₀ a₀ v a = (w : SomeArcs n heads first after) → Goes n (w .tl) (at heads) (w .ok) from a v₀ v
 
 abbrev μ : lts.MeasureT-loop
 μ heads first after n from v₀ a₀ v a = n - a
@@ -76,7 +76,7 @@ visit-from-requires t c κs =
 -- the next label of the chain
 next : (t : ℕ) (c : lts.After-to (calls t) (visit-from-at t) visit-from.Post Inv μ)
     → let k = c .before .before in let s = k .before .before .args in
-    (w : Tried (s .n) (s .heads .now) (s .first .now) (s .after .now)) → at (s .after .now) (k .loop .a) ≡ following (s .n) (w .tl) (w .ok) (s .from) (suc (k .loop .a))
+    (w : SomeArcs (s .n) (s .heads .now) (s .first .now) (s .after .now)) → at (s .after .now) (k .loop .a) ≡ following (s .n) (w .tl) (w .ok) (s .from) (suc (k .loop .a))
 next t c w = goes-next _ _ _ _ _ (c .before .loop-test .taken) (c .before .before .loop .inv w) (w .chained)
 
 loop-less : (t : ℕ) → lts.Need-loop-less (calls t) (visit-from-at t) visit-from.Post Inv μ

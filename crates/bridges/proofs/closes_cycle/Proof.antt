@@ -1,13 +1,13 @@
--- `graph::closes_cycle` meets its contract. Assumes nothing.
+-- `bridges::closes_cycle` meets its contract. Assumes nothing.
 use mathlib.Core.Path.{sym, _∙_}
 use Prim.Native.Nat.{_*_}
 use native.Mathlib.Omega.{arith}
 use borrow.Author.Needs.{needs}
 use borrow.Author.Tests.{not-true, not-false}
 use Rattle.arcs.proofs.Ends.{first-end, tail-place}
-use Rattle.graph.proofs.Cycles.{closes-dead, closes-entered, closes-seen}
-use Rattle.graph.proofs.closes_cycle.Statement.{statement}
-use Rattle.graph.proofs.closes_cycle.Tie as tie
+use Rattle.bridges.proofs.Cycles.{closes-dead, closes-entered, closes-seen}
+use Rattle.bridges.proofs.closes_cycle.Statement.{statement}
+use Rattle.bridges.proofs.closes_cycle.Tie as tie
 
 returns : tie.Need-returns
 returns c =

@@ -1,4 +1,4 @@
--- `graph::bridges` meets its contract. The loop's invariant: the flags below l are laid. Assumes nothing.
+-- `bridges::bridges_of` meets its contract. The loop's invariant: the flags below l are laid. Assumes nothing.
 use mathlib.Core.Path.{_∙_}
 use mathlib.Core.Logic.{⊎-elim}
 use mathlib.Core.Bool.{Bool, false, not, _&&_}
@@ -9,9 +9,9 @@ use Rattle.lists.specs.Arrays.{flag}
 use Rattle.lists.proofs.Laid.{Laid, laid-none, laid-put, laid-all}
 use Rattle.limits.specs.Limits.{maxLinks}
 use Rattle.arcs.proofs.Past.{bridge-past}
-use Rattle.graph.proofs.Cycles.{bridge-flag}
-use Rattle.graph.proofs.bridges.Statement.{statement}
-use Rattle.graph.proofs.bridges.Tie as tie
+use Rattle.bridges.proofs.Cycles.{bridge-flag}
+use Rattle.bridges.proofs.bridges_of.Statement.{statement}
+use Rattle.bridges.proofs.bridges_of.Tie as tie
 
 -- link l is entered, and on no cycle
 abbrev alone : List Bool → List Bool → ℕ → Bool
@@ -42,8 +42,8 @@ returns c =
       tells = λ i. laid-all false maxLinks _ (k .loop .l) (k .loop .b) (k .loop .inv .1) (λ j h. same j ∙ bridge-past _ _ j (omega (arith, c .loop-test .left))) i ∙ same i;
     }
 
-pub bridges-spec : {M : Type 1} → statement M
-bridges-spec =
+pub bridges-of-spec : {M : Type 1} → statement M
+bridges-of-spec =
     tie.close (tie.spec Inv-loop μ-loop (λ c κs. (c .pre .0, (c .pre .1 .0, c .pre .1 .1)))
     (λ c κs. let h = c .before .before .pre in (h .0, (h .1 .0, (h .1 .1, c .before .entry-links .ensures))))
     (λ c. omega (arith, c .before .before .before .pre .0 .few-links)) (λ c. (omega arith, laid-none false maxLinks _))

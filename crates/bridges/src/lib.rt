@@ -10,7 +10,7 @@ ghost use Rattle.walks.specs.Graph.{bridgeFrom};
 ghost use Rattle.arcs.specs.Net.{Ends};
 ghost use Rattle.arcs.specs.Shows.{Visits};
 ghost use Rattle.arcs.specs.Flags.{Flags};
-ghost use Rattle.graph.specs.Inner.{EntryLinks, closes, Covered, acrossOf};
+ghost use Rattle.bridges.specs.Inner.{EntryLinks, closes, Covered, acrossOf};
 use arcs::Visited;
 use plant::Plant;
 
@@ -137,7 +137,7 @@ fn covered_links(
 }
 
 // A flag for each link: is it a bridge at a switch that the visit reached? Such a link was entered, and is on no cycle.
-pub fn bridges(
+pub fn bridges_of(
     p: Plant,
     tails: &[u8; Plant::LABELS],
     heads: &[u8; Plant::LABELS],

@@ -1,4 +1,4 @@
--- `graph::climb` meets its contract. The loop does not read the plant, so its invariant is: of whatever plant the arrays are, what the climb has come to is right if
+-- `bridges::climb` meets its contract. The loop does not read the plant, so its invariant is: of whatever plant the arrays are, what the climb has come to is right if
 -- what it began with is. Assumes nothing.
 use mathlib.Core.Path.{_≡_, refl, sym}
 use Prim.Native.Nat.{ℕ, _+_, _*_, _<_}
@@ -7,11 +7,11 @@ use lib.ListN.{getD}
 use Rattle.lists.specs.Arrays.{at}
 use Rattle.plant.specs.declared.Plant.{Plant}
 use Rattle.limits.specs.Limits.{maxSwitches, maxLinks}
-use Rattle.graph.specs.Inner.{acrossOf}
+use Rattle.bridges.specs.Inner.{acrossOf}
 use Rattle.arcs.proofs.Ends.{first-end, second-end}
-use Rattle.graph.proofs.Cycles.{seen-place, Climbing, Given, climb-begin, climb-flip, Back, climb-back, climb-end}
-use Rattle.graph.proofs.climb.Statement.{statement}
-use Rattle.graph.proofs.climb.Tie as tie
+use Rattle.bridges.proofs.Cycles.{seen-place, Climbing, Given, climb-begin, climb-flip, Back, climb-back, climb-end}
+use Rattle.bridges.proofs.climb.Statement.{statement}
+use Rattle.bridges.proofs.climb.Tie as tie
 
 abbrev Inv-loop : tie.InvT-loop
 Inv-loop tails heads up c₀ k v x₀ y₀ c x y = (p : Plant) → Given p tails heads v up → Climbing p (v .root) k c₀ x₀ y₀ → Climbing p (v .root) k c x y

@@ -31,7 +31,7 @@ use Rattle.walks.proofs.Valid.{sound-valid}
 use Rattle.arcs.specs.Net.{Ends}
 use Rattle.arcs.specs.declared.Visited.{Visited}
 use Rattle.arcs.specs.Shows.{Shows, Visits}
-use Rattle.graph.specs.Inner.{acrossOf, EntryLinks, closes, Covered}
+use Rattle.bridges.specs.Inner.{acrossOf, EntryLinks, closes, Covered}
 
 across-is : {p : Plant} {tails heads : List ℕ} → Ends p tails heads → (l x : ℕ) → acrossOf (at tails) (at heads) l x ≡ acrossOf (tail p) (head p) l x
 across-is e l x = ap₂ (λ (f g : ℕ → ℕ). acrossOf f g l x) (e .tails-are) (e .heads-are)

@@ -1,14 +1,14 @@
--- `graph::entry_links` meets its contract. The loop's invariant: the links below l are told. Assumes nothing.
+-- `bridges::entry_links` meets its contract. The loop's invariant: the links below l are told. Assumes nothing.
 use mathlib.Core.Logic.{⊎-elim}
 use Prim.Native.Nat.{_-_, _*_, _≤_, _<_}
 use native.Mathlib.Omega.{arith}
 use Rattle.lists.specs.Arrays.{at}
 use Rattle.limits.specs.Limits.{maxSwitches}
-use Rattle.graph.specs.Inner.{EntryLinks}
+use Rattle.bridges.specs.Inner.{EntryLinks}
 use Rattle.arcs.proofs.Ends.{first-end, second-end, tail-place, head-place}
-use Rattle.graph.proofs.Cycles.{entry-none, entry-pass, entry-second, entry-first, entry-all}
-use Rattle.graph.proofs.entry_links.Statement.{statement}
-use Rattle.graph.proofs.entry_links.Tie as tie
+use Rattle.bridges.proofs.Cycles.{entry-none, entry-pass, entry-second, entry-first, entry-all}
+use Rattle.bridges.proofs.entry_links.Statement.{statement}
+use Rattle.bridges.proofs.entry_links.Tie as tie
 
 abbrev Inv-loop : tie.InvT-loop
 Inv-loop p tails heads v up₀ l₀ up l = (l ≤ p .count) × EntryLinks p (v .root) l up

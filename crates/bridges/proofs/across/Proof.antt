@@ -1,9 +1,9 @@
--- `graph::across` meets its contract. Assumes nothing.
+-- `bridges::across` meets its contract. Assumes nothing.
 use borrow.Author.Needs.{needs}
 use borrow.Author.Tests.{eq-eqb, ne-eqb}
-use Rattle.graph.specs.Inner.{acrossOf}
-use Rattle.graph.proofs.across.Statement.{statement}
-use Rattle.graph.proofs.across.Tie as tie
+use Rattle.bridges.specs.Inner.{acrossOf}
+use Rattle.bridges.proofs.across.Statement.{statement}
+use Rattle.bridges.proofs.across.Tie as tie
 
 returns : tie.Need-returns
 unfolding acrossOf

@@ -1,13 +1,13 @@
--- `graph::covered_links` meets its contract. The loop's invariant: the links below k that close a cycle are climbed from. Assumes nothing.
+-- `bridges::covered_links` meets its contract. The loop's invariant: the links below k that close a cycle are climbed from. Assumes nothing.
 use mathlib.Core.Path.{sym, _∙_}
 use mathlib.Core.Logic.{⊎-elim}
 use Prim.Native.Nat.{_-_, _≤_, _<_}
 use native.Mathlib.Omega.{arith}
 use Rattle.limits.specs.Limits.{maxLinks}
-use Rattle.graph.specs.Inner.{Covered}
-use Rattle.graph.proofs.Cycles.{covered-none, covered-pass, covered-all}
-use Rattle.graph.proofs.covered_links.Statement.{statement}
-use Rattle.graph.proofs.covered_links.Tie as tie
+use Rattle.bridges.specs.Inner.{Covered}
+use Rattle.bridges.proofs.Cycles.{covered-none, covered-pass, covered-all}
+use Rattle.bridges.proofs.covered_links.Statement.{statement}
+use Rattle.bridges.proofs.covered_links.Tie as tie
 
 abbrev Inv-loop : tie.InvT-loop
 Inv-loop p tails heads v up c₀ n k₀ c k = (k ≤ n) × Covered p (v .root) k c
