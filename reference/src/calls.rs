@@ -2,7 +2,7 @@
 
 use crate::listing;
 use crate::net::{Net, Page};
-use crate::packet::{self, Fate, Order, Under};
+use crate::packet::{self, Order, Run, Under};
 use crate::plant::{Answer, Plant, Refusal};
 use crate::search::Search;
 use crate::trail::Trail;
@@ -99,7 +99,7 @@ pub fn trail(listing: &[u8], buffer: &mut [u16]) -> Answer<usize> {
 }
 
 /// A packet that is no probe; refusals 1 to 9, 11, 13.
-pub fn run(listing: &[u8], switch: u8, labels: &[u16], states: &[u8]) -> Answer<Fate> {
+pub fn run(listing: &[u8], switch: u8, labels: &[u16], states: &[u8]) -> Answer<Run> {
     let net = net(listing)?;
     let switch = named(&net, switch)?;
     enough(&net, states)?;
@@ -113,7 +113,7 @@ pub fn run(listing: &[u8], switch: u8, labels: &[u16], states: &[u8]) -> Answer<
 }
 
 /// The whole ring from a switch; refusals 1 to 9, 11, 12, 13.
-pub fn full_check(listing: &[u8], switch: u8, trail: &[u16], states: &[u8]) -> Answer<Fate> {
+pub fn full_check(listing: &[u8], switch: u8, trail: &[u16], states: &[u8]) -> Answer<Run> {
     let net = net(listing)?;
     let switch = named(&net, switch)?;
     same_trail(&net, trail)?;
@@ -155,7 +155,7 @@ pub fn run_probe(
     trail: &[u16],
     states: &[u8],
     search: Search,
-) -> Answer<Fate> {
+) -> Answer<Run> {
     let net = net(listing)?;
     let switch = named(&net, switch)?;
     same_trail(&net, trail)?;

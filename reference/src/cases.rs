@@ -4,13 +4,13 @@
 //! line of text.
 
 use crate::calls;
-use crate::packet::Fate;
+use crate::packet::{Fate, Run};
 use crate::plant::{Link, Plant, Refusal};
 use crate::search::Search;
 use std::io::Write;
 
 /// The calls by their number in the case format.
-pub const NAMES: [&str; 21] = [
+pub const NAMES: [&str; 22] = [
     "",
     "read",
     "write",
@@ -32,6 +32,7 @@ pub const NAMES: [&str; 21] = [
     "rewrite",
     "reread",
     "allowance",
+    "long run",
 ];
 
 /// The input does not follow the format at this byte.
@@ -120,6 +121,21 @@ impl std::fmt::Display for Shown<'_> {
             plant.start,
             Sum::of(links)
         )
+    }
+}
+
+/// A run: the word for its fate, that for home being given, the hops made and
+/// the switch last reached.
+struct Told(&'static str, Run);
+
+impl std::fmt::Display for Told {
+    fn fmt(&self, f: &mut std::fmt::Formatter) -> std::fmt::Result {
+        let Told(home, run) = self;
+        let word = match run.fate() {
+            Fate::Home => home,
+            Fate::Lost => "lost",
+        };
+        write!(f, "{word} {} {}", run.hops, run.last)
     }
 }
 
@@ -257,10 +273,6 @@ impl Answerer {
         lent: &mut Option<Sum>,
     ) -> Result<Result<(), Refusal>, Malformed> {
         let called_at = input.at - 1;
-        let returned = |fate| match fate {
-            Fate::Ended(_) => "returned",
-            Fate::Lost => "lost",
-        };
         let labels = &mut self.labels;
         Ok(match call {
             1 => calls::read(input.string()?).map(|plant| put(format_args!("{}", Shown(&plant)))),
@@ -305,22 +317,15 @@ impl Answerer {
                 let (listing, switch) = (input.string()?, input.byte()?);
                 input.labels(labels)?;
                 let states = input.string()?;
-                calls::run(listing, switch, labels, states).map(|fate| {
-                    put(format_args!(
-                        "{}",
-                        match fate {
-                            Fate::Ended(_) => "ended",
-                            Fate::Lost => "lost",
-                        }
-                    ))
-                })
+                calls::run(listing, switch, labels, states)
+                    .map(|run| put(format_args!("{}", Told("ended", run))))
             }
             8 => {
                 let (listing, switch) = (input.string()?, input.byte()?);
                 input.labels(labels)?;
                 let states = input.string()?;
                 calls::full_check(listing, switch, labels, states)
-                    .map(|fate| put(format_args!("{}", returned(fate))))
+                    .map(|run| put(format_args!("{}", Told("returned", run))))
             }
             9 => {
                 let (listing, switch) = (input.string()?, input.byte()?);
@@ -344,7 +349,7 @@ impl Answerer {
                 input.labels(labels)?;
                 let (states, search) = (input.string()?, input.search()?);
                 calls::run_probe(listing, switch, labels, states, search)
-                    .map(|fate| put(format_args!("{}", returned(fate))))
+                    .map(|run| put(format_args!("{}", Told("returned", run))))
             }
             12 => {
                 let (listing, switch) = (input.string()?, input.byte()?);
@@ -389,6 +394,22 @@ impl Answerer {
             20 => {
                 put(format_args!("{}", calls::allowance(input.word()?)));
                 Ok(())
+            }
+            // Call 7 for a packet of the first list, so many times, and then
+            // the second.
+            21 => {
+                let (listing, switch) = (input.string()?, input.byte()?);
+                input.labels(labels)?;
+                let times = input.word()?;
+                let packet = &mut self.places;
+                packet.clear();
+                for _ in 0..times {
+                    packet.extend_from_slice(labels);
+                }
+                input.labels(labels)?;
+                packet.extend_from_slice(labels);
+                calls::run(listing, switch, packet, input.string()?)
+                    .map(|run| put(format_args!("{}", Told("ended", run))))
             }
             _ => return Err(Malformed(called_at)),
         })

@@ -6,7 +6,7 @@ use crate::cases::{prefilled, Answerer, Case, Sum};
 use crate::listing;
 use crate::make::{self, Chance};
 use crate::net::Net;
-use crate::packet::{self, Fate, Order};
+use crate::packet::{self, Fate, Order, Run};
 use crate::plant::{Link, Plant, Refusal};
 use crate::search::{quantity, Search, ALLOWANCE};
 use crate::trail::{distances, Trail};
@@ -471,63 +471,262 @@ fn trail_that_differs() {
     }
 }
 
-/// The fate of a packet by the packet rule, with rules for the arcs given.
-fn plain_run(
-    plain: &Plain,
-    rules: &[bool],
-    switch: usize,
-    labels: &[u16],
-    states: &[u8],
-) -> Option<usize> {
-    let mut at = switch;
-    for label in labels {
-        let label = usize::from(*label);
-        let rule = label < rules.len() && rules[label] && plain.from(label) == at;
-        if !rule || states[label / 2] == 0 {
-            return None;
-        }
-        at = plain.to(label);
+/// A packet's run restated, with rules for the arcs given: it has made as many
+/// hops as there are labels before the first one by which it cannot cross.
+fn plain_run(plain: &Plain, rules: &[bool], switch: usize, labels: &[u16], states: &[u8]) -> Run {
+    // The switch that so many labels lead to.
+    let led = |count: usize| match count {
+        0 => switch,
+        _ => plain.to(usize::from(labels[count - 1])),
+    };
+    let crosses = |place: usize| {
+        let label = usize::from(labels[place]);
+        rules.get(label) == Some(&true) && plain.from(label) == led(place) && states[label / 2] != 0
+    };
+    let stop = (0..labels.len()).find(|place| !crosses(*place));
+    let hops = stop.unwrap_or(labels.len());
+    Run {
+        ended: stop.is_none(),
+        hops,
+        last: led(hops),
     }
-    Some(at)
+}
+
+/// A run that ended.
+fn ended(hops: usize, last: usize) -> Run {
+    Run {
+        ended: true,
+        hops,
+        last,
+    }
+}
+
+/// A run that was lost.
+fn lost(hops: usize, last: usize) -> Run {
+    Run {
+        ended: false,
+        hops,
+        last,
+    }
+}
+
+#[test]
+fn runs_by_hand() {
+    let up: &[u8] = &[1, 2, 255];
+    let cases: &[(u8, &[u16], &[u8], Run)] = &[
+        (0, &[0, 2, 4], up, ended(3, 0)),
+        (0, &[0, 2], up, ended(2, 2)),
+        (1, &[2, 4, 0, 2], up, ended(4, 2)),
+        (0, &[], up, ended(0, 0)),
+        (2, &[], &[0; 3], ended(0, 2)),
+        // A label of another switch, one without a rule, one past the links.
+        (0, &[2, 4], up, lost(0, 0)),
+        (0, &[0, 4, 2], up, lost(1, 1)),
+        (2, &[5], up, lost(0, 2)),
+        (1, &[2, 4, 1], up, lost(2, 0)),
+        (0, &[0, 2, 6], up, lost(2, 2)),
+        (0, &[0, 2, 4, 0xffff], up, lost(3, 0)),
+        // A link that is down; and one that is not come to.
+        (0, &[0, 2, 4], &[0, 1, 1], lost(0, 0)),
+        (0, &[0, 2, 4], &[1, 0, 1], lost(1, 1)),
+        (0, &[0, 2, 4], &[1, 1, 0], lost(2, 2)),
+        (0, &[0, 2, 4], &[1, 1, 1, 0], ended(3, 0)),
+        (0, &[0, 2], &[1, 1, 0], ended(2, 2)),
+    ];
+    for (switch, labels, states, run) in cases {
+        assert_eq!(
+            calls::run(TRIANGLE, *switch, labels, states),
+            Ok(*run),
+            "{switch} {labels:?} {states:?}"
+        );
+    }
+    let trail = trail_vec(TRIANGLE);
+    let check = |switch, states: &[u8]| calls::full_check(TRIANGLE, switch, &trail, states);
+    assert_eq!(check(1, up), Ok(ended(3, 1)));
+    assert_eq!(check(1, &[1, 0, 1]), Ok(lost(0, 1)));
+    assert_eq!(check(1, &[1, 1, 0]), Ok(lost(1, 2)));
+    assert_eq!(check(1, &[0, 1, 1]), Ok(lost(2, 0)));
+    // From switch 1, probe 1 goes 2 3, probe 2 goes 2 4 5 3.
+    let (one, two) = (Search::Halving(1, 2), Search::Halving(1, 3));
+    let probe = |states: &[u8], state| calls::run_probe(TRIANGLE, 1, &trail, states, state);
+    assert_eq!(probe(&[0, 1, 0], one), Ok(ended(2, 1)));
+    assert_eq!(probe(&[1, 0, 1], one), Ok(lost(0, 1)));
+    assert_eq!(probe(&[0, 1, 1], two), Ok(ended(4, 1)));
+    assert_eq!(probe(&[1, 1, 0], two), Ok(lost(1, 2)));
+    assert_eq!(probe(&[1, 0, 0], two), Ok(lost(0, 1)));
+    assert_eq!(probe(up, Search::Checking(3)), Ok(ended(3, 1)));
+    assert_eq!(probe(&[0, 1, 1], Search::Checking(3)), Ok(lost(2, 0)));
+    // The two-way fate.
+    assert_eq!(ended(0, 2).fate(), Fate::Home);
+    assert_eq!(lost(0, 2).fate(), Fate::Lost);
+}
+
+/// Labels for a packet from a switch: a walk over arcs in use that strays now
+/// and then.
+fn stray(chance: &mut Chance, plain: &Plain, used: &[bool], switch: usize) -> Vec<u16> {
+    let mut at = switch;
+    let mut labels = Vec::new();
+    for _ in 0..chance.below(8) {
+        let out: Vec<usize> = plain
+            .labels()
+            .filter(|label| plain.from(*label) == at && used[*label])
+            .collect();
+        let label = if out.is_empty() || chance.percent(8) {
+            chance.below(used.len() + 2)
+        } else {
+            chance.of(&out)
+        };
+        labels.push(label as u16);
+        if label < used.len() {
+            at = plain.to(label);
+        }
+    }
+    labels
 }
 
 #[test]
 fn packets() {
     let mut chance = Chance::new(5);
-    for plant in plants(5, 500, 0) {
+    // Runs lost at each label, and those that ended after so many.
+    let mut seen = [[0; 8]; 2];
+    for plant in plants(5, 800, 0) {
         let plain = Plain::new(&plant);
         let listing = make::listing_of(&plant);
         let used = plain.used();
         let links = plain.links.len();
-        for _ in 0..10 {
+        for switch in 0..plain.switches {
             let mut states = vec![1; links + 1];
             if links > 0 && chance.percent(50) {
                 states[chance.below(links)] = 0;
             }
-            let switch = chance.below(plain.switches);
-            // A walk that strays now and then.
-            let mut at = switch;
-            let mut labels = Vec::new();
-            for _ in 0..chance.below(8) {
-                let out: Vec<usize> = plain
-                    .labels()
-                    .filter(|label| plain.from(*label) == at && used[*label])
-                    .collect();
-                let label = if out.is_empty() || chance.percent(8) {
-                    chance.below(2 * links + 2)
+            let labels = stray(&mut chance, &plain, &used, switch);
+            let run = calls::run(&listing, switch as u8, &labels, &states).unwrap();
+            assert_eq!(run, plain_run(&plain, &used, switch, &labels, &states));
+            assert_eq!(run.ended, run.hops == labels.len());
+            assert_eq!(run.fate() == Fate::Home, run.ended);
+            seen[usize::from(run.ended)][run.hops] += 1;
+            assert_eq!(
+                calls::run(&listing, switch as u8, &[], &states),
+                Ok(ended(0, switch))
+            );
+            // The labels of the hops made end where the packet got to.
+            let made = &labels[..run.hops];
+            assert_eq!(
+                calls::run(&listing, switch as u8, made, &states),
+                Ok(ended(run.hops, run.last))
+            );
+        }
+    }
+    // No list has more than seven labels.
+    assert!(seen[0][..7].iter().all(|count| *count > 10), "{seen:?}");
+    assert!(seen[1].iter().all(|count| *count > 10), "{seen:?}");
+}
+
+/// A packet of more labels than two bytes count.
+#[test]
+fn long_packets() {
+    // Rounds of a closed walk, then labels that end or are lost.
+    let cases: &[(&[u8], &[u16], &[u16], &[u8], Run)] = &[
+        (ONE_LINK, &[0, 1], &[], &[1], ended(66_000, 0)),
+        (ONE_LINK, &[0, 1], &[0], &[1], ended(66_001, 1)),
+        (ONE_LINK, &[0, 1], &[0, 0], &[1], lost(66_001, 1)),
+        (ONE_LINK, &[0, 1], &[2], &[1], lost(66_000, 0)),
+        (TRIANGLE, &[0, 2, 4], &[0, 2], &[1; 3], ended(99_002, 2)),
+        (TRIANGLE, &[0, 2, 4], &[0, 3], &[1; 3], lost(99_001, 1)),
+        (TAILED, &[0, 2, 4], &[6], &[1; 4], ended(99_001, 3)),
+        (TAILED, &[0, 2, 4], &[6], &[1, 1, 1, 0], lost(99_000, 0)),
+    ];
+    for (listing, round, more, states, run) in cases {
+        let labels = [round.repeat(33_000), more.to_vec()].concat();
+        assert_eq!(calls::run(listing, 0, &labels, states), Ok(*run));
+        assert_eq!(run.hops + usize::from(!run.ended), labels.len());
+    }
+    // Around the most that two bytes count.
+    let turns = [0, 1].repeat(33_000);
+    for hops in 65_530..65_540 {
+        let last = hops % 2;
+        let run = calls::run(ONE_LINK, 0, &turns[..hops], &[1]);
+        assert_eq!(run, Ok(ended(hops, last)));
+        let mut labels = turns[..=hops].to_vec();
+        labels[hops] ^= 1;
+        let run = calls::run(ONE_LINK, 0, &labels, &[1]);
+        assert_eq!(run, Ok(lost(hops, last)));
+    }
+    // The trail of a plant drawn by chance, again and again.
+    let mut chance = Chance::new(11);
+    for plant in plants(11, 60, 2) {
+        let plain = Plain::new(&plant);
+        let listing = make::listing_of(&plant);
+        let (used, trail) = (plain.used(), trail_vec(&listing));
+        if trail.is_empty() {
+            continue;
+        }
+        let states = vec![1; plain.links.len()];
+        let mut labels = trail.repeat(1 + 70_000 / trail.len());
+        let run = calls::run(&listing, plant.start, &labels, &states);
+        assert_eq!(run, Ok(ended(labels.len(), plain.start)));
+        labels.extend(stray(&mut chance, &plain, &used, plain.start));
+        let run = calls::run(&listing, plant.start, &labels, &states);
+        let wanted = plain_run(&plain, &used, plain.start, &labels, &states);
+        assert_eq!(run, Ok(wanted));
+    }
+}
+
+/// Full checks and probes from every switch: by the packet rule, and by the
+/// ring's first label over a broken link.
+#[test]
+fn runs_from_every_switch() {
+    let mut chance = Chance::new(12);
+    for plant in plants(12, 250, 1) {
+        let plain = Plain::new(&plant);
+        let listing = make::listing_of(&plant);
+        let (used, trail) = (plain.used(), trail_vec(&listing));
+        let links = plain.links.len();
+        let both = vec![true; used.len()];
+        for switch in 0..plain.switches {
+            let (ring, order) = plain.ring(&trail, switch);
+            let mut states = vec![1; links];
+            for _ in 0..chance.below(3).min(links) {
+                states[chance.below(links)] = 0;
+            }
+            // The labels before the first one over a broken link.
+            let whole = ring
+                .iter()
+                .take_while(|label| states[usize::from(*label / 2)] != 0)
+                .count();
+            let run = calls::full_check(&listing, switch as u8, &trail, &states).unwrap();
+            assert_eq!(run, plain_run(&plain, &used, switch, &ring, &states));
+            assert_eq!(run.hops, whole);
+            assert_eq!(run.ended, run.hops == ring.len());
+            assert!(!run.ended || run.last == switch);
+
+            for m in 1..=links {
+                let state = if m == links {
+                    Search::Checking(links as u16)
                 } else {
-                    chance.of(&out)
+                    Search::Halving(m as u16, m as u16 + 1)
                 };
-                labels.push(label as u16);
-                if label < 2 * links {
-                    at = plain.to(label);
+                let probe =
+                    calls::run_probe(&listing, switch as u8, &trail, &states, state).unwrap();
+                if m == links {
+                    assert_eq!(probe, run);
+                    continue;
+                }
+                let crossing = |label: &u16| usize::from(label / 2) == order[m - 1];
+                let out = &ring[..=ring.iter().position(crossing).unwrap()];
+                let back: Vec<u16> = out.iter().rev().map(|label| label ^ 1).collect();
+                let labels = [out, &back].concat();
+                assert_eq!(probe, plain_run(&plain, &both, switch, &labels, &states));
+                assert_eq!(probe.ended, probe.hops == labels.len());
+                match probe.fate() {
+                    Fate::Home => assert_eq!((probe.hops, probe.last), (2 * out.len(), switch)),
+                    // Lost on its way out, where the full check is lost too.
+                    Fate::Lost => {
+                        assert!(probe.hops < out.len());
+                        assert_eq!(probe, run);
+                    }
                 }
             }
-            let wanted = plain_run(&plain, &used, switch, &labels, &states);
-            assert_eq!(
-                calls::run(&listing, switch as u8, &labels, &states).unwrap(),
-                wanted.map_or(Fate::Lost, Fate::Ended)
-            );
         }
     }
 }
@@ -555,9 +754,8 @@ fn probes_and_first_broken_link() {
             }
             let first = order.iter().position(|link| states[*link] == 0);
             let whole = calls::full_check(&listing, switch as u8, &trail, &states).unwrap();
-            let home = Fate::Ended(switch);
-            let fate = |is_home| if is_home { home } else { Fate::Lost };
-            assert_eq!(whole, fate(first.is_none()));
+            let fate = |is_home| if is_home { Fate::Home } else { Fate::Lost };
+            assert_eq!(whole.fate(), fate(first.is_none()));
 
             // Probe m is home if none of the first m links is broken.
             let place = packet::place(&net, &trail, switch);
@@ -581,8 +779,8 @@ fn probes_and_first_broken_link() {
                 assert!(one.is_empty() || one[0] == trail[place]);
                 let by_rule = plain_run(&plain, &rules, switch, &labels, &states);
                 let run = packet::run_probe(&net, &trail, switch, &in_order, m, &states);
-                assert_eq!(run, by_rule.map_or(Fate::Lost, Fate::Ended));
-                assert_eq!(run, fate(first.is_none_or(|first| first >= m)));
+                assert_eq!(run, by_rule);
+                assert_eq!(run.fate(), fate(first.is_none_or(|first| first >= m)));
             }
 
             // A search with true fates names the first broken link.
@@ -598,8 +796,9 @@ fn probes_and_first_broken_link() {
                 let wanted = packet::outward(&net, &trail, place, &in_order, usize::from(m));
                 assert_eq!((one, two), wanted);
                 let run = calls::run_probe(&listing, switch as u8, &trail, &states, state).unwrap();
-                state = state.give(run == home).unwrap();
-                list.extend([0, if run == home { 1 } else { 2 }]);
+                let home = run.fate() == Fate::Home;
+                state = state.give(home).unwrap();
+                list.extend([0, if home { 1 } else { 2 }]);
             }
             let named = calls::link_named(&listing, switch as u8, &trail, state).unwrap();
             match first {
@@ -688,7 +887,7 @@ fn refusals_in_order() {
     let trail = trail_vec(TRIANGLE);
     let wrong = [0, 2, 5];
     let (few, enough) = ([1, 1], [1, 1, 1]);
-    let (bad, ended) = (Search::Checking(2), Search::Down(1));
+    let (bad, over) = (Search::Checking(2), Search::Down(1));
     let probe = |listing: &[u8], switch, trail: &[u16], states: &[u8], state| {
         number(calls::run_probe(listing, switch, trail, states, state))
     };
@@ -697,7 +896,7 @@ fn refusals_in_order() {
     assert_eq!(probe(TRIANGLE, 2, &wrong, &few, bad), 12);
     assert_eq!(probe(TRIANGLE, 2, &trail, &few, bad), 13);
     assert_eq!(probe(TRIANGLE, 2, &trail, &enough, bad), 14);
-    assert_eq!(probe(TRIANGLE, 2, &trail, &enough, ended), 15);
+    assert_eq!(probe(TRIANGLE, 2, &trail, &enough, over), 15);
     let go = Search::Checking(3);
     assert_eq!(probe(TRIANGLE, 2, &trail, &enough, go), 0);
     assert_eq!(number(calls::run(TRIANGLE, 3, &[], &few)), 11);
@@ -709,13 +908,13 @@ fn refusals_in_order() {
     assert_eq!(number(calls::order(TRIANGLE, 0, &wrong)), 12);
     assert_eq!(number(calls::outward(TRIANGLE, 0, &wrong, bad)), 12);
     assert_eq!(number(calls::outward(TRIANGLE, 0, &trail, bad)), 14);
-    assert_eq!(number(calls::outward(TRIANGLE, 0, &trail, ended)), 15);
+    assert_eq!(number(calls::outward(TRIANGLE, 0, &trail, over)), 15);
     assert_eq!(number(calls::link_named(TRIANGLE, 0, &trail, bad)), 14);
     assert_eq!(number(calls::new_search(TRIANGLE, 3)), 11);
     assert_eq!(number(calls::perform(TRIANGLE, 3, &[])), 11);
     // No link, no trail, no probe.
     assert_eq!(calls::new_search(&[0], 0), Ok(Search::AllUp));
-    assert_eq!(calls::full_check(&[0], 0, &[], &[]), Ok(Fate::Ended(0)));
+    assert_eq!(calls::full_check(&[0], 0, &[], &[]), Ok(ended(0, 0)));
     assert_eq!(probe(&[0], 0, &[], &[], Search::AllUp), 15);
     assert_eq!(probe(&[0], 0, &[], &[], Search::Checking(0)), 14);
 }
@@ -1044,6 +1243,10 @@ fn case_lines() {
     let sum = |numbers: &[u32]| Sum::of(numbers.iter().copied()).to_string();
     let on = |call| Case::new(call).string(TRIANGLE);
     let at = |call| on(call).byte(1).labels(&trail);
+    let long = |switch, first: &[u16], times, more: &[u16], states: &[u8]| {
+        let case = on(21).byte(switch).labels(first).word(times);
+        case.labels(more).string(states)
+    };
     let plant = listing::read(TRIANGLE).unwrap();
     let wide: Vec<u32> = (0..14).map(|place| u32::from(prefilled(place))).collect();
     let mut written = wide.clone();
@@ -1077,21 +1280,24 @@ fn case_lines() {
         (on(6).word(2), format!("refused 10 {}", sum(&wide[..2]))),
         (
             on(7).byte(1).labels(&[2, 4]).string(&[1; 3]),
-            "ended".into(),
+            "ended 2 0".into(),
         ),
-        (on(7).byte(0).labels(&[2]).string(&[1; 3]), "lost".into()),
-        (at(8).string(&[1, 2, 255]), "returned".into()),
-        (at(8).string(&[0, 1, 1]), "lost".into()),
+        (
+            on(7).byte(0).labels(&[0, 0]).string(&[1; 3]),
+            "lost 1 1".into(),
+        ),
+        (at(8).string(&[1, 2, 255]), "returned 3 1".into()),
+        (at(8).string(&[0, 1, 1]), "lost 2 0".into()),
         (at(9), sum(&[1, 2, 0])),
         (at(10).search(Search::Checking(3)), sum(&[2, 4, 0])),
         (at(10).search(Search::Halving(1, 3)), sum(&[2, 4])),
         (
             at(11).string(&[0, 1, 1]).search(Search::Halving(1, 3)),
-            "returned".into(),
+            "returned 4 1".into(),
         ),
         (
             at(11).string(&[1, 1, 0]).search(Search::Halving(1, 3)),
-            "lost".into(),
+            "lost 1 2".into(),
         ),
         (at(12).search(Search::Down(3)), "link 0".into()),
         (at(12).search(Search::AllUp), "none".into()),
@@ -1136,8 +1342,45 @@ fn case_lines() {
         ),
         (Case::new(20).word(9), "4".into()),
         (Case::new(20).word(0xffff), "8".into()),
+        (
+            long(0, &trail, 30_000, &[0], &[1; 3]),
+            "ended 90001 1".into(),
+        ),
+        (
+            long(0, &trail, 30_000, &[1], &[1; 3]),
+            "lost 90000 0".into(),
+        ),
+        (long(0, &[0, 2], 2, &[], &[1; 3]), "lost 2 2".into()),
+        (long(1, &[9], 0, &[2], &[1; 3]), "ended 1 2".into()),
+        (long(2, &[], 0xffff, &[], &[1; 3]), "ended 0 2".into()),
+        (long(3, &trail, 0xffff, &[], &[]), "refused 11".into()),
+        (long(0, &trail, 0xffff, &[], &[1, 1]), "refused 13".into()),
     ];
     for (case, answer) in cases {
         assert_eq!(line(&case), answer + "\n", "{:?}", case.bytes);
+    }
+}
+
+/// The line of a long run is that of the run with all its labels.
+#[test]
+fn long_run_lines() {
+    let mut chance = Chance::new(13);
+    for plant in plants(13, 400, 0) {
+        let plain = Plain::new(&plant);
+        let listing = make::listing_of(&plant);
+        let used = plain.used();
+        let switch = chance.below(plain.switches);
+        let first = stray(&mut chance, &plain, &used, switch);
+        let more = stray(&mut chance, &plain, &used, switch);
+        let states = vec![1; plain.links.len()];
+        for times in [0, 1, 2, 5] {
+            let labels = [first.repeat(times), more.clone()].concat();
+            let head = |call| Case::new(call).string(&listing).byte(switch as u8);
+            let long = head(21).labels(&first).word(times).labels(&more);
+            assert_eq!(
+                line(&long.string(&states)),
+                line(&head(7).labels(&labels).string(&states))
+            );
+        }
     }
 }

@@ -1,4 +1,5 @@
-//! Second implementation of the network planner, made from document 01 and a list of calls.
+//! Second implementation of the network planner, made from document 01, order 1
+//! of document 02 and a list of calls.
 //!
 //! - [`plant`]: plant values, their limits and the refusals;
 //! - [`listing`]: the listing's reader and writer;

@@ -5,8 +5,9 @@
 
 use reference::calls;
 use reference::cases::{Answerer, Case, NAMES};
-use reference::make::{self, Chance};
+use reference::make::{self, Chance, Sketch};
 use reference::net::Net;
+use reference::packet::{self, Order};
 use reference::plant::Plant;
 use reference::search::Search;
 use reference::trail::Trail;
@@ -16,13 +17,22 @@ use std::path::Path;
 use std::process::ExitCode;
 
 const SEED: u64 = 1;
-const COUNT: usize = 18_000;
+/// The first cases are of every call but the long run, those after them of
+/// packet runs alone, and any more are of both kinds.
+const FIRST: usize = 18_000;
+const RUNS: usize = 1_000;
+const COUNT: usize = FIRST + RUNS;
 
 const SWITCHES: usize = Plant::MAX_SWITCHES;
 const LINKS: usize = Plant::MAX_LINKS;
 
 /// The longest trail that is lent in a case drawn by chance.
 const LENT: usize = 300;
+
+/// The most labels of a long run.
+const MOST_LABELS: usize = 131_072;
+/// The most times that its first list is repeated.
+const MOST_TIMES: usize = 65_535;
 
 /// Writes cases, answers and the counts of both.
 struct Out {
@@ -277,31 +287,37 @@ fn search(chance: &mut Chance, links: usize, ended: usize) -> Search {
     }
 }
 
-/// Labels for a packet that is no probe.
-fn labels(chance: &mut Chance, subject: &Subject) -> (u8, Vec<u16>) {
-    let plant = &subject.plant;
-    let mut at = switch(chance, plant);
-    let begin = at;
+/// A walk of so many hops from a switch, over arcs in use or over any arcs;
+/// shorter where no arc leads on.
+fn walk(chance: &mut Chance, net: &Net, begin: u8, hops: usize, any: bool) -> Vec<u16> {
+    let mut at = usize::from(begin);
     let mut labels = Vec::new();
-    let Ok(net) = Net::new(plant.clone()) else {
-        return (begin, labels);
-    };
-    // A walk over arcs in use, at times over any arcs.
-    let any = chance.percent(15);
-    let most = chance.of(&[0, 1, 3, 8, 20, 40]);
-    for _ in 0..chance.below(most + 1) {
-        let out: Vec<u16> = (0..2 * plant.links)
-            .filter(|label| {
-                net.ends(*label).0 == usize::from(at) && (any || net.used[usize::from(*label)])
-            })
+    for _ in 0..hops {
+        let out: Vec<u16> = (0..2 * net.plant.links)
+            .filter(|label| net.ends(*label).0 == at && (any || net.used[usize::from(*label)]))
             .collect();
         if out.is_empty() {
             break;
         }
         let label = chance.of(&out);
         labels.push(label);
-        at = net.ends(label).1 as u8;
+        at = net.ends(label).1;
     }
+    labels
+}
+
+/// Labels for a packet that is no probe.
+fn labels(chance: &mut Chance, subject: &Subject) -> (u8, Vec<u16>) {
+    let plant = &subject.plant;
+    let begin = switch(chance, plant);
+    let Ok(net) = Net::new(plant.clone()) else {
+        return (begin, Vec::new());
+    };
+    // A walk over arcs in use, at times over any arcs.
+    let any = chance.percent(15);
+    let most = chance.of(&[0, 1, 3, 8, 20, 40]);
+    let hops = chance.below(most + 1);
+    let mut labels = walk(chance, &net, begin, hops, any);
     if chance.percent(10) && subject.trail.len() <= LENT {
         labels = subject.trail.clone();
         let from = if chance.percent(60) {
@@ -869,18 +885,529 @@ fn about(chance: &mut Chance, call: u8, subject: &Subject) -> Case {
     }
 }
 
-/// How often each call is drawn, from call 1.
-const WEIGHTS: [usize; NAMES.len() - 1] =
-    [14, 9, 7, 5, 5, 9, 9, 7, 6, 8, 9, 7, 4, 2, 3, 6, 2, 7, 7, 1];
+/// A joined plant that packets run over.
+struct Course {
+    subject: Subject,
+    net: Net,
+}
 
-fn make(folder: &Path, seed: u64, most: usize) -> io::Result<Out> {
+impl Course {
+    fn new(plant: Plant) -> io::Result<Course> {
+        let net = Net::new(plant.clone()).map_err(|_| io::Error::other("a plant apart"))?;
+        Ok(Course {
+            subject: Subject::new(plant),
+            net,
+        })
+    }
+
+    fn switches(&self) -> u8 {
+        self.subject.plant.switches
+    }
+
+    /// The ring from a switch: a closed walk.
+    fn ring(&self, begin: u8) -> Vec<u16> {
+        let trail = &self.subject.trail;
+        let place = packet::place(&self.net, trail, usize::from(begin));
+        let (rest, front) = packet::ring(trail, place);
+        [rest, front].concat()
+    }
+
+    /// The links by first crossing from a switch.
+    fn order(&self, begin: u8) -> Vec<usize> {
+        let order = Order::new(&self.net, &self.ring(begin), 0);
+        order.links().iter().copied().map(usize::from).collect()
+    }
+
+    fn head(&self, call: u8, begin: u8) -> Case {
+        Case::new(call).string(&self.subject.listing).byte(begin)
+    }
+
+    fn run(&self, begin: u8, labels: &[u16], states: &[u8]) -> Case {
+        self.head(7, begin).labels(labels).string(states)
+    }
+
+    fn full_check(&self, begin: u8, states: &[u8]) -> Case {
+        let case = self.head(8, begin).labels(&self.subject.trail);
+        case.string(states)
+    }
+
+    fn probe(&self, begin: u8, states: &[u8], state: Search) -> Case {
+        let case = self.head(11, begin).labels(&self.subject.trail);
+        case.string(states).search(state)
+    }
+
+    fn long(&self, begin: u8, round: &[u16], times: usize, more: &[u16], states: &[u8]) -> Case {
+        long(&self.subject.listing, begin, round, times, more, states)
+    }
+
+    /// All links up.
+    fn up(&self, chance: &mut Chance) -> Vec<u8> {
+        (0..self.subject.links())
+            .map(|_| chance.of(&[1, 1, 1, 2, 128, 255]))
+            .collect()
+    }
+
+    /// All links up but some.
+    fn down(&self, chance: &mut Chance, links: &[usize]) -> Vec<u8> {
+        let mut states = self.up(chance);
+        for link in links {
+            states[*link] = 0;
+        }
+        states
+    }
+
+    /// Changes a walk over arcs in use, or the states, so that the packet is
+    /// lost: 0 at its first label, 1 about its middle, 2 at its last. Says
+    /// whether it can be lost so.
+    fn lose(
+        &self,
+        chance: &mut Chance,
+        begin: u8,
+        labels: &mut Vec<u16>,
+        states: &mut [u8],
+        (third, loss): (usize, Loss),
+    ) -> bool {
+        let net = &self.net;
+        let links = net.plant.links;
+        let place = third * labels.len().saturating_sub(1) / 2;
+        let at = match place {
+            0 => usize::from(begin),
+            _ => net.ends(labels[place - 1]).1,
+        };
+        let wrong: Vec<u16> = match loss {
+            Loss::NoRule => (0..2 * links)
+                .filter(|label| net.ends(*label).0 == at && !net.used[usize::from(*label)])
+                .collect(),
+            Loss::OtherSwitch => net
+                .used_labels()
+                .filter(|label| net.ends(*label).0 != at)
+                .collect(),
+            Loss::PastLinks => vec![2 * links, 2 * links + 1, 2 * LINKS as u16, 0x8000, 0xffff],
+            Loss::Down => {
+                // Where a link is crossed for the first time.
+                let firsts: Vec<usize> = (0..labels.len())
+                    .filter(|place| {
+                        let link = labels[*place] / 2;
+                        labels[..*place].iter().all(|label| label / 2 != link)
+                    })
+                    .collect();
+                if firsts.is_empty() {
+                    return false;
+                }
+                let place = firsts[third * (firsts.len() - 1) / 2];
+                if third == 2 {
+                    labels.truncate(place + 1);
+                }
+                states[usize::from(labels[place] / 2)] = 0;
+                return true;
+            }
+        };
+        if wrong.is_empty() {
+            return false;
+        }
+        let label = chance.of(&wrong);
+        if labels.is_empty() {
+            labels.push(label);
+        } else if third < 2 && chance.percent(50) {
+            // The labels after it would lead on without it.
+            labels.insert(place, label);
+        } else {
+            labels[place] = label;
+        }
+        true
+    }
+}
+
+/// A long run: the first list so many times, or as often as can be, and then
+/// the second.
+fn long(
+    listing: &[u8],
+    begin: u8,
+    round: &[u16],
+    times: usize,
+    more: &[u16],
+    states: &[u8],
+) -> Case {
+    let most = (MOST_LABELS - more.len()).checked_div(round.len());
+    Case::new(21)
+        .string(listing)
+        .byte(begin)
+        .labels(round)
+        .word(times.min(most.unwrap_or(times)))
+        .labels(more)
+        .string(states)
+}
+
+/// Why a packet is lost at a label.
+#[derive(Clone, Copy)]
+enum Loss {
+    NoRule,
+    OtherSwitch,
+    PastLinks,
+    Down,
+}
+
+const LOSSES: [Loss; 4] = [Loss::NoRule, Loss::OtherSwitch, Loss::PastLinks, Loss::Down];
+
+/// A search state that wants probe m.
+fn wanting(chance: &mut Chance, links: usize, m: usize) -> Search {
+    if m == links {
+        return Search::Checking(links as u16);
+    }
+    let reach = chance.below(m.min(links - m));
+    let more = if reach == 0 { 1 } else { chance.below(2) };
+    Search::Halving((m - reach) as u16, (m + reach + more) as u16)
+}
+
+/// Small plants of each kind.
+fn kinds(chance: &mut Chance) -> io::Result<Vec<Course>> {
+    let ring_with_tails = {
+        let mut sketch = make::cycle(5);
+        sketch.pairs.extend([(0, 5), (5, 6), (2, 7)]);
+        Sketch {
+            switches: 8,
+            ..sketch
+        }
+    };
+    let two_rings = Sketch {
+        switches: 6,
+        pairs: vec![(0, 1), (1, 2), (2, 0), (2, 3), (3, 4), (4, 5), (5, 3)],
+    };
+    let parallel = Sketch {
+        switches: 4,
+        pairs: vec![(0, 1), (0, 1), (1, 2), (2, 3), (3, 2), (2, 3)],
+    };
+    let sketches = [
+        ring_with_tails,
+        make::tree(chance, 6),
+        parallel,
+        make::exact(chance, 5, 10),
+        two_rings,
+        make::table_one(),
+    ];
+    sketches
+        .iter()
+        .map(|sketch| Course::new(sketch.mixed(chance)))
+        .collect()
+}
+
+/// The cases of packet runs that do not wait for chance.
+fn fixed_runs(chance: &mut Chance, out: &mut Out) -> io::Result<()> {
+    fixed_long_runs(chance, out)?;
+
+    // Free labels: from every switch, and lost in each way.
+    for round in 0..2 {
+        for course in kinds(chance)? {
+            for begin in 0..course.switches() {
+                let hops = chance.within(1, 9);
+                let labels = walk(chance, &course.net, begin, hops, round == 1);
+                let mut states = course.up(chance);
+                if round == 1 {
+                    states.push(0);
+                }
+                out.put(course.run(begin, &labels, &states))?;
+                if round == 0 {
+                    states.fill(chance.of(&[0, 1]));
+                    out.put(course.run(begin, &[], &states))?;
+                }
+            }
+            let mut begin = chance.below(usize::from(course.switches())) as u8;
+            for third in 0..3 {
+                for loss in LOSSES {
+                    begin = (begin + 1) % course.switches();
+                    let hops = chance.within(3, 12);
+                    let mut labels = walk(chance, &course.net, begin, hops, false);
+                    let mut states = course.up(chance);
+                    let lost = (third, loss);
+                    if course.lose(chance, begin, &mut labels, &mut states, lost) {
+                        out.put(course.run(begin, &labels, &states))?;
+                    }
+                }
+            }
+            // The trail from its start and from another switch.
+            let start = course.subject.plant.start;
+            for begin in [start, (start + 1) % course.switches()] {
+                let states = course.up(chance);
+                out.put(course.run(begin, &course.subject.trail, &states))?;
+            }
+        }
+    }
+
+    // The full check: every link down in turn, two, none, and all.
+    for course in kinds(chance)? {
+        let links = course.subject.links();
+        let start = course.subject.plant.start;
+        for begin in [start, (start + 1) % course.switches()] {
+            let order = course.order(begin);
+            for link in &order {
+                let states = course.down(chance, &[*link]);
+                out.put(course.full_check(begin, &states))?;
+            }
+            let two = [order[links / 2], order[links - 1]];
+            let mut states = course.down(chance, &two);
+            out.put(course.full_check(begin, &states))?;
+            // A byte too many.
+            states.push(1);
+            out.put(course.full_check(begin, &states))?;
+            let mut states = course.up(chance);
+            out.put(course.full_check(begin, &states))?;
+            states.push(0);
+            out.put(course.full_check(begin, &states))?;
+            out.put(course.full_check(begin, &vec![0; links]))?;
+        }
+    }
+
+    // Every probe: its own link down, the next one, another, two, and none.
+    for course in kinds(chance)? {
+        let links = course.subject.links();
+        let mut begin = course.subject.plant.start;
+        for m in 1..=links {
+            let order = course.order(begin);
+            let other = chance.below(links);
+            let mut downs = vec![vec![m - 1], vec![other], vec![], vec![other, m - 1]];
+            if m < links {
+                downs.push(vec![m]);
+            }
+            for places in downs {
+                let down: Vec<usize> = places.iter().map(|place| order[*place]).collect();
+                let mut states = course.down(chance, &down);
+                if chance.percent(20) {
+                    states.push(chance.of(&[0, 1]));
+                }
+                let state = wanting(chance, links, m);
+                out.put(course.probe(begin, &states, state))?;
+            }
+            begin = (begin + 1) % course.switches();
+        }
+    }
+    // Every probe with every link down.
+    for sketch in [make::tree(chance, 5), make::cycle(4)] {
+        let course = Course::new(sketch.mixed(chance))?;
+        let links = course.subject.links();
+        let begin = chance.below(usize::from(course.switches())) as u8;
+        for m in 1..=links {
+            for link in course.order(begin) {
+                let states = course.down(chance, &[link]);
+                let state = wanting(chance, links, m);
+                out.put(course.probe(begin, &states, state))?;
+            }
+        }
+    }
+
+    // Many hops: long ways round, and dense plants.
+    let dense = make::exact(chance, 20, 60);
+    for sketch in [make::long(20, 12), make::long(32, 20), dense] {
+        let course = Course::new(sketch.mixed(chance))?;
+        let links = course.subject.links();
+        let begin = chance.below(usize::from(course.switches())) as u8;
+        let order = course.order(begin);
+        for (m, down) in [
+            (links, links - 1),
+            (links - 1, links - 1),
+            (links - 1, links - 2),
+            (links / 2, links / 2),
+            (links / 2, links / 2 - 1),
+        ] {
+            let states = course.down(chance, &[order[down]]);
+            let state = wanting(chance, links, m);
+            out.put(course.probe(begin, &states, state))?;
+        }
+        let states = course.up(chance);
+        out.put(course.full_check(begin, &states))?;
+    }
+    // A probe that is home after many thousands of hops.
+    let course = Course::new(make::long(SWITCHES, LINKS - (SWITCHES - 1)).plain())?;
+    let states = course.down(chance, &[course.order(40)[LINKS - 1]]);
+    out.put(course.probe(40, &states, wanting(chance, LINKS, LINKS - 1)))
+}
+
+/// The long runs that do not wait for chance.
+fn fixed_long_runs(chance: &mut Chance, out: &mut Out) -> io::Result<()> {
+    const ONE_LINK: &[u8] = &[3, 2, 1, 0, 2, 1];
+    const TRIANGLE: &[u8] = &[3, 3, 3, 0, 2, 1, 3, 1, 2, 3, 2, 0];
+    const TAILED: &[u8] = &[3, 4, 4, 0, 2, 1, 3, 1, 2, 3, 2, 0, 3, 0, 3];
+    let up = &[1; 4];
+
+    // To and fro over one link; the totals around what two bytes count, and
+    // the most.
+    for more in [&[][..], &[0], &[1], &[2], &[0, 1], &[0, 0], &[0, 0xffff]] {
+        for times in [35_000, 32_767, 32_768, MOST_TIMES] {
+            out.put(long(ONE_LINK, 0, &[0, 1], times, more, up))?;
+        }
+    }
+    for (begin, round, states) in [(1, [1, 0], &[1]), (1, [0, 1], &[1]), (0, [0, 1], &[0])] {
+        out.put(long(ONE_LINK, begin, &round, 35_000, &[1, 0, 0], states))?;
+    }
+    // Round the triangle: 21,845 times are 65,535 labels.
+    for more in [&[][..], &[0], &[1], &[0, 2], &[0, 2, 5], &[0, 6]] {
+        for times in [21_845, 21_844, 43_690] {
+            out.put(long(TRIANGLE, 0, &[0, 2, 4], times, more, up))?;
+        }
+    }
+    out.put(long(TRIANGLE, 1, &[2, 4, 0], 22_000, &[2], up))?;
+    out.put(long(TRIANGLE, 2, &[4, 0, 2], 40_000, &[4, 1], up))?;
+    // A link that only the second list crosses.
+    for (more, state) in [(&[6][..], 1), (&[6], 0), (&[6, 7], 1), (&[0, 2, 4, 6], 0)] {
+        let states = [1, 1, 1, state];
+        out.put(long(TAILED, 0, &[0, 2, 4], 30_000, more, &states))?;
+    }
+    // A link down in the first list.
+    for link in 0..3 {
+        let mut states = [1; 3];
+        states[link] = 0;
+        out.put(long(TRIANGLE, 0, &[0, 2, 4], 30_000, &[0], &states))?;
+    }
+    // A first list that is no closed walk, once, twice and often.
+    for round in [&[0][..], &[0, 2], &[0, 2, 4, 0], &[0, 0], &[6]] {
+        for times in [1, 2, 30_000] {
+            out.put(long(TRIANGLE, 0, round, times, &[4, 0], up))?;
+        }
+    }
+    // No times, and no labels.
+    for (round, times) in [(&[0, 2, 4][..], 0), (&[9], 0), (&[], 0), (&[], MOST_TIMES)] {
+        for more in [&[][..], &[2, 4], &[0]] {
+            out.put(long(TRIANGLE, 1, round, times, more, up))?;
+        }
+    }
+    out.put(long(&[0], 0, &[], 7, &[], &[]))?;
+    out.put(long(&[0], 0, &[0], MOST_TIMES, &[], &[]))?;
+    out.put(long(&[0], 0, &[], 0, &[0xffff], &[]))?;
+
+    // The ring of each kind of plant, from its start and from another switch.
+    for course in kinds(chance)? {
+        let start = course.subject.plant.start;
+        for begin in [start, (start + 1) % course.switches()] {
+            let ring = course.ring(begin);
+            let times = chance.within(66_000, 120_000) / ring.len();
+            let states = course.up(chance);
+            let hops = chance.below(8);
+            let more = walk(chance, &course.net, begin, hops, false);
+            out.put(course.long(begin, &ring, times, &more, &states))?;
+            let lost = (chance.below(3), chance.of(&LOSSES[..3]));
+            let mut labels = more;
+            let mut states = states;
+            course.lose(chance, begin, &mut labels, &mut states, lost);
+            out.put(course.long(begin, &ring, times, &labels, &states))?;
+        }
+    }
+
+    // Each refusal, and several at once.
+    for listing in [
+        &[][..],
+        &[0x08],
+        &[0x01],
+        &[0x01, 0x01],
+        &[0x01, 0x00],
+        &[3, 2, 1, 0, 3, 2, 2],
+        &[3, 2, 1, 0, 0],
+        &[0x00, 0x00],
+        &[0x01, 0x40],
+    ] {
+        out.put(long(listing, 0, &[0, 1], 35_000, &[0], up))?;
+        out.put(long(listing, 255, &[], 0, &[], &[]))?;
+    }
+    for (begin, states) in [(3, 3), (255, 3), (3, 2), (0, 2), (2, 0)] {
+        let states = &up[..states];
+        out.put(long(TRIANGLE, begin, &[0, 2, 4], 30_000, &[0], states))?;
+        out.put(long(TRIANGLE, begin, &[], 0, &[], states))?;
+    }
+    Ok(())
+}
+
+/// One case of a packet run, drawn by chance.
+fn drawn_run(chance: &mut Chance) -> io::Result<Case> {
+    let call = chance.of(&[7, 7, 7, 8, 8, 11, 11, 11, 21, 21]);
+    if chance.percent(10) {
+        // With refusals.
+        return Ok(match call {
+            21 => drawn_long(chance),
+            _ => drawn(chance, call),
+        });
+    }
+    let sketch = loop {
+        let (switches, links) = limits(chance);
+        let sketch = make::joined(chance, switches, links);
+        if !sketch.pairs.is_empty() && trail_of(&sketch.plain()).len() <= LENT {
+            break sketch;
+        }
+    };
+    let course = Course::new(sketch.mixed(chance))?;
+    let links = course.subject.links();
+    let begin = chance.below(usize::from(course.switches())) as u8;
+    let lost = (chance.below(3), chance.of(&LOSSES));
+    let mut states = course.up(chance);
+    Ok(match call {
+        7 => {
+            let most = chance.of(&[2, 6, 12, 30]);
+            let hops = chance.below(most + 1);
+            let any = chance.percent(20);
+            let mut labels = walk(chance, &course.net, begin, hops, any);
+            if !any && chance.percent(75) {
+                course.lose(chance, begin, &mut labels, &mut states, lost);
+            }
+            course.run(begin, &labels, &states)
+        }
+        8 | 11 => {
+            let m = chance.within(1, links);
+            for _ in 0..chance.below(3) {
+                let near = chance.within(m - 1, m.min(links - 1));
+                let any = chance.below(links);
+                states[course.order(begin)[chance.of(&[near, any])]] = 0;
+            }
+            if chance.percent(20) {
+                states.push(chance.of(&[0, 1]));
+            }
+            if call == 8 {
+                course.full_check(begin, &states)
+            } else {
+                course.probe(begin, &states, wanting(chance, links, m))
+            }
+        }
+        _ => {
+            let ring = course.ring(begin);
+            let any = chance.below(MOST_LABELS + 1);
+            let total = chance.of(&[65_535, 65_536, 65_537, MOST_LABELS, any]);
+            let times = (total / ring.len()).min(MOST_TIMES);
+            let rest = (total - times * ring.len()).min(ring.len());
+            let mut more = ring[..rest].to_vec();
+            if chance.percent(60) {
+                course.lose(chance, begin, &mut more, &mut states, lost);
+            }
+            course.long(begin, &ring, times, &more, &states)
+        }
+    })
+}
+
+/// A long run of a subject that is at times apart or damaged.
+fn drawn_long(chance: &mut Chance) -> Case {
+    let subject = lending(chance, 50);
+    let (begin, round) = labels(chance, &subject);
+    let (_, more) = labels(chance, &subject);
+    let any = chance.below(MOST_TIMES + 1);
+    let times = chance.of(&[0, 1, 2, any]);
+    let states = states(chance, subject.links());
+    long(&subject.listing, begin, &round, times, &more, &states)
+}
+
+/// How often each call is drawn, from call 1; the long run is drawn apart.
+const WEIGHTS: [usize; NAMES.len() - 1] = [
+    14, 9, 7, 5, 5, 9, 9, 7, 6, 8, 9, 7, 4, 2, 3, 6, 2, 7, 7, 1, 0,
+];
+
+/// One case of any call but the long run, drawn by chance.
+fn drawn_any(chance: &mut Chance) -> Case {
+    let call = 1 + chance.weighed(&WEIGHTS) as u8;
+    drawn(chance, call)
+}
+
+fn make(folder: &Path, seed: u64, count: usize) -> io::Result<Out> {
     std::fs::create_dir_all(folder)?;
     let mut out = Out {
         cases: BufWriter::new(File::create(folder.join("cases.in"))?),
         answers: BufWriter::new(File::create(folder.join("cases.expected"))?),
         answerer: Answerer::default(),
         line: Vec::new(),
-        most,
+        most: count.min(FIRST),
         count: 0,
         sizes: [0; 2],
         table: [[0; 18]; NAMES.len()],
@@ -888,8 +1415,22 @@ fn make(folder: &Path, seed: u64, most: usize) -> io::Result<Out> {
     let mut chance = Chance::new(seed);
     fixed(&mut chance, &mut out)?;
     while !out.full() {
-        let call = 1 + chance.weighed(&WEIGHTS) as u8;
-        let case = drawn(&mut chance, call);
+        out.put(drawn_any(&mut chance))?;
+    }
+    // Packet runs are drawn by a chance of their own.
+    let mut other = Chance::new(!seed);
+    out.most = count.min(COUNT);
+    fixed_runs(&mut other, &mut out)?;
+    while !out.full() {
+        out.put(drawn_run(&mut other)?)?;
+    }
+    out.most = count;
+    while !out.full() {
+        let case = if other.percent(5) {
+            drawn_run(&mut other)?
+        } else {
+            drawn_any(&mut chance)
+        };
         out.put(case)?;
     }
     out.cases.flush()?;

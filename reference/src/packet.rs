@@ -3,12 +3,34 @@
 use crate::net::Net;
 use crate::plant::Plant;
 
-/// What becomes of a packet.
+/// The two-way fate of a packet: of a probe, whether it is home.
 #[derive(Clone, Copy, Debug, PartialEq, Eq)]
 pub enum Fate {
-    /// Its list was empty at this switch.
-    Ended(usize),
+    Home,
     Lost,
+}
+
+/// Where a packet got to.
+#[derive(Clone, Copy, Debug, PartialEq, Eq)]
+pub struct Run {
+    /// Whether its list became empty; else it was lost.
+    pub ended: bool,
+    /// The labels before the first one that has no rule at the switch then
+    /// reached or whose link is down: all of them, if it ended.
+    pub hops: usize,
+    /// The switch last reached.
+    pub last: usize,
+}
+
+impl Run {
+    /// The two-way fate.
+    pub fn fate(self) -> Fate {
+        if self.ended {
+            Fate::Home
+        } else {
+            Fate::Lost
+        }
+    }
 }
 
 /// Whose rules a packet runs under.
@@ -28,20 +50,26 @@ pub fn run(
     switch: usize,
     labels: impl IntoIterator<Item = u16>,
     states: &[u8],
-) -> Fate {
-    let mut at = switch;
+) -> Run {
+    let mut run = Run {
+        ended: false,
+        hops: 0,
+        last: switch,
+    };
     for label in labels {
         let link = usize::from(label / 2);
         if link >= net.links() || (under == Under::Page && !net.used[usize::from(label)]) {
-            return Fate::Lost;
+            return run;
         }
         let (from, to) = net.ends(label);
-        if from != at || states[link] == 0 {
-            return Fate::Lost;
+        if from != run.last || states[link] == 0 {
+            return run;
         }
-        at = to;
+        run.hops += 1;
+        run.last = to;
     }
-    Fate::Ended(at)
+    run.ended = true;
+    run
 }
 
 /// The first hop of the trail that leaves the switch, 0 if there is none.
@@ -117,7 +145,8 @@ pub fn outward<'t>(
     }
 }
 
-/// Runs probe m, 1 to E, from a switch and its place.
+/// Runs probe m, 1 to E, from a switch and its place: the hops of the way
+/// back count on.
 pub fn run_probe(
     net: &Net,
     trail: &[u16],
@@ -125,7 +154,7 @@ pub fn run_probe(
     order: &Order,
     m: usize,
     states: &[u8],
-) -> Fate {
+) -> Run {
     let (one, two) = outward(net, trail, place(net, trail, switch), order, m);
     let out = one.iter().chain(two).copied();
     if m == net.links() {

@@ -3,6 +3,7 @@ use plant::Link;
 use plant::Plant;
 use search::Search;
 ghost use mathlib.Core.Path.{_≡_};
+ghost use Prim.Native.Nat.{_+_, _≤_};
 ghost use lib.ListN.{length};
 ghost use Rattle.io.specs.Counts.{Counts};
 
@@ -21,6 +22,13 @@ pub fn label_places() -> [u16; PLACES]
     ensures { λ r. do ⌜ (← ⟦PLACES⟧ .entry) ≡ length r ⌝ }
 {
     [0; PLACES]
+}
+
+// Places for the labels of a packet that is longer than any list.
+pub fn packet_places() -> [u16; 2 * PLACES]
+    ensures { λ r. do ⌜ (← ⟦PLACES⟧ .entry) + (← ⟦PLACES⟧ .entry) ≡ length r ⌝ }
+{
+    [0; 2 * PLACES]
 }
 
 // So many bytes on.
@@ -91,6 +99,37 @@ pub fn labels(s: &[u8], at: usize, places: &mut [u16]) -> usize
 
 pub fn past_labels(s: &[u8], at: usize) -> usize {
     past(s, past(s, at, 2), 2 * (number(s, at) as usize))
+}
+
+// A list of labels to the lent places from one of them on; the place after it, or the end of the places.
+fn copy(list: &[u16], places: &mut [u16], at: usize) -> usize
+    requires { ⌜ at ≤ length (now places) ⌝ }
+    ensures { λ r. ⌜ Counts r (now (places .exit)) ⌝ }
+{
+    let mut to = at;
+    let mut i: usize = 0;
+    while i < list.len() {
+        if places.len() <= to {
+            return to;
+        }
+        places[to] = list[i];
+        to += 1;
+        i += 1;
+    }
+    to
+}
+
+// The labels of the one list so many times over, and then those of the other, to the front of the lent places; how many these are, or as many as there is place for.
+pub fn packet(list: &[u16], times: u16, more: &[u16], places: &mut [u16]) -> usize
+    ensures { λ r. ⌜ Counts r (now (places .exit)) ⌝ }
+{
+    let mut at: usize = 0;
+    let mut i: u16 = 0;
+    while i < times {
+        at = copy(list, places, at);
+        i += 1;
+    }
+    copy(more, places, at)
 }
 
 pub fn search(s: &[u8], at: usize) -> Search {

@@ -9,11 +9,11 @@
 //  4 bridges         listing                                  checksum of a flag for each link
 //  5 rules           listing                                  checksum of the rules
 //  6 trail           listing, buffer length                   hops
-//  7 run             listing, switch, labels, states          ended or lost
-//  8 full check      listing, switch, trail, states           returned or lost
+//  7 run             listing, switch, labels, states          ended or lost, hops, last switch
+//  8 full check      listing, switch, trail, states           returned or lost, hops, last switch
 //  9 order           listing, switch, trail                   checksum of the links in order
 // 10 outward labels  listing, switch, trail, search           checksum of the labels
-// 11 probe wanted    listing, switch, trail, states, search   returned or lost
+// 11 probe wanted    listing, switch, trail, states, search   returned or lost, hops, last switch
 // 12 link named      listing, switch, trail, search           link and its number, none or open
 // 13 new search      listing, switch                          search
 // 14 ask             search                                   m
@@ -23,6 +23,8 @@
 // 18 rewrite         listing, buffer length                   length
 // 19 reread          plant, buffer length                     as of read
 // 20 allowance       links (two bytes)                        allowance
+// 21 long run        listing, switch, labels, times (two      as of run, with the labels so many times over and then
+//                    bytes), more labels, states              those of the second list
 //
 // A plant is its switches, links (two bytes) and start, a two-byte number of link places, and first end, second end and tag (two bytes) of each; the other link
 // places are zero. A refusal is the word `refused` and its number. The line of a call that is lent a buffer ends with the buffer's checksum after the call.
@@ -47,7 +49,7 @@ fn answer(s: &[u8], at: usize) -> usize {
     if call < 7 {
         return caseplans::answer(call, s, from);
     }
-    if call < 13 {
+    if call < 13 || call == 21 {
         return packets::answer(call, s, from);
     }
     if call == 18 || call == 19 {

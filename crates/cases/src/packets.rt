@@ -1,41 +1,70 @@
-// Calls 7 to 12: packets and probes. Each is given a listing, a switch and labels, and then arguments of its own.
+// Calls 7 to 12 and 21: packets and probes. Each is given a listing, a switch and labels, and then arguments of its own.
 use answers::Verdict;
 use caseform::checksum;
 use caseform::input;
 use caseform::show;
 use order::Order;
 use order::Span;
+use packet::End;
 use probing::Named;
 use probing::Outward;
-use probing::Probed;
 use probing::Ran;
 use search::Outcome;
 
+// A word, the hops made and the switch last reached.
+fn show_end(word: &[u8], e: End) {
+    show::word(word);
+    show::next(e.hops as u64);
+    show::next(e.last as u64);
+}
+
 fn run(listing: &[u8], switch: u8, labels: &[u16], s: &[u8], at: usize) -> usize {
     match probing::run(listing, switch, labels, input::string(s, at)) {
-        Ran::Ended => show::word(b"ended"),
-        Ran::Lost => show::word(b"lost"),
+        Ran::To(e) => {
+            if e.ended {
+                show_end(b"ended", e);
+            } else {
+                show_end(b"lost", e);
+            }
+        }
         Ran::Refused(k) => show::refusal(k),
     }
     input::past_string(s, at)
 }
 
-fn show_outcome(o: Outcome) {
+// The labels so many times over, and then those of another list.
+fn long_run(listing: &[u8], switch: u8, labels: &[u16], s: &[u8], at: usize) -> usize {
+    let second = input::past(s, at, 2);
+    let mut more = input::label_places();
+    let m = input::labels(s, second, &mut more);
+    let mut packet = input::packet_places();
+    let n = input::packet(labels, input::number(s, at), &more[..m], &mut packet);
+    run(
+        listing,
+        switch,
+        &packet[..n],
+        s,
+        input::past_labels(s, second),
+    )
+}
+
+fn show_outcome(o: Outcome, e: End) {
     match o {
-        Outcome::Returned => show::word(b"returned"),
-        Outcome::Lost => show::word(b"lost"),
+        Outcome::Returned => show_end(b"returned", e),
+        Outcome::Lost => show_end(b"lost", e),
     }
 }
 
-fn show_probed(p: Probed) {
-    match p {
-        Probed::Outcome(o) => show_outcome(o),
-        Probed::Refused(k) => show::refusal(k),
+// What a probe tells, by its outcome.
+fn show_probe(r: Ran) {
+    match r {
+        Ran::To(e) => show_outcome(probing::outcome_of(e), e),
+        Ran::Refused(k) => show::refusal(k),
     }
 }
 
 fn full_check(listing: &[u8], switch: u8, trail: &[u16], s: &[u8], at: usize) -> usize {
-    show_probed(probing::full_check(listing, switch, trail, input::string(s, at)));
+    show_probe(probing::full_check(listing, switch, trail, input::string(s, at)));
     input::past_string(s, at)
 }
 
@@ -74,7 +103,7 @@ fn outward(listing: &[u8], switch: u8, trail: &[u16], s: &[u8], at: usize) -> us
 fn run_probe(listing: &[u8], switch: u8, trail: &[u16], s: &[u8], at: usize) -> usize {
     let states = input::string(s, at);
     let from = input::past_string(s, at);
-    show_probed(probing::run_probe(listing, switch, trail, states, input::search(s, from)));
+    show_probe(probing::run_probe(listing, switch, trail, states, input::search(s, from)));
     input::past_search(s, from)
 }
 
@@ -102,6 +131,7 @@ fn answer_with(call: u8, listing: &[u8], switch: u8, labels: &[u16], s: &[u8], a
         }
         10 => outward(listing, switch, labels, s, at),
         11 => run_probe(listing, switch, labels, s, at),
+        21 => long_run(listing, switch, labels, s, at),
         _ => link_named(listing, switch, labels, s, at),
     }
 }

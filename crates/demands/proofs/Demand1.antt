@@ -33,6 +33,7 @@ demand-1 = record {
   order-quantity = λ rules spare. answers _;
   allowance = λ n. answers _;
   run = λ s x labels states. answers _;
+  outcome-of = λ e. answers _;
   full-check = λ s x w states. answers _;
   order-of-links = λ s x w. answers _;
   outward-labels = λ s x w q. answers _;

@@ -1,5 +1,5 @@
 -- What demand 2 says of packets, rules and injection. Assumes a sound connected plant where it speaks of its trail.
-use mathlib.Core.Path.{_≡_, refl}
+use mathlib.Core.Path.{_≡_, refl, _∙_}
 use mathlib.Core.Logic.{_↔_}
 use mathlib.Core.Bool.{Bool, true, false}
 use mathlib.Core.List.{List, _++_}
@@ -19,6 +19,7 @@ use Rattle.rings.specs.Ring.{readFrom, ring}
 use Rattle.rings.specs.Order.{nth, order}
 use Rattle.rings.specs.Probe.{upTo, back, outward, probe}
 use Rattle.rings.specs.Injection.{ringOf, orderOf, probeRules, probeOf, probeRun}
+use Rattle.rings.proofs.Packet.{run-none, run-label}
 use Rattle.rings.proofs.Ring as rings
 use Rattle.rings.proofs.Probe as probes
 use Rattle.rings.proofs.Rules.{all-rules}
@@ -28,10 +29,10 @@ use Rattle.demands.specs.Demands.{RunIs, RulesAre, InjectionIs}
 
 pub run-is : (rule : ℕ → ℕ → Bool) (up : ℕ → Bool) (hd : ℕ → ℕ) → RunIs rule up hd
 run-is rule up hd = record {
-  crosses = λ at n a w e f. rw (e, f) refl;
-  ends = λ at n. refl;
-  no-rule = λ at n a w e. rw e refl;
-  link-down = λ at n a w e. rw (e, and-comm (rule at a) false) refl;
+  crosses = λ at n a w e f. run-label rule up hd at n a w ∙ rw (e, f) refl;
+  ends = run-none rule up hd;
+  no-rule = λ at n a w e. run-label rule up hd at n a w ∙ rw e refl;
+  link-down = λ at n a w e. run-label rule up hd at n a w ∙ rw (e, and-comm (rule at a) false) refl;
 }
 
 -- a rule for each arc of a kind, at the switch that it leaves

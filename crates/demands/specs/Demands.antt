@@ -1,12 +1,11 @@
--- The three demands, each as one statement over the definitions that the contracts of the calls cite. Their proofs are in proofs/.
+-- The three demands, each as one statement over the definitions that the contracts of the calls cite, and the promises of document 02's orders. Their proofs are in proofs/.
 use mathlib.Core.Path.{_≡_}
-use mathlib.Core.Logic.{_↔_}
+use mathlib.Core.Logic.{_⊎_, _↔_}
 use mathlib.Core.Bool.{Bool, true, false}
 use mathlib.Core.List.{List, [], _∷_, _++_, map, flatten}
 use Prim.Native.Nat.{ℕ, suc, _+_, _*_, _/_, _^_, _≤_, _<_}
 use lib.Dec.{T}
-use lib.ListN.{length, take, drop}
-use Rattle.lists.specs.Tests.{choose}
+use lib.ListN.{length, getD, take, drop}
 use Rattle.lists.specs.Members.{In, memb, Distinct}
 use Rattle.lists.specs.Count.{count}
 use Rattle.lists.specs.Numbers.{range, keep}
@@ -22,31 +21,31 @@ use Rattle.walks.specs.Arcs.{tail, head}
 use Rattle.walks.specs.Graph.{Crosses, ClosedWalk, ClosedWalks, Bridge, bridge, liveLinks, bridges}
 use Rattle.walks.specs.ByLinks.{visitLinks}
 use Rattle.routes.specs.Meaning.{Fewest}
-use Rattle.rings.specs.Packet.{run}
+use Rattle.rings.specs.Packet.{End, leadsTo, run}
 use Rattle.rings.specs.Rules.{upBy, upByLink, inAll, allRules}
 use Rattle.rings.specs.Ring.{FirstHop}
 use Rattle.rings.specs.Order.{nth}
 use Rattle.rings.specs.Probe.{upTo, back}
-use Rattle.rings.specs.Injection.{placeOf, ringOf, orderOf, probeRun}
+use Rattle.rings.specs.Injection.{probeRules, placeOf, ringOf, orderOf, probeOf, probeRun}
 use Rattle.rings.specs.FirstDown.{FirstDown}
 use Rattle.table.specs.Rules.{tableWith}
 use Rattle.plan.specs.Plan.{Connected, visited, used, distanceOf, trailOf, ruleOf, rulesOf, inTable}
 use Rattle.plan.specs.Trails.{IsTrail}
 use Rattle.order.specs.declared.Span.{Span}
 use Rattle.order.specs.Span.{stretchOf, frontOf}
+use Rattle.packet.specs.Outcome.{outcomeOf}
 use Rattle.allowance.specs.Allowance.{allowance, clipped}
 use Rattle.quantity.specs.Quantity.{orderQuantity}
 use Rattle.search.specs.declared.Search.{Search}
 use Rattle.search.specs.declared.Search.the-variants.{AllUp, Down}
 use Rattle.search.specs.declared.Outcome.{Outcome}
-use Rattle.search.specs.declared.Outcome.the-variants.{Returned, Lost}
 use Rattle.search.specs.declared.Progress.{Progress}
-use Rattle.search.specs.Search.{newSearch, ended, ask, give}
+use Rattle.search.specs.Search.{newSearch, ended, wanted, ask, give}
 use Rattle.search.specs.Calls.{Call, perform, begun, TrueCalls}
 use Rattle.search.specs.Limit.{limit}
 use Rattle.planning.specs.Planning.{planning, planningAt}
 use Rattle.planner.specs.Calls.{rewriting, rewritten, rereading, summing, bridging, tabling, trailing, laidOut}
-use Rattle.probing.specs.Calls.{running, checking, ordering, outgoing, probing, naming, beginning, performing}
+use Rattle.probing.specs.Calls.{running, checking, ordering, outLabels, outgoing, probing, naming, beginning, performing}
 
 -- ---- demand 1: each call answers its result, or a refusal exactly under its condition, and a refusal leaves a lent buffer as it was
 
@@ -65,6 +64,7 @@ pub record Demand1 : Type 0 where
   pub allowance : (n : ℕ) → Answers (check [] (allowance (clipped n)))
   -- calls that are given a listing s and a switch x, with labels, link states, a lent trail w or a search q
   pub run : (s : List ℕ) (x : ℕ) (labels states : List ℕ) → Answers (running s x labels states)
+  pub outcome-of : (e : End) → Answers (check [] (outcomeOf e))
   pub full-check : (s : List ℕ) (x : ℕ) (w states : List ℕ) → Answers (checking s x w states)
   pub order-of-links : (s : List ℕ) (x : ℕ) (w : List ℕ) → Answers (ordering s x w)
   pub outward-labels : (s : List ℕ) (x : ℕ) (w : List ℕ) (q : Search) → Answers (outgoing s x w q)
@@ -191,9 +191,9 @@ NoneBroken p states = (l : ℕ) → T (live p l) → upBy states l ≡ false →
 
 -- injection switch x, and the states of the links, a byte for each
 module _ (p : Plant) (x : ℕ) (states : List ℕ) where
-  -- the outcome (fate) that probe m has by the packet rule: returned (home) if it has ended, and else lost
+  -- the outcome (fate) that probe m has by the packet rule
   unfoldable pub actualOutcome : ℕ → Outcome
-  actualOutcome m = choose (probeRun p (used p) (trailOf p) x (liveLinks p) (upByLink states) m .ended) Returned Lost
+  actualOutcome m = outcomeOf (probeRun p (used p) (trailOf p) x (liveLinks p) (upByLink states) m)
 
   -- every accepted outcome is true: the one that probe m has, the m that a call for a probe answers in the state that the outcome is given to
   abbrev pub AllTrue : List Call → Type 0
@@ -226,3 +226,41 @@ pub record Demand3 (s : List ℕ) (p : Plant) : Type 0 where
   pub begins : (x : ℕ) → x < p .switches → answer (beginning s x) ≡ given (newSearch (liveLinks p))
   pub performs : (x : ℕ) → x < p .switches → (cs : List Call) → answer (performing s x cs) ≡ given (perform (begun (liveLinks p)) cs)
   pub searches : (x : ℕ) → x < p .switches → (cs : List Call) → Searches p x cs (perform (begun (liveLinks p)) cs)
+
+-- ---- document 02, order 1: where the packet got to
+
+-- what the answer e of a run tells: of a packet from switch `at` with labels w, under these rules, by the labels that are up
+pub record GotTo (rule : ℕ → ℕ → Bool) (up : ℕ → Bool) (hd : ℕ → ℕ) (at : ℕ) (w : List ℕ) (e : End) : Type 0 where
+  -- "the hops made are the labels before the first one that has no rule at the switch then reached or whose link is down"
+  pub crossed : (i : ℕ) → i < e .hops → (rule (leadsTo hd at (take i w)) (getD w i 0) ≡ true) × (up (getD w i 0) ≡ true)
+  pub stopped : e .hops < length w → (rule (leadsTo hd at (take (e .hops) w)) (getD w (e .hops) 0) ≡ false) ⊎ (up (getD w (e .hops) 0) ≡ false)
+  pub most : e .hops ≤ length w
+  -- "the switch last reached" is where they lead
+  pub reached : e .last ≡ leadsTo hd at (take (e .hops) w)
+  -- the packet has ended exactly if they are all its labels
+  pub ended : (e .ended ≡ true) ↔ (e .hops ≡ length w)
+
+-- what the answer e of probe m tells, from injection switch x and by one byte for each link; `outLabels p x m` is its way out, for the full check the whole ring
+pub record ProbeGotTo (p : Plant) (x : ℕ) (states : List ℕ) (m : ℕ) (e : End) : Type 0 where
+  -- one that has returned is back at its switch, and "the way back counts on": as many hops as out; the full check has no way back
+  pub there-and-back : m < liveLinks p → e .ended ≡ true → e ≡ record { ended = true; hops = 2 * length (outLabels p x m); last = x }
+  pub round : m ≡ liveLinks p → e .ended ≡ true → e ≡ record { ended = true; hops = length (ringOf p (trailOf p) x); last = x }
+  -- one that is lost is lost on its way out, since it comes back over the links that it went out by
+  pub lost-out : e .ended ≡ false → (e .hops < length (outLabels p x m)) × (e .last ≡ leadsTo (head p) x (take (e .hops) (outLabels p x m)))
+  -- the label that it did not cross is of the first broken link in the order, which is the one that the search names
+  pub lost-at : e .ended ≡ false → (k : ℕ) × FirstDown (upBy states) (orderOf p (trailOf p) x) k × (nth (orderOf p (trailOf p) x) k ≡ getD (outLabels p x m) (e .hops) 0 / 2)
+
+-- for every listing that is read as a connected plant, and every one of its switches: what the calls that run a packet tell
+pub record PacketsTell (s : List ℕ) (p : Plant) (x : ℕ) : Type 0 where
+  -- whatever labels are up: with all labels of its way out crossed, a probe goes back from where they lead, and counts on from as many hops as they are
+  pub counts-on : (up : ℕ → Bool) (m : ℕ) → m < liveLinks p → run (inAll p) up (head p) x 0 (outLabels p x m) .ended ≡ true
+      → probeRun p (used p) (trailOf p) x (liveLinks p) up m ≡ run (inAll p) up (head p) (leadsTo (head p) x (outLabels p x m)) (length (outLabels p x m)) (back (outLabels p x m))
+  -- the answers of the calls: packets of free labels and the full check run under the rule page, every other probe under the rules of all arcs
+  pub run : (labels states : List ℕ) (e : End) → answer (running s x labels states) ≡ given e → GotTo (inTable p) (upByLink states) (head p) x labels e
+  pub full-check : (w states : List ℕ) (e : End) → answer (checking s x w states) ≡ given e
+      → GotTo (inTable p) (upByLink states) (head p) x (ringOf p (trailOf p) x) e × ProbeGotTo p x states (liveLinks p) e
+  pub run-probe : (w states : List ℕ) (q : Search) (e : End) → answer (probing s x w states q) ≡ given e
+      → GotTo (probeRules p (used p) (liveLinks p) (wanted q)) (upByLink states) (head p) x (probeOf p (trailOf p) x (liveLinks p) (wanted q)) e
+      × ProbeGotTo p x states (wanted q) e
+  -- "who used the old two-way fate reads it out of the new one": it is the one that demand 3 speaks of
+  pub outcome : (w states : List ℕ) (q : Search) (e : End) → answer (probing s x w states q) ≡ given e → outcomeOf e ≡ actualOutcome p x states (wanted q)

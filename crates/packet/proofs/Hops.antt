@@ -1,34 +1,31 @@
 -- One hop of a run, as the code makes it. Assumes nothing.
-use mathlib.Core.Path.{_≡_, sym}
+use mathlib.Core.Path.{_≡_, refl, sym, ap}
 use mathlib.Core.Bool.{Bool, true, false, not, _&&_}
 use mathlib.Core.List.{List}
-use Prim.Native.Nat.{ℕ, _+_, _*_, _/_, _%_, _≤_, _<_}
+use Prim.Native.Nat.{ℕ, suc, _+_, _*_, _/_, _%_, _≤_, _<_}
 use native.Mathlib.Omega.{arith}
 use native.Mathlib.Numerals.{add-one}
 use lib.Dec.{eqb}
 use lib.ListN.{length, getD, drop, drop-of-length-le}
 use lib.Seq.{drop-cons}
+use Rattle.lists.specs.Tests.{choose}
 use Rattle.lists.specs.Arrays.{flag}
-use Rattle.lists.proofs.Tests.{not-true-false}
+use Rattle.lists.proofs.Tests.{not-both, not-true-false}
 use Rattle.plant.specs.declared.Plant.{Plant}
 use Rattle.plant.specs.Links.{side, first, second}
 use Rattle.walks.specs.Arcs.{tail, head}
 use Rattle.walks.proofs.Labels.{arc-below}
-use Rattle.rings.specs.Packet.{run, runOn, rulesFor}
+use Rattle.rings.specs.Packet.{crosses, run, runOn, rulesFor}
 use Rattle.rings.specs.Packet as ring
+use Rattle.rings.proofs.Packet.{run-none, run-label}
 use Rattle.rings.specs.Rules.{upBy, upByLink}
-use Rattle.packet.specs.Runs.{flagged, goesOn}
-use Rattle.packet.specs.Asked.{ForArcs, way}
-use Rattle.packet.proofs.Ways.{way-length}
+use Rattle.packet.specs.Runs.{afterLabel, flagged, goesOn}
+use Rattle.packet.specs.Asked.{ForArcs}
 
 module _ (p : Plant) (rules : List Bool) (states : List ℕ) where
-  -- a run from a switch, after so many hops
-  abbrev pub runs : ℕ → ℕ → List ℕ → ring.End
-  runs at n w = run (flagged p rules) (upByLink states) (head p) at n w
-
   -- may a packet at a switch cross by label a?
   unfoldable pub passes : ℕ → ℕ → Bool
-  passes at a = flagged p rules at a && upByLink states a
+  passes at a = crosses (flagged p rules) (upByLink states) at a
 
   -- ---- whether it crosses
 
@@ -44,33 +41,38 @@ module _ (p : Plant) (rules : List Bool) (states : List ℕ) where
   unfolding passes flagged rulesFor tail upBy
   passes-is at a r e = e
 
-  -- ---- over the labels w, or back over them, after i of them
+  -- ---- what is left of a run
 
-  module _ (b : Bool) (w : List ℕ) (at n i : ℕ) where
-    -- label a comes next
-    module _ (a : ℕ) (h : i < length w) (e : a ≡ getD (way b w) i 0) where
-      inside : i < length (way b w)
-      inside = omega (arith, way-length b w)
-
-      pub runs-lost : passes at a ≡ false → record { ended = false; hops = n; last = at } ≡ runs at n (drop i (way b w))
-      unfolding passes
-      runs-lost t = rw (drop-cons (way b w) i 0 inside, sym e, t)
-
-      pub runs-hop : (x : ℕ) → passes at a ≡ true → x ≡ head p a → runs x (n + 1) (drop (i + 1) (way b w)) ≡ runs at n (drop i (way b w))
-      unfolding passes
-      runs-hop x t q = rw (drop-cons (way b w) i 0 inside, sym e, t, q, add-one n, add-one i)
-
-    pub runs-all : length w ≤ i → record { ended = true; hops = n; last = at } ≡ runs at n (drop i (way b w))
-    runs-all h =
-        let past : length (way b w) ≤ i = omega (arith, way-length b w) in
-        rw (drop-of-length-le (way b w) past)
-
-  -- ---- the run so far
-
-  pub on-lost : (e : ring.End) (w : List ℕ) → e .ended ≡ false → e ≡ goesOn p rules states e w
+  -- a packet that is lost stays where it is
+  pub goes-lost : (e : ring.End) (w : List ℕ) → e .ended ≡ false → e ≡ goesOn p rules states e w
   unfolding runOn
-  on-lost e w q = rw q
+  goes-lost e w q = rw q
 
-  pub on-ended : (e : ring.End) (w : List ℕ) → e .ended ≡ true → runs (e .last) (e .hops) w ≡ goesOn p rules states e w
+  -- with no label left it has come to its end
+  pub goes-none : (w : List ℕ) (i : ℕ) (e : ring.End) → length w ≤ i → e .ended ≡ true → e ≡ goesOn p rules states e (drop i w)
   unfolding runOn
-  on-ended e w q = rw q
+  goes-none w i e h t = rw (t, drop-of-length-le w h) (sym (run-none (flagged p rules) (upByLink states) (head p) (e .last) (e .hops)))
+
+  -- after a label the rest goes on as the run did before it
+  pub goes-label : (w : List ℕ) (i a : ℕ) (e r : ring.End) → e .ended ≡ true → i < length w → a ≡ getD w i 0 → r ≡ afterLabel e (passes (e .last) a) (head p a)
+      → goesOn p rules states r (drop (i + 1) w) ≡ goesOn p rules states e (drop i w)
+  unfolding passes runOn
+  goes-label w i a e r t h q g =
+      rw (g, t, drop-cons w i 0 h, sym q, add-one i, run-label (flagged p rules) (upByLink states) (head p) (e .last) (e .hops) a (drop (suc i) w))
+      (go (flagged p rules (e .last) a && upByLink states a))
+    where
+      go : (c : Bool) → goesOn p rules states (afterLabel e c (head p a)) (drop (suc i) w)
+          ≡ choose c (run (flagged p rules) (upByLink states) (head p) (head p a) (suc (e .hops)) (drop (suc i) w)) (record { ended = false; hops = e .hops; last = e .last })
+      go true = rw (add-one (e .hops))
+      go false = refl
+
+  -- a packet that came to `at` over the first i of the labels w, from where it was at e
+  pub record Came (w : List ℕ) (e at : ring.End) (i : ℕ) : Type 0 where
+    pub going : at .ended ≡ true
+    pub counted : at .hops ≡ e .hops + i
+    pub rest : goesOn p rules states at (drop i w) ≡ goesOn p rules states e w
+
+-- a packet that has not been lost at a label has made one hop more
+pub after-counts : (c : Bool) (e r : ring.End) (to : ℕ) → r ≡ afterLabel e c to → r .ended ≡ true → r .hops ≡ e .hops + 1
+after-counts true e r to q t = ap (λ (d : ring.End). d .hops) q
+after-counts false e r to q t = absurd (not-both (r .ended) t (ap (λ (d : ring.End). d .ended) q))

@@ -1,8 +1,8 @@
 -- Runs over parts, one after the other: how many hops they make, the full check, and a probe that comes back. Assumes nothing.
 use mathlib.Core.Path.{_≡_, sym, ap, ap₂, _∙_, subst}
-use mathlib.Core.Bool.{Bool, true, false, _&&_}
-use mathlib.Core.List.{List, [], _∷_, _++_}
-use Prim.Native.Nat.{ℕ, suc, _+_, _-_, _≤_}
+use mathlib.Core.Bool.{Bool, true, false}
+use mathlib.Core.List.{List, _++_}
+use Prim.Native.Nat.{ℕ, _+_, _-_, _≤_}
 use native.Mathlib.Omega.{arith}
 use lib.ListN.{length, take, drop, length-drop}
 use lib.Seq.{take-all, length-take-le}
@@ -11,7 +11,7 @@ use Rattle.lists.specs.Arrays.{flag}
 use Rattle.plant.specs.declared.Plant.{Plant}
 use Rattle.walks.specs.Arcs.{tail, head}
 use Rattle.rings.specs.Packet.{End, run, runOn, rulesFor}
-use Rattle.rings.proofs.Packet.{runOn-append}
+use Rattle.rings.proofs.Packet.{hops-most, runOn-append}
 use Rattle.rings.specs.Rules.{upByLink, inAll}
 use Rattle.rings.specs.Ring.{readFrom, ring}
 use Rattle.rings.specs.Probe.{back}
@@ -35,18 +35,9 @@ rest-length w k = length-take-le (length w - k) (drop k w) (omega (arith, length
 -- ---- a run makes no more hops than it has labels
 
 module _ (rule : ℕ → ℕ → Bool) (up : ℕ → Bool) (hd : ℕ → ℕ) where
-  run-hops : (w : List ℕ) (at n : ℕ) → run rule up hd at n w .hops ≤ n + length w
-  run-hops [] at n = omega arith
-  run-hops (a ∷ w) at n = go (rule at a && up a) (run-hops w (hd a) (suc n))
-    where
-      go : (b : Bool) → run rule up hd (hd a) (suc n) w .hops ≤ suc n + length w
-          → choose b (run rule up hd (hd a) (suc n) w) (record { ended = false; hops = n; last = at }) .hops ≤ n + suc (length w)
-      go true h = omega arith
-      go false h = omega arith
-
   on-hops : (e : End) (w : List ℕ) → runOn rule up hd e w .hops ≤ e .hops + length w
   unfolding runOn
-  on-hops e w = go (e .ended) (run-hops w (e .last) (e .hops))
+  on-hops e w = go (e .ended) (hops-most rule up hd w (e .last) (e .hops))
     where
       go : (b : Bool) → run rule up hd (e .last) (e .hops) w .hops ≤ e .hops + length w → choose b (run rule up hd (e .last) (e .hops) w) e .hops ≤ e .hops + length w
       go true h = h

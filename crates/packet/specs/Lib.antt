@@ -1,2 +1,3 @@
 pub mod Runs
+pub mod Outcome
 pub mod Asked

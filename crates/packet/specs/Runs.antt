@@ -1,7 +1,8 @@
 -- Runs of the code's values: how a run comes out, and a run under rules that are flags, one for each label that a plant can have.
-use mathlib.Core.Bool.{Bool, true}
+use mathlib.Core.Bool.{Bool, true, false}
 use mathlib.Core.List.{List}
-use Prim.Native.Nat.{ℕ}
+use Prim.Native.Nat.{ℕ, _+_}
+use Rattle.lists.specs.Tests.{choose}
 use Rattle.lists.specs.Arrays.{flag}
 use Rattle.plant.specs.declared.Plant.{Plant}
 use Rattle.walks.specs.Arcs.{tail, head}
@@ -17,6 +18,10 @@ endOf e = record { ended = e .ended; hops = e .hops; last = e .last }
 -- a packet that is injected at switch s
 abbrev pub injectedAt : ℕ → ring.End
 injectedAt s = record { ended = true; hops = 0; last = s }
+
+-- a packet after the next label: it crosses, and is where the label leads, after one hop more; or it is lost where it is
+abbrev pub afterLabel : ring.End → Bool → ℕ → ring.End
+afterLabel e crosses to = choose crosses (record { ended = true; hops = e .hops + 1; last = to }) (record { ended = false; hops = e .hops; last = e .last })
 
 -- a rule for each arc that is flagged, at the switch that it leaves
 unfoldable pub flagged : Plant → List Bool → ℕ → ℕ → Bool

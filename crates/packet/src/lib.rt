@@ -1,4 +1,4 @@
-// Packet runs: under rules that are flags of labels, by one state byte for each link; the full check, and every probe. Inner: the calls are the crates `planner` and `probing`.
+// Packet runs: under rules that are flags of labels, by one state byte for each link; the full check, every probe, and the outcome of a run. Inner: the calls are the crates `planner` and `probing`.
 ghost use mathlib.Core.Path.{_≡_};
 ghost use mathlib.Core.Bool.{not, _&&_};
 ghost use Prim.Native.Nat.{_+_, _*_, _%_, _≤_, _<_};
@@ -12,7 +12,8 @@ ghost use Rattle.rings.specs.Packet.{run, rulesFor};
 ghost use Rattle.rings.specs.Rules.{upByLink};
 ghost use Rattle.rings.specs.Probe.{back};
 ghost use Rattle.rings.specs.Injection.{ringOf, probeRun};
-ghost use Rattle.packet.specs.Runs.{endOf, injectedAt, goesOn};
+ghost use Rattle.packet.specs.Runs.{endOf, injectedAt, afterLabel, goesOn};
+ghost use Rattle.packet.specs.Outcome.{outcomeOf};
 ghost use Rattle.packet.specs.Asked.{CanRun, CanProbe, way, outAndBack};
 use order::front;
 use order::place_of;
@@ -22,8 +23,9 @@ use plant::Link;
 use plant::Plant;
 use plant::head_of;
 use plant::tail_of;
+use search::Outcome;
 
-// How a run comes out: has the packet ended (else it is lost), the hops that it made, and the switch that it came to last.
+// How a run comes out: has the packet ended (else it is lost), the hops made, and the switch last reached.
 pub struct End {
     pub ended: bool,
     pub hops: usize,
@@ -38,6 +40,17 @@ pub fn injected(s: u8) -> End
         ended: true,
         hops: 0,
         last: s,
+    }
+}
+
+// The outcome of a run, as it is given to a search: returned if the packet has ended, else lost.
+pub fn outcome_of(e: End) -> Outcome
+    ensures { λ r. ⌜ r ≡ outcomeOf (endOf e) ⌝ }
+{
+    if e.ended {
+        Outcome::Returned
+    } else {
+        Outcome::Lost
     }
 }
 
@@ -66,6 +79,26 @@ fn crosses(rule: bool, state: u8, l: Link, a: usize, s: u8) -> bool
     state != 0
 }
 
+// After the next label: a packet that crosses is at the switch that the label leads to, after one hop more; one that does not is lost where it is, after those that it made.
+fn after_label(e: End, crosses: bool, to: u8) -> End
+    requires { do ⌜ e .hops + 1 ≤ (← ⟦usize::MAX⟧) ⌝ }
+    ensures { λ r. ⌜ endOf r ≡ afterLabel (endOf e) crosses to ⌝ }
+{
+    let hops = e.hops + 1;
+    if crosses {
+        return End {
+            ended: true,
+            hops,
+            last: to,
+        };
+    }
+    End {
+        ended: false,
+        hops: e.hops,
+        last: e.last,
+    }
+}
+
 // A packet that came so far goes on over these labels, or back over them, unless it is lost.
 fn run_way(
     p: Plant,
@@ -83,35 +116,22 @@ fn run_way(
         return e;
     }
     let n = 2 * (p.count as usize);
-    let mut at = e.last;
-    let mut hops = e.hops;
+    let mut at = e;
     let mut i: usize = 0;
     while i < labels.len() {
         let a = label_at(labels, i, backward) as usize;
         if n <= a {
-            return End {
-                ended: false,
-                hops,
-                last: at,
-            };
+            return after_label(at, false, at.last);
         }
         let l = p.links[a / 2];
-        if !crosses(rules[a], states[a / 2], l, a, at) {
-            return End {
-                ended: false,
-                hops,
-                last: at,
-            };
+        let c = crosses(rules[a], states[a / 2], l, a, at.last);
+        at = after_label(at, c, head_of(l, a));
+        if !at.ended {
+            return at;
         }
-        at = head_of(l, a);
-        hops += 1;
         i += 1;
     }
-    End {
-        ended: true,
-        hops,
-        last: at,
-    }
+    at
 }
 
 // A packet that came so far goes on with these labels, unless it is lost.

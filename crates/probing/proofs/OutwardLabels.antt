@@ -12,7 +12,6 @@ use Rattle.answers.specs.Checks.{check, answer}
 use Rattle.answers.proofs.Checks.{refuse-given, given-exactly, came-from, result-given}
 use Rattle.walks.specs.Graph.{liveLinks}
 use Rattle.plan.specs.Plan.{used, trailOf}
-use Rattle.rings.specs.Packet.{End}
 use Rattle.rings.specs.Rules.{upByLink}
 use Rattle.rings.specs.Probe.{back, outward, probe}
 use Rattle.rings.specs.Injection.{ringOf, probeOf}
@@ -22,7 +21,7 @@ use Rattle.order.specs.Span.{ringSpan, spanOf, stretchOf, frontOf}
 use Rattle.order.proofs.Spans.{ring-parts, span-outward}
 use Rattle.search.specs.declared.Search.{Search}
 use Rattle.judging.specs.Conditions.{trailDiffers, lentChecks, wantedChecks}
-use Rattle.probing.specs.Calls.{outcomeOf, checkIn, probeOutcome, outLabels, outSpan, outwardIn, outgoing, OutwardParts}
+use Rattle.probing.specs.Calls.{checkIn, probeEnd, outLabels, outSpan, outwardIn, outgoing, OutwardParts}
 use Rattle.planning.specs.Planning.{planningAt}
 use Rattle.search.specs.Search.{wanted}
 use Rattle.judging.proofs.Lent.{trail-same}
@@ -66,6 +65,6 @@ outward-parts s x w q a f b e =
 
 -- ---- the full check is probe E
 
-pub check-probe : (p : Plant) (x : ℕ) (w states : List ℕ) → checkIn x w states p ≡ check (lentChecks p w states) (probeOutcome p x states (liveLinks p))
+pub check-probe : (p : Plant) (x : ℕ) (w states : List ℕ) → checkIn x w states p ≡ check (lentChecks p w states) (probeEnd p x states (liveLinks p))
 unfolding checkIn
-check-probe p x w states = ap (λ (e : End). check (lentChecks p w states) (outcomeOf e)) (sym (full-run p (trailOf p) x (used p) (liveLinks p) (upByLink states)))
+check-probe p x w states = ap (check (lentChecks p w states)) (sym (full-run p (trailOf p) x (used p) (liveLinks p) (upByLink states)))

@@ -23,14 +23,12 @@ use Rattle.order.specs.declared.Span.{Span}
 use Rattle.order.specs.Order.{listed}
 use Rattle.order.specs.Span.{ringSpan, spanOf}
 use Rattle.order.proofs.Gathering.{listed-nth}
-use Rattle.packet.specs.declared.End.{End}
-use Rattle.packet.specs.Runs.{endOf, injectedAt, goesOn}
+use Rattle.packet.specs.Runs.{injectedAt, goesOn}
 use Rattle.packet.proofs.Probes.{from-switch}
 use Rattle.search.specs.declared.Said.{Said}
 use Rattle.search.specs.declared.Said.the-variants.{Down}
-use Rattle.search.specs.declared.Outcome.{Outcome}
 use Rattle.judging.specs.Conditions.{trailDiffers}
-use Rattle.probing.specs.Calls.{outcomeOf, orderIn, outSpan, link, namedIn}
+use Rattle.probing.specs.Calls.{orderIn, outSpan, link, namedIn}
 use Rattle.probing.specs.Answers.{Orders}
 use Rattle.answers.proofs.Checks.{fails}
 use Rattle.answers.proofs.Beside.{beside-given}
@@ -39,24 +37,21 @@ use Rattle.judging.proofs.Lent.{trail-same}
 -- ---- a packet that is no probe
 
 module _ (p : Plant) (us : List Bool) (states labels : List ℕ) (x : ℕ) (table : flag us ≡ used p) where
-  pub ran-as : (i e : End) (b : Bool) → endOf i ≡ injectedAt x → endOf e ≡ goesOn p us states (endOf i) labels → e .ended ≡ b
-      → given b ≡ given (run (inTable p) (upByLink states) (head p) x 0 labels .ended)
-  ran-as i e b new goes q =
-      ap given (sym q ∙ ap (λ (d : ring.End). d .ended) (from-switch p us states x (endOf i) (endOf e) labels new goes)
-      ∙ ap (λ (o : ℕ → Bool). run (rulesFor o (tail p)) (upByLink states) (head p) x 0 labels .ended) table)
+  pub ran-as : (i e : ring.End) → i ≡ injectedAt x → e ≡ goesOn p us states i labels → given e ≡ given (run (inTable p) (upByLink states) (head p) x 0 labels)
+  ran-as i e new goes =
+      ap given (from-switch p us states x i e labels new goes ∙ ap (λ (o : ℕ → Bool). run (rulesFor o (tail p)) (upByLink states) (head p) x 0 labels) table)
 
 -- ---- over a lent trail that is the plant's
 
 module _ (p : Plant) (w : List ℕ) (x : ℕ) (same : w ≡ trailOf p) where
   -- with rules for the arcs in use
-  module _ {table : ℕ → Bool} (in-use : table ≡ used p) (up : ℕ → Bool) (e : ring.End) (o : Outcome) (f : o ≡ outcomeOf e) where
-    pub checked : e ≡ run (rulesFor table (tail p)) up (head p) x 0 (ringOf p w x) → given o ≡ given (outcomeOf (run (inTable p) up (head p) x 0 (ringOf p (trailOf p) x)))
-    checked g = ap given (f ∙ ap outcomeOf (g ∙ ap₂ (λ (k : ℕ → Bool) (v : List ℕ). run (rulesFor k (tail p)) up (head p) x 0 (ringOf p v x)) in-use same))
+  module _ {table : ℕ → Bool} (in-use : table ≡ used p) (up : ℕ → Bool) (e : ring.End) where
+    pub checked : e ≡ run (rulesFor table (tail p)) up (head p) x 0 (ringOf p w x) → given e ≡ given (run (inTable p) up (head p) x 0 (ringOf p (trailOf p) x))
+    checked g = ap given (g ∙ ap₂ (λ (k : ℕ → Bool) (v : List ℕ). run (rulesFor k (tail p)) up (head p) x 0 (ringOf p v x)) in-use same)
 
-    pub probed : (n m : ℕ) → n ≡ liveLinks p → e ≡ probeRun p table w x n up m → o ≡ outcomeOf (probeRun p (used p) (trailOf p) x (liveLinks p) up m)
+    pub probed : (n m : ℕ) → n ≡ liveLinks p → e ≡ probeRun p table w x n up m → e ≡ probeRun p (used p) (trailOf p) x (liveLinks p) up m
     probed n m i g =
-        f ∙ ap outcomeOf (g ∙ ap₂ (λ (v : List ℕ) (k : ℕ). probeRun p table v x k up m) same i
-        ∙ ap (λ (k : ℕ → Bool). probeRun p k (trailOf p) x (liveLinks p) up m) in-use)
+        g ∙ ap₂ (λ (v : List ℕ) (k : ℕ). probeRun p table v x k up m) same i ∙ ap (λ (k : ℕ → Bool). probeRun p k (trailOf p) x (liveLinks p) up m) in-use
 
   pub out-ring : (m : ℕ) (b : Span) → m ≡ liveLinks p → b ≡ ringSpan p w x → b ≡ outSpan p x m
   unfolding outSpan

@@ -25,7 +25,7 @@ use Rattle.rings.specs.Injection.{ringOf}
 use Rattle.rings.proofs.Injection as injection
 use Rattle.search.specs.declared.Search.{Search}
 use Rattle.judging.specs.Conditions.{trailDiffers, statesShort, wantedChecks}
-use Rattle.probing.specs.Calls.{runIn, running, outcomeOf, checkIn, checking, probeIn, probing}
+use Rattle.probing.specs.Calls.{runIn, running, checkIn, checking, probeIn, probing}
 use Rattle.planning.specs.Planning.{planningAt}
 use Rattle.search.specs.Search.{wanted}
 
@@ -48,17 +48,17 @@ module _ (p : Plant) (x : ℕ) (states : List ℕ) where
 
   pub run-bytes : (labels : List ℕ) → runIn x labels states p ≡ runIn x labels first-bytes p
   unfolding runIn
-  run-bytes labels = ap₂ (λ (t : Bool) (e : End). check ((13, t) ∷ []) (e .ended)) (short-first (p .count) states) (table-bytes labels)
+  run-bytes labels = ap₂ (λ (t : Bool) (e : End). check ((13, t) ∷ []) e) (short-first (p .count) states) (table-bytes labels)
 
   pub check-bytes : (w : List ℕ) → checkIn x w states p ≡ checkIn x w first-bytes p
   unfolding checkIn
   check-bytes w =
-      ap₂ (λ (t : Bool) (e : End). check ((12, trailDiffers p w) ∷ (13, t) ∷ []) (outcomeOf e)) (short-first (p .count) states) (table-bytes (ringOf p (trailOf p) x))
+      ap₂ (λ (t : Bool) (e : End). check ((12, trailDiffers p w) ∷ (13, t) ∷ []) e) (short-first (p .count) states) (table-bytes (ringOf p (trailOf p) x))
 
   pub probe-bytes : (w : List ℕ) (q : Search) → probeIn x w states q p ≡ probeIn x w first-bytes q p
   unfolding probeIn
   probe-bytes w q =
-      ap₂ (λ (t : Bool) (e : End). check ((12, trailDiffers p w) ∷ (13, t) ∷ wantedChecks (liveLinks p) q) (outcomeOf e))
+      ap₂ (λ (t : Bool) (e : End). check ((12, trailDiffers p w) ∷ (13, t) ∷ wantedChecks (liveLinks p) q) e)
       (short-first (p .count) states) (injection.probe-bytes p (trailOf p) x (used p) (used-arc p) (liveLinks p) states (wanted q))
 
 -- so two lists of bytes that begin alike, as far as there are links, have the same answer from each of these calls

@@ -1,17 +1,15 @@
 -- What each answer of the calls stands for: values, or the number of a refusal.
-use mathlib.Core.Bool.{Bool, true, false}
 use mathlib.Core.List.{[]}
 use Rattle.answers.specs.Answers.{Answer, given, refused, numberOf, Beside}
+use Rattle.rings.specs.Packet.{End}
 use Rattle.order.specs.declared.Order.{Order}
 use Rattle.order.specs.declared.Span.{Span}
 use Rattle.order.specs.Order.{listed}
-use Rattle.search.specs.declared.Outcome.{Outcome}
+use Rattle.packet.specs.Runs.{endOf}
 use Rattle.search.specs.declared.Search.{Search}
 use Rattle.search.specs.declared.Progress.{Progress}
 use Rattle.probing.specs.declared.Ran.{Ran}
 use Rattle.probing.specs.declared.Ran.the-variants as ran-is
-use Rattle.probing.specs.declared.Probed.{Probed}
-use Rattle.probing.specs.declared.Probed.the-variants as probed-is
 use Rattle.probing.specs.declared.Ordered.{Ordered}
 use Rattle.probing.specs.declared.Outward.{Outward}
 use Rattle.probing.specs.declared.Outward.the-variants as outward-is
@@ -23,15 +21,10 @@ use Rattle.probing.specs.declared.Performed.{Performed}
 use Rattle.probing.specs.declared.Performed.the-variants as performed-is
 use Rattle.probing.specs.Calls.{Name, link, none, unknown}
 
--- has the packet ended, or is it lost?
-abbrev pub ranAnswer : Ran → Answer Bool
-ranAnswer ran-is.Ended = given true
-ranAnswer ran-is.Lost = given false
+-- where the packet got to
+abbrev pub ranAnswer : Ran → Answer End
+ranAnswer (ran-is.To e) = given (endOf e)
 ranAnswer (ran-is.Refused k) = refused (numberOf k)
-
-abbrev pub probedAnswer : Probed → Answer Outcome
-probedAnswer (probed-is.Outcome o) = given o
-probedAnswer (probed-is.Refused k) = refused (numberOf k)
 
 abbrev pub outwardAnswer : Outward → Answer Span
 outwardAnswer (outward-is.Parts b) = given b

@@ -1,7 +1,6 @@
 -- What each call on packets, probes and searches comes to that is given a listing: in the plant of the listing, after 1 to 9 and 11. E is the number of links that a
 -- search is over, `liveLinks p`; state bytes are counted against the listing's link count, `p .count`.
 use mathlib.Core.Path.{_≡_}
-use mathlib.Core.Bool.{Bool}
 use mathlib.Core.List.{List, [], _∷_, _++_}
 use Prim.Native.Nat.{ℕ}
 use lib.Dec.{eqb}
@@ -24,8 +23,6 @@ use Rattle.order.specs.Span.{ringSpan, spanOf, stretchOf, frontOf}
 use Rattle.search.specs.declared.Search.{Search}
 use Rattle.search.specs.declared.Said.{Said}
 use Rattle.search.specs.declared.Said.the-variants as said
-use Rattle.search.specs.declared.Outcome.{Outcome}
-use Rattle.search.specs.declared.Outcome.the-variants.{Returned, Lost}
 use Rattle.search.specs.declared.Progress.{Progress}
 use Rattle.search.specs.Search.{newSearch, says, wanted}
 use Rattle.search.specs.Calls.{Call, perform, begun}
@@ -34,24 +31,20 @@ use Rattle.judging.specs.Conditions.{trailDiffers, statesShort, searchUnsound, 
 
 -- ---- a packet that is no probe: 1 to 9, 11, 13
 
--- it runs under the forwarding table alone. Has it ended?
-unfoldable pub runIn : ℕ → List ℕ → List ℕ → Plant → Checked Bool
-runIn x labels states p = check ((13, statesShort (p .count) states) ∷ []) (run (inTable p) (upByLink states) (head p) x 0 labels .ended)
+-- it runs under the forwarding table alone
+unfoldable pub runIn : ℕ → List ℕ → List ℕ → Plant → Checked End
+runIn x labels states p = check ((13, statesShort (p .count) states) ∷ []) (run (inTable p) (upByLink states) (head p) x 0 labels)
 
-unfoldable pub running : List ℕ → ℕ → List ℕ → List ℕ → Checked Bool
+unfoldable pub running : List ℕ → ℕ → List ℕ → List ℕ → Checked End
 running s x labels states = planningAt s x then runIn x labels states
 
 -- ---- the full check: 1 to 9, 11, 12, 13
 
--- a probe that has ended has returned (document 01: is home)
-abbrev pub outcomeOf : End → Outcome
-outcomeOf e = choose (e .ended) Returned Lost
-
 -- the whole ring under the forwarding table
-unfoldable pub checkIn : ℕ → List ℕ → List ℕ → Plant → Checked Outcome
-checkIn x w states p = check (lentChecks p w states) (outcomeOf (run (inTable p) (upByLink states) (head p) x 0 (ringOf p (trailOf p) x)))
+unfoldable pub checkIn : ℕ → List ℕ → List ℕ → Plant → Checked End
+checkIn x w states p = check (lentChecks p w states) (run (inTable p) (upByLink states) (head p) x 0 (ringOf p (trailOf p) x))
 
-unfoldable pub checking : List ℕ → ℕ → List ℕ → List ℕ → Checked Outcome
+unfoldable pub checking : List ℕ → ℕ → List ℕ → List ℕ → Checked End
 checking s x w states = planningAt s x then checkIn x w states
 
 -- ---- the order of links: 1 to 9, 11, 12
@@ -85,18 +78,18 @@ OutwardParts s x w q a = (b : Span) → a ≡ given b → stretchOf w b ++ front
 -- ---- the run of the probe wanted: 1 to 9, 11, 12, 13, 14, 15
 
 -- how probe m comes out
-abbrev pub probeOutcome : Plant → ℕ → List ℕ → ℕ → Outcome
-probeOutcome p x states m = outcomeOf (probeRun p (used p) (trailOf p) x (liveLinks p) (upByLink states) m)
+abbrev pub probeEnd : Plant → ℕ → List ℕ → ℕ → End
+probeEnd p x states m = probeRun p (used p) (trailOf p) x (liveLinks p) (upByLink states) m
 
--- 14 and 15, then that of the probe wanted
-abbrev pub probeOver : Plant → ℕ → List ℕ → Search → Checked Outcome
-probeOver p x states q = check (wantedChecks (liveLinks p) q) (probeOutcome p x states (wanted q))
+-- 14 and 15, then the probe wanted
+abbrev pub probeOver : Plant → ℕ → List ℕ → Search → Checked End
+probeOver p x states q = check (wantedChecks (liveLinks p) q) (probeEnd p x states (wanted q))
 
 -- 12 and 13, then that
-unfoldable pub probeIn : ℕ → List ℕ → List ℕ → Search → Plant → Checked Outcome
+unfoldable pub probeIn : ℕ → List ℕ → List ℕ → Search → Plant → Checked End
 probeIn x w states q p = check {A = Unit} (lentChecks p w states) tt then λ _. probeOver p x states q
 
-unfoldable pub probing : List ℕ → ℕ → List ℕ → List ℕ → Search → Checked Outcome
+unfoldable pub probing : List ℕ → ℕ → List ℕ → List ℕ → Search → Checked End
 probing s x w states q = planningAt s x then probeIn x w states q
 
 -- ---- the link named: 1 to 9, 11, 12, 14

@@ -15,7 +15,7 @@ use Rattle.walks.specs.Arcs.{opposite, tail, head}
 use Rattle.walks.specs.Graph.{arcs, others, visitFrom, bridge, liveLinks, usedFrom}
 use Rattle.routes.specs.Distance.{sources, within, dist, hop, hops, route}
 use Rattle.routes.specs.Trail.{near, nearest, legs, trail}
-use Rattle.rings.specs.Packet.{rulesFor}
+use Rattle.rings.specs.Packet.{End, run, rulesFor}
 use Rattle.rings.specs.Rules.{upBy, inAll}
 use Rattle.rings.specs.Ring.{readFrom, place, ring}
 use Rattle.rings.specs.Order as orders
@@ -31,6 +31,7 @@ use Rattle.search.specs.declared.Search.{Search}
 use Rattle.search.specs.declared.Search.the-variants.{Checking, Halving, AllUp, Down}
 use Rattle.search.specs.declared.Outcome.{Outcome}
 use Rattle.search.specs.declared.Outcome.the-variants.{Returned, Lost}
+use Rattle.packet.specs.Outcome.{outcomeOf}
 use Rattle.planning.specs.Planning.{notConnected, planning, planningAt, switchOutOfRange}
 use Rattle.answers.specs.Checks.{answer}
 use Rattle.judging.specs.Conditions.{trailDiffers, statesShort, searchUnsound}
@@ -43,7 +44,7 @@ pub record Row : Type 0 where
 abbrev triangle : List ℕ
 triangle = 3 ∷ 3 ∷ 3 ∷ 0 ∷ 2 ∷ 1 ∷ 3 ∷ 1 ∷ 2 ∷ 3 ∷ 2 ∷ 0 ∷ []
 
--- the trail, and state bytes: all up, link 0 down, link 1 down, a byte missing, a byte too many
+-- the trail, and state bytes: all up, link 0, 1 or 2 down, a byte missing, a byte too many
 abbrev whole : List ℕ
 whole = 0 ∷ 2 ∷ 4 ∷ []
 
@@ -56,6 +57,9 @@ down0 = 0 ∷ 1 ∷ 1 ∷ []
 abbrev down1 : List ℕ
 down1 = 1 ∷ 0 ∷ 1 ∷ []
 
+abbrev down2 : List ℕ
+down2 = 1 ∷ 1 ∷ 0 ∷ []
+
 abbrev short : List ℕ
 short = 1 ∷ 1 ∷ []
 
@@ -67,17 +71,20 @@ long = 1 ∷ 1 ∷ 1 ∷ 0 ∷ []
 abbrev at : ℕ → Answer (List ℕ) → Row
 at x a = record { got = λ _. answer (planningAt triangle x) >>= λ p. given (x ∷ []); said = a }
 
--- ---- the calls in the plant: 1 if the packet ended or the probe returned, and else 0
+-- ---- the calls in the plant: 1 if the packet ended or the probe returned, and else 0, then the hops made and the switch last reached
 
 abbrev runs : ℕ → List ℕ → List ℕ → Answer (List ℕ) → Row
-runs x labels states a = record { got = λ p. answer (runIn x labels states p) >>= λ b. given (bit b ∷ []); said = a }
+runs x labels states a = record { got = λ p. answer (runIn x labels states p) >>= λ e. given (bit (e .ended) ∷ e .hops ∷ e .last ∷ []); said = a }
 
-abbrev home : Outcome → List ℕ
-home Returned = 1 ∷ []
-home Lost = 0 ∷ []
+abbrev home : Outcome → ℕ
+home Returned = 1
+home Lost = 0
+
+abbrev came : End → List ℕ
+came e = home (outcomeOf e) ∷ e .hops ∷ e .last ∷ []
 
 abbrev checks : ℕ → List ℕ → List ℕ → Answer (List ℕ) → Row
-checks x w states a = record { got = λ p. answer (checkIn x w states p) >>= λ o. given (home o); said = a }
+checks x w states a = record { got = λ p. answer (checkIn x w states p) >>= λ e. given (came e); said = a }
 
 abbrev lists : ℕ → List ℕ → Answer (List ℕ) → Row
 lists x w a = record { got = λ p. answer (orderIn x w p) >>= λ o. given (take (o .count) (o .links)); said = a }
@@ -87,7 +94,7 @@ abbrev goes : ℕ → List ℕ → Search → Answer (List ℕ) → Row
 goes x w q a = record { got = λ p. answer (outwardIn x w q p) >>= λ b. given (b .from ∷ b .len ∷ b .front ∷ []); said = a }
 
 abbrev probes : ℕ → List ℕ → List ℕ → Search → Answer (List ℕ) → Row
-probes x w states q a = record { got = λ p. answer (probeIn x w states q p) >>= λ o. given (home o); said = a }
+probes x w states q a = record { got = λ p. answer (probeIn x w states q p) >>= λ e. given (came e); said = a }
 
 -- the link, or nothing if there is none, or twice 0 if the search has not ended
 abbrev told : Name → List ℕ
@@ -104,15 +111,20 @@ abbrev table : List Row
 table =
     at 2 (given (2 ∷ []))
     ∷ at 3 (refused 11)
-    ∷ runs 0 whole allUp (given (1 ∷ []))
-    ∷ runs 0 whole down1 (given (0 ∷ []))
-    ∷ runs 0 whole long (given (1 ∷ []))
-    ∷ runs 1 [] allUp (given (1 ∷ []))
-    ∷ runs 1 (1 ∷ []) allUp (given (0 ∷ []))
-    ∷ runs 0 (6 ∷ []) allUp (given (0 ∷ []))
+    ∷ runs 0 whole allUp (given (1 ∷ 3 ∷ 0 ∷ []))
+    ∷ runs 0 whole down0 (given (0 ∷ 0 ∷ 0 ∷ []))
+    ∷ runs 0 whole down1 (given (0 ∷ 1 ∷ 1 ∷ []))
+    ∷ runs 0 whole down2 (given (0 ∷ 2 ∷ 2 ∷ []))
+    ∷ runs 0 whole long (given (1 ∷ 3 ∷ 0 ∷ []))
+    ∷ runs 0 (0 ∷ 2 ∷ []) allUp (given (1 ∷ 2 ∷ 2 ∷ []))
+    ∷ runs 1 [] allUp (given (1 ∷ 0 ∷ 1 ∷ []))
+    ∷ runs 1 (1 ∷ []) allUp (given (0 ∷ 0 ∷ 1 ∷ []))
+    ∷ runs 0 (0 ∷ 4 ∷ []) allUp (given (0 ∷ 1 ∷ 1 ∷ []))
+    ∷ runs 0 (0 ∷ 6 ∷ []) allUp (given (0 ∷ 1 ∷ 1 ∷ []))
     ∷ runs 0 whole short (refused 13)
-    ∷ checks 1 whole allUp (given (1 ∷ []))
-    ∷ checks 1 whole down0 (given (0 ∷ []))
+    ∷ checks 1 whole allUp (given (1 ∷ 3 ∷ 1 ∷ []))
+    ∷ checks 1 whole down1 (given (0 ∷ 0 ∷ 1 ∷ []))
+    ∷ checks 1 whole down0 (given (0 ∷ 2 ∷ 0 ∷ []))
     ∷ checks 1 (0 ∷ 2 ∷ []) short (refused 12)
     ∷ checks 1 (0 ∷ 2 ∷ 4 ∷ 0 ∷ []) allUp (refused 12)
     ∷ checks 1 whole short (refused 13)
@@ -128,9 +140,10 @@ table =
     ∷ goes 1 whole (Down 4) (refused 14)
     ∷ goes 1 whole (Down 3) (refused 15)
     ∷ goes 1 whole AllUp (refused 15)
-    ∷ probes 1 whole down0 (Halving 1 3) (given (1 ∷ []))
-    ∷ probes 1 whole down1 (Halving 1 3) (given (0 ∷ []))
-    ∷ probes 1 whole down0 (Checking 3) (given (0 ∷ []))
+    ∷ probes 1 whole down0 (Halving 1 3) (given (1 ∷ 4 ∷ 1 ∷ []))
+    ∷ probes 1 whole down1 (Halving 1 3) (given (0 ∷ 0 ∷ 1 ∷ []))
+    ∷ probes 1 whole down2 (Halving 1 3) (given (0 ∷ 1 ∷ 2 ∷ []))
+    ∷ probes 1 whole down0 (Checking 3) (given (0 ∷ 2 ∷ 0 ∷ []))
     ∷ probes 1 [] short AllUp (refused 12)
     ∷ probes 1 whole short (Checking 0) (refused 13)
     ∷ probes 1 whole allUp (Checking 0) (refused 14)
@@ -145,5 +158,5 @@ table =
     ∷ []
 
 as-said : (answer (planning triangle) >>= λ p. given (map (λ r. r .got p) table)) ≡ given (map (λ r. r .said) table)
-unfolding runIn checkIn orderIn outwardIn outSpan probeIn nameIn switchOutOfRange trailDiffers statesShort searchUnsound planningAt notConnected planning ringSpan spanOf listed beginsWith plantWith taken valueOf redundant mapMissing mapUndefined fieldMissing fieldRedundant fieldValues afterPart part listing.valueOutOfRange listing.endOutOfRange listing.selfLink listing.bytesRemain listing.soundLink listing.header listing.link listing.links listing.withLinks listing.linked listing.ended listing.reading out outStretch outFront probeRules ringOf orderOf probeOf probeRun probe outward orders.order readFrom place ring upBy inAll rulesFor trail legs nearest near route hops hop dist within sources arcs others visitFrom bridge usedFrom liveLinks opposite tail head scan visit live leastFrom count every
+unfolding runIn checkIn orderIn outwardIn outSpan probeIn nameIn switchOutOfRange trailDiffers statesShort searchUnsound planningAt notConnected planning ringSpan spanOf listed beginsWith plantWith taken valueOf redundant mapMissing mapUndefined fieldMissing fieldRedundant fieldValues afterPart part listing.valueOutOfRange listing.endOutOfRange listing.selfLink listing.bytesRemain listing.soundLink listing.header listing.link listing.links listing.withLinks listing.linked listing.ended listing.reading out outStretch outFront run probeRules ringOf orderOf probeOf probeRun probe outward orders.order readFrom place ring upBy inAll rulesFor trail legs nearest near route hops hop dist within sources arcs others visitFrom bridge usedFrom liveLinks opposite tail head scan visit live leastFrom count every
 as-said = refl

@@ -26,22 +26,16 @@ ghost use Rattle.planning.specs.Plans.{FromStart, Plan};
 ghost use Rattle.order.specs.Span.{stretchOf, frontOf};
 ghost use Rattle.packet.specs.Asked.{CanProbe};
 ghost use Rattle.packet.specs.Runs.{endOf};
+ghost use Rattle.packet.specs.Outcome.{outcomeOf};
 ghost use Rattle.search.specs.Search.{ask, give, askedOf, toldOf};
 ghost use Rattle.search.specs.Calls.{callsIn};
 ghost use Rattle.search.specs.Sound.{SaysIn};
-ghost use Rattle.probing.specs.Calls.{runIn, running, outcomeOf, checkIn, checking, orderIn, ordering, outSpan, outwardIn, outgoing, OutwardParts, probeOver, probeIn, probing, namedIn, nameIn, naming, beginning, performing};
-ghost use Rattle.probing.specs.Answers.{ranAnswer, probedAnswer, Orders, outwardAnswer, namedAnswer, begunAnswer, performedAnswer};
+ghost use Rattle.probing.specs.Calls.{runIn, running, checkIn, checking, orderIn, ordering, outSpan, outwardIn, outgoing, OutwardParts, probeOver, probeIn, probing, namedIn, nameIn, naming, beginning, performing};
+ghost use Rattle.probing.specs.Answers.{ranAnswer, Orders, outwardAnswer, namedAnswer, begunAnswer, performedAnswer};
 
-// How the run of a packet comes out: it has ended, or it is lost.
+// How the run of a packet comes out: where it got to, or a refusal.
 pub enum Ran {
-    Ended,
-    Lost,
-    Refused(Refusal),
-}
-
-// What became of a probe, as it is given to a search.
-pub enum Probed {
-    Outcome(Outcome),
+    To(End),
     Refused(Refusal),
 }
 
@@ -77,6 +71,15 @@ pub enum Performed {
     Refused(Refusal),
 }
 
+// ---- the outcome of a run
+
+// The two-way outcome of a run, as it is given to a search. No refusal.
+pub fn outcome_of(end: End) -> Outcome
+    ensures { λ r. ⌜ r ≡ outcomeOf (endOf end) ⌝ }
+{
+    packet::outcome_of(end)
+}
+
 // ---- a packet that is no probe
 
 // A packet runs under the forwarding table of a plan alone: refusal 13.
@@ -88,8 +91,7 @@ fn run_in(x: Parts, switch: u8, labels: &[u16], states: &[u8]) -> Ran
         return Ran::Refused(Refusal::StatesShort);
     }
     let used = x.used;
-    let e = packet::run_on(x.plant, used, states, packet::injected(switch), labels);
-    if e.ended { Ran::Ended } else { Ran::Lost }
+    Ran::To(packet::run_on(x.plant, used, states, packet::injected(switch), labels))
 }
 
 // The run of a packet that is injected at a switch and is no probe: refusals 1 to 9, 11 and 13.
@@ -107,16 +109,6 @@ pub fn run(listing: &[u8], switch: u8, labels: &[u16], states: &[u8]) -> Ran
 
 // ---- the full check
 
-fn outcome_of(e: End) -> Outcome
-    ensures { λ r. ⌜ r ≡ outcomeOf (endOf e) ⌝ }
-{
-    if e.ended {
-        Outcome::Returned
-    } else {
-        Outcome::Lost
-    }
-}
-
 // The full check in a plan: refusals 12 and 13.
 fn check_in(
     x: Parts,
@@ -124,30 +116,27 @@ fn check_in(
     switch: u8,
     trail: &[u16],
     states: &[u8],
-) -> Probed
+) -> Ran
     requires { ⌜ Plan x (now t) ⌝ }
-    ensures { λ r. ⌜ probedAnswer r ≡ answer (checkIn switch (now (trail .entry)) (now (states .entry)) (x .plant)) ⌝ }
+    ensures { λ r. ⌜ ranAnswer r ≡ answer (checkIn switch (now (trail .entry)) (now (states .entry)) (x .plant)) ⌝ }
 {
     let used = x.used;
     match judging::judge_lent(x, t, trail, states) {
-        Verdict::Accepted => {
-            let e = packet::full_check(x.plant, used, states, switch, trail);
-            Probed::Outcome(outcome_of(e))
-        }
-        Verdict::Refused(k) => Probed::Refused(k),
+        Verdict::Accepted => { Ran::To(packet::full_check(x.plant, used, states, switch, trail)) }
+        Verdict::Refused(k) => Ran::Refused(k),
     }
 }
 
 // The full check from a switch: refusals 1 to 9, 11, 12 and 13.
-pub fn full_check(listing: &[u8], switch: u8, trail: &[u16], states: &[u8]) -> Probed
-    ensures { λ r. ⌜ probedAnswer r ≡ answer (checking (now (listing .entry)) switch (now (trail .entry)) (now (states .entry))) ⌝ }
+pub fn full_check(listing: &[u8], switch: u8, trail: &[u16], states: &[u8]) -> Ran
+    ensures { λ r. ⌜ ranAnswer r ≡ answer (checking (now (listing .entry)) switch (now (trail .entry)) (now (states .entry))) ⌝ }
 {
     let mut t = planning::blank();
     let d = planning::plan_at(listing, switch, &mut t);
     let v = d.verdict;
     match v {
         Verdict::Accepted => check_in(d.parts, &t, switch, trail, states),
-        Verdict::Refused(k) => Probed::Refused(k),
+        Verdict::Refused(k) => Ran::Refused(k),
     }
 }
 
@@ -272,19 +261,18 @@ fn probe_over(
     trail: &[u16],
     states: &[u8],
     search: Search,
-) -> Probed
+) -> Ran
     requires { ⌜ CanProbe p table (now states) (now trail) ⌝ }
     requires { ⌜ flag table ≡ used p ⌝ }
     requires { ⌜ now trail ≡ trailOf p ⌝ }
-    ensures { λ r. ⌜ probedAnswer r ≡ answer (probeOver p switch (now (states .entry)) search) ⌝ }
+    ensures { λ r. ⌜ ranAnswer r ≡ answer (probeOver p switch (now (states .entry)) search) ⌝ }
 {
     match judging::probe_wanted(p, search) {
         Asked::Probe(m) => {
             let links = arcs::links_in_service(p);
-            let e = packet::probe_run(p, table, states, switch, trail, links, m);
-            Probed::Outcome(outcome_of(e))
+            Ran::To(packet::probe_run(p, table, states, switch, trail, links, m))
         }
-        Asked::Refused(k) => Probed::Refused(k),
+        Asked::Refused(k) => Ran::Refused(k),
     }
 }
 
@@ -296,27 +284,27 @@ fn probe_in(
     trail: &[u16],
     states: &[u8],
     search: Search,
-) -> Probed
+) -> Ran
     requires { ⌜ Plan x (now t) ⌝ }
-    ensures { λ r. ⌜ probedAnswer r ≡ answer (probeIn switch (now (trail .entry)) (now (states .entry)) search (x .plant)) ⌝ }
+    ensures { λ r. ⌜ ranAnswer r ≡ answer (probeIn switch (now (trail .entry)) (now (states .entry)) search (x .plant)) ⌝ }
 {
     let used = x.used;
     match judging::judge_lent(x, t, trail, states) {
         Verdict::Accepted => probe_over(x.plant, used, switch, trail, states, search),
-        Verdict::Refused(k) => Probed::Refused(k),
+        Verdict::Refused(k) => Ran::Refused(k),
     }
 }
 
 // The run of the probe that a search wants: refusals 1 to 9 and 11 to 15.
-pub fn run_probe(listing: &[u8], switch: u8, trail: &[u16], states: &[u8], search: Search) -> Probed
-    ensures { λ r. ⌜ probedAnswer r ≡ answer (probing (now (listing .entry)) switch (now (trail .entry)) (now (states .entry)) search) ⌝ }
+pub fn run_probe(listing: &[u8], switch: u8, trail: &[u16], states: &[u8], search: Search) -> Ran
+    ensures { λ r. ⌜ ranAnswer r ≡ answer (probing (now (listing .entry)) switch (now (trail .entry)) (now (states .entry)) search) ⌝ }
 {
     let mut t = planning::blank();
     let d = planning::plan_at(listing, switch, &mut t);
     let v = d.verdict;
     match v {
         Verdict::Accepted => probe_in(d.parts, &t, switch, trail, states, search),
-        Verdict::Refused(k) => Probed::Refused(k),
+        Verdict::Refused(k) => Ran::Refused(k),
     }
 }
 

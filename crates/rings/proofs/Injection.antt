@@ -129,7 +129,7 @@ module _ (p : Plant) (w : List ℕ) (s : ℕ) (at : RingAt p w s) where
 
       module _ (up : ℕ → Bool) (m : ℕ) where
         -- so only the states of its labels matter
-        probe-states : probeRun p table w s e up m .ended ≡ all up (probeOf p w s e m)
+        pub probe-states : probeRun p table w s e up m .ended ≡ all up (probeOf p w s e m)
         unfolding probeRun
         probe-states = let k = meets m in rw (k .1) (run-ended (tail p) (head p) (k .0) up (probeOf p w s e m) s s 0 (probe-closed m) (k .2))
 

@@ -5,5 +5,6 @@ pub mod Ring
 pub mod Order
 pub mod Probe
 pub mod Injection
+pub mod GotTo
 pub mod Parts
 pub mod Refuted

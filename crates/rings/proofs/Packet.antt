@@ -1,33 +1,143 @@
--- Laws of runs: a run over two stretches, what a run does not look at, and runs along a walk. Assumes nothing.
-use mathlib.Core.Path.{_≡_, refl, ap, _∙_}
-use mathlib.Core.Logic.{inl, inr}
+-- Laws of runs: what a run tells, a run over two stretches, what a run does not look at, and runs along a walk. Assumes nothing.
+use mathlib.Core.Path.{_≡_, refl, sym, ap, _∙_}
+use mathlib.Core.Logic.{_⊎_, inl, inr, _↔_}
 use mathlib.Core.Bool.{Bool, true, false, _&&_}
 use mathlib.Core.List.{List, [], _∷_, _++_}
-use Prim.Native.Nat.{ℕ, suc, _+_}
+use Prim.Native.Nat.{ℕ, zero, suc, _+_, _≤_, _<_}
 use native.Mathlib.Omega.{arith}
-use native.Mathlib.Nat.{add-zero}
+use native.Mathlib.Nat.{add-zero, zero-add}
 use lib.Dec.{T}
-use lib.ListN.{length}
+use lib.ListN.{length, getD, take}
 use borrow.Author.Tests.{eq-eqb}
 use Rattle.lists.specs.Tests.{choose}
-use Rattle.lists.proofs.Tests.{T-true, and-true, and-when}
+use Rattle.lists.proofs.Tests.{T-true, not-both, and-true, and-when, eq?}
 use Rattle.lists.specs.Members.{In, all}
 use Rattle.walks.specs.Walk.{Walk}
-use Rattle.rings.specs.Packet.{End, run, runOn, rulesFor}
+use Rattle.rings.specs.Packet.{End, leadsTo, crosses, crossed, ends, run, runOn, rulesFor}
 
 module _ (rule : ℕ → ℕ → Bool) (up : ℕ → Bool) (hd : ℕ → ℕ) where
-  -- ---- two stretches, one after the other: the packet goes on from where it came to
+  -- ---- the packet rule of document 01, label by label
+
+  pub run-none : (at n : ℕ) → run rule up hd at n [] ≡ record { ended = true; hops = n; last = at }
+  unfolding run
+  run-none at n = ap (λ (j : ℕ). record { ended = true; hops = j; last = at }) (add-zero n)
+
+  pub run-label : (at n a : ℕ) (w : List ℕ)
+      → run rule up hd at n (a ∷ w) ≡ choose (rule at a && up a) (run rule up hd (hd a) (suc n) w) (record { ended = false; hops = n; last = at })
+  unfolding run
+  run-label at n a w = go (rule at a && up a)
+    where
+      go : (b : Bool) → record {
+        ended = b && ends rule up hd (hd a) w;
+        hops = n + length (choose b (a ∷ crossed rule up hd (hd a) w) []);
+        last = leadsTo hd at (choose b (a ∷ crossed rule up hd (hd a) w) []);
+      } ≡ choose b (run rule up hd (hd a) (suc n) w) (record { ended = false; hops = n; last = at })
+      go true = ap (λ (j : ℕ). record { ended = ends rule up hd (hd a) w; hops = j; last = leadsTo hd (hd a) (crossed rule up hd (hd a) w) }) (omega arith)
+      go false = ap (λ (j : ℕ). record { ended = false; hops = j; last = at }) (add-zero n)
+
+  -- ---- the labels crossed
+
+  -- they are the first of those carried
+  pub crossed-most : (w : List ℕ) (at : ℕ) → length (crossed rule up hd at w) ≤ length w
+  crossed-most [] at = omega arith
+  crossed-most (a ∷ w) at = go (rule at a && up a) (crossed-most w (hd a))
+    where
+      go : (b : Bool) → length (crossed rule up hd (hd a) w) ≤ length w → length (choose b (a ∷ crossed rule up hd (hd a) w) []) ≤ suc (length w)
+      go true h = omega arith
+      go false h = omega arith
+
+  pub crossed-first : (w : List ℕ) (at : ℕ) → crossed rule up hd at w ≡ take (length (crossed rule up hd at w)) w
+  crossed-first [] at = refl
+  crossed-first (a ∷ w) at = go (rule at a && up a) (crossed-first w (hd a))
+    where
+      go : (b : Bool) → crossed rule up hd (hd a) w ≡ take (length (crossed rule up hd (hd a) w)) w
+          → choose b (a ∷ crossed rule up hd (hd a) w) [] ≡ take (length (choose b (a ∷ crossed rule up hd (hd a) w) [])) (a ∷ w)
+      go true e = ap (λ (v : List ℕ). a ∷ v) e
+      go false e = refl
+
+  -- each of them has a rule at the switch that those before it lead to, and is up
+  pub crossed-before : (w : List ℕ) (at i : ℕ) → i < length (crossed rule up hd at w) → crosses rule up (leadsTo hd at (take i w)) (getD w i 0) ≡ true
+  crossed-before [] at i h = absurd (omega arith)
+  crossed-before (a ∷ w) at zero h = go (rule at a && up a) h
+    where
+      go : (b : Bool) → 0 < length (choose b (a ∷ crossed rule up hd (hd a) w) []) → b ≡ true
+      go true h = refl
+      go false h = absurd (omega arith)
+  crossed-before (a ∷ w) at (suc i) h = crossed-before w (hd a) i (go (rule at a && up a) h)
+    where
+      go : (b : Bool) → suc i < length (choose b (a ∷ crossed rule up hd (hd a) w) []) → i < length (crossed rule up hd (hd a) w)
+      go true h = omega arith
+      go false h = absurd (omega arith)
+
+  -- the next, if there is one, has no rule there or is not up
+  pub crossed-next : (w : List ℕ) (at : ℕ) → length (crossed rule up hd at w) < length w
+      → crosses rule up (leadsTo hd at (crossed rule up hd at w)) (getD w (length (crossed rule up hd at w)) 0) ≡ false
+  crossed-next [] at h = absurd (omega arith)
+  crossed-next (a ∷ w) at h = go (rule at a && up a) refl (crossed-next w (hd a)) h
+    where
+      go : (b : Bool) → (rule at a && up a) ≡ b
+          → (length (crossed rule up hd (hd a) w) < length w
+          → crosses rule up (leadsTo hd (hd a) (crossed rule up hd (hd a) w)) (getD w (length (crossed rule up hd (hd a) w)) 0) ≡ false)
+          → length (choose b (a ∷ crossed rule up hd (hd a) w) []) < suc (length w)
+          → crosses rule up (leadsTo hd at (choose b (a ∷ crossed rule up hd (hd a) w) [])) (getD (a ∷ w) (length (choose b (a ∷ crossed rule up hd (hd a) w) [])) 0) ≡ false
+      go true e next h = next (omega arith)
+      go false e next h = e
+
+  -- a packet ends exactly if it crosses all its labels
+  pub ends-all : (w : List ℕ) (at : ℕ) → ends rule up hd at w ≡ true → crossed rule up hd at w ≡ w
+  ends-all [] at e = refl
+  ends-all (a ∷ w) at e = let k = and-true (rule at a && up a) (ends rule up hd (hd a) w) e in rw (k .0) (ap (λ (v : List ℕ). a ∷ v) (ends-all w (hd a) (k .1)))
+
+  pub all-ends : (w : List ℕ) (at : ℕ) → length (crossed rule up hd at w) ≡ length w → ends rule up hd at w ≡ true
+  all-ends [] at e = refl
+  all-ends (a ∷ w) at e = go (rule at a && up a) (all-ends w (hd a)) e
+    where
+      go : (b : Bool) → (length (crossed rule up hd (hd a) w) ≡ length w → ends rule up hd (hd a) w ≡ true) → length (choose b (a ∷ crossed rule up hd (hd a) w) []) ≡ suc (length w) → b && ends rule up hd (hd a) w ≡ true
+      go true rest e = rest (omega arith)
+      go false rest e = absurd (omega arith)
+
+  -- so exactly if its hops are as many as its labels, and else they are fewer
+  pub ended-hops : (w : List ℕ) (at n : ℕ) → (run rule up hd at n w .ended ≡ true) ↔ (run rule up hd at n w .hops ≡ n + length w)
+  unfolding run
+  ended-hops w at n = (λ t. ap (λ (v : List ℕ). n + length v) (ends-all w at t), λ e. all-ends w at (omega arith))
+
+  pub hops-made : (w : List ℕ) (at : ℕ) → run rule up hd at 0 w .hops ≡ length (crossed rule up hd at w)
+  unfolding run
+  hops-made w at = zero-add (length (crossed rule up hd at w))
+
+  pub hops-most : (w : List ℕ) (at n : ℕ) → run rule up hd at n w .hops ≤ n + length w
+  unfolding run
+  hops-most w at n = omega (arith, crossed-most w at)
+
+  pub lost-hops : (w : List ℕ) (at n : ℕ) → run rule up hd at n w .ended ≡ false → run rule up hd at n w .hops < n + length w
+  lost-hops w at n f = go (eq? (run rule up hd at n w .hops) (n + length w))
+    where
+      go : (run rule up hd at n w .hops ≡ n + length w) ⊎ (run rule up hd at n w .hops ≡ n + length w → ⊥) → run rule up hd at n w .hops < n + length w
+      go (inl e) = absurd (not-both (run rule up hd at n w .ended) (ended-hops w at n .1 e) f)
+      go (inr k) = omega (arith, k, hops-most w at n)
+
+  -- ---- two stretches, one after the other: the packet goes on from where it came to, and its hops count on
 
   pub run-append : (x y : List ℕ) (at n : ℕ) → run rule up hd at n (x ++ y) ≡ runOn rule up hd (run rule up hd at n x) y
   unfolding runOn
-  run-append [] y at n = refl
-  run-append (a ∷ x) y at n = go (rule at a && up a) (run-append x y (hd a) (suc n))
+  run-append [] y at n = rw (run-none at n)
+  run-append (a ∷ x) y at n = rw (run-label at n a (x ++ y), run-label at n a x) (go (rule at a && up a) (run-append x y (hd a) (suc n)))
     where
       go : (b : Bool) → run rule up hd (hd a) (suc n) (x ++ y) ≡ runOn rule up hd (run rule up hd (hd a) (suc n) x) y
           → choose b (run rule up hd (hd a) (suc n) (x ++ y)) (record { ended = false; hops = n; last = at })
           ≡ runOn rule up hd (choose b (run rule up hd (hd a) (suc n) x) (record { ended = false; hops = n; last = at })) y
       go true e = e
       go false e = refl
+
+  -- a packet that has ended goes on from where its labels lead, after as many hops as they are
+  pub run-on : (x y : List ℕ) (at n : ℕ) → run rule up hd at n x .ended ≡ true → run rule up hd at n (x ++ y) ≡ run rule up hd (leadsTo hd at x) (n + length x) y
+  unfolding runOn run
+  run-on x y at n t = run-append x y at n ∙ rw (t, ends-all x at t)
+
+  -- one that is lost stays so
+  pub run-off : (x y : List ℕ) (at n : ℕ) → run rule up hd at n x .ended ≡ false → run rule up hd at n (x ++ y) ≡ run rule up hd at n x
+  unfolding runOn
+  run-off x y at n f = run-append x y at n ∙ rw f
 
   pub runOn-append : (e : End) (x y : List ℕ) → runOn rule up hd e (x ++ y) ≡ runOn rule up hd (runOn rule up hd e x) y
   unfolding runOn
@@ -43,10 +153,10 @@ module _ (rule : ℕ → ℕ → Bool) (up : ℕ → Bool) (hd : ℕ → ℕ) wh
 -- two runs are one if their rules agree on the labels carried, and the states agree on labels that have a rule
 pub run-same : (rule rule′ : ℕ → ℕ → Bool) (up up′ : ℕ → Bool) (hd : ℕ → ℕ) (w : List ℕ) (at n : ℕ) → ((x a : ℕ) → In a w → rule x a ≡ rule′ x a)
     → ((x a : ℕ) → In a w → rule x a ≡ true → up a ≡ up′ a) → run rule up hd at n w ≡ run rule′ up′ hd at n w
-run-same rule rule′ up up′ hd [] at n f g = refl
+run-same rule rule′ up up′ hd [] at n f g = run-none rule up hd at n ∙ sym (run-none rule′ up′ hd at n)
 run-same rule rule′ up up′ hd (a ∷ w) at n f g =
     let e = and-when (rule at a) (g at a (inl refl)) ∙ ap (λ (b : Bool). b && up′ a) (f at a (inl refl)) in
-    rw (e, run-same rule rule′ up up′ hd w (hd a) (suc n) (λ x b h. f x b (inr h)) (λ x b h. g x b (inr h)))
+    rw (run-label rule up hd at n a w, run-label rule′ up′ hd at n a w, e, run-same rule rule′ up up′ hd w (hd a) (suc n) (λ x b h. f x b (inr h)) (λ x b h. g x b (inr h)))
 
 -- ---- runs along a walk whose arcs have rules
 
@@ -57,20 +167,44 @@ module _ (tl hd : ℕ → ℕ) (kind up : ℕ → Bool) where
 
   -- the packet ends exactly if all its labels are up
   pub run-ended : (w : List ℕ) (x y n : ℕ) → Walk tl hd w x y → ((a : ℕ) → In a w → T (kind a)) → run (rulesFor kind tl) up hd x n w .ended ≡ all up w
+  unfolding run
   run-ended [] x y n e f = refl
   run-ended (a ∷ w) x y n q f =
-      rw (rule-here a x (f a (inl refl)) (q .0))
-      (go (up a) (run (rulesFor kind tl) up hd (hd a) (suc n) w) (run-ended w (hd a) y (suc n) (q .1) (λ b h. f b (inr h))))
-    where
-      go : (b : Bool) (r : End) → r .ended ≡ all up w → choose b r (record { ended = false; hops = n; last = x }) .ended ≡ b && all up w
-      go true r e = e
-      go false r e = refl
+      rw (rule-here a x (f a (inl refl)) (q .0)) (ap (λ (b : Bool). up a && b) (run-ended w (hd a) y (suc n) (q .1) (λ b h. f b (inr h))))
 
   -- then it is where the walk ends, and has crossed all its labels
   pub run-clear : (w : List ℕ) (x y n : ℕ) → Walk tl hd w x y → ((a : ℕ) → In a w → T (kind a)) → all up w ≡ true
       → run (rulesFor kind tl) up hd x n w ≡ record { ended = true; hops = n + length w; last = y }
-  run-clear [] x y n e f u = rw (e, add-zero n)
+  run-clear [] x y n e f u = rw (run-none (rulesFor kind tl) up hd x n, e, add-zero n)
   run-clear (a ∷ w) x y n q f u =
       let k = and-true (up a) (all up w) u in
-      rw (rule-here a x (f a (inl refl)) (q .0), k .0)
+      rw (run-label (rulesFor kind tl) up hd x n a w, rule-here a x (f a (inl refl)) (q .0), k .0)
       (run-clear w (hd a) y (suc n) (q .1) (λ b h. f b (inr h)) (k .1) ∙ ap (λ (j : ℕ). record { ended = true; hops = j; last = y }) (omega arith))
+
+  -- each label has a rule at the switch that those before it lead to
+  walk-rule : (w : List ℕ) (x y i : ℕ) → Walk tl hd w x y → ((a : ℕ) → In a w → T (kind a)) → i < length w
+      → rulesFor kind tl (leadsTo hd x (take i w)) (getD w i 0) ≡ true
+  walk-rule [] x y i q f h = absurd (omega arith)
+  walk-rule (a ∷ w) x y zero q f h = rule-here a x (f a (inl refl)) (q .0)
+  walk-rule (a ∷ w) x y (suc i) q f h = walk-rule w (hd a) y i (q .1) (λ b k. f b (inr k)) (omega arith)
+
+  -- so those before the one that a packet is lost at are up, and that one is not
+  pub lost-at : (w : List ℕ) (x y : ℕ) → Walk tl hd w x y → ((a : ℕ) → In a w → T (kind a)) → run (rulesFor kind tl) up hd x 0 w .ended ≡ false
+      → ((i : ℕ) → i < run (rulesFor kind tl) up hd x 0 w .hops → up (getD w i 0) ≡ true) × (up (getD w (run (rulesFor kind tl) up hd x 0 w .hops) 0) ≡ false)
+  lost-at w x y q f g = (
+    λ i h. and-true (rulesFor kind tl (leadsTo hd x (take i w)) (getD w i 0)) (up (getD w i 0)) (crossed-before (rulesFor kind tl) up hd w x i (omega (arith, made))) .1,
+    rw made (next (lost-hops (rulesFor kind tl) up hd w x 0 g)),
+  )
+    where
+      k : ℕ
+      k = length (crossed (rulesFor kind tl) up hd x w)
+
+      made : run (rulesFor kind tl) up hd x 0 w .hops ≡ k
+      made = hops-made (rulesFor kind tl) up hd w x
+
+      next : run (rulesFor kind tl) up hd x 0 w .hops < 0 + length w → up (getD w k 0) ≡ false
+      next h =
+          let rule = ap (λ (v : List ℕ). rulesFor kind tl (leadsTo hd x v) (getD w k 0)) (crossed-first (rulesFor kind tl) up hd w x)
+          ∙ walk-rule w x y k q f (omega (arith, made))
+          in
+          sym (ap (λ (b : Bool). b && up (getD w k 0)) rule) ∙ crossed-next (rulesFor kind tl) up hd w x (omega (arith, made))

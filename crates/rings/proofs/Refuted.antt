@@ -40,5 +40,5 @@ by-hops = (omega arith, omega arith)
 back-by-table : run (rulesFor (crossed (ringWithTail .trail)) (tail (ringWithTail .plant))) (λ l. true) (head (ringWithTail .plant)) 0 0
     (probeOf (ringWithTail .plant) (ringWithTail .trail) 0 (liveLinks (ringWithTail .plant)) 1)
     ≡ record { ended = false; hops = 1; last = 1 }
-unfolding probeOf ringOf probe outward orders.order rings.ring rings.readFrom rings.place leastFrom rulesFor opposite tail head live liveLinks count
+unfolding run probeOf ringOf probe outward orders.order rings.ring rings.readFrom rings.place leastFrom rulesFor opposite tail head live liveLinks count
 back-by-table = refl

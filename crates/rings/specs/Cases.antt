@@ -13,7 +13,7 @@ use Rattle.plant.specs.Links.{live}
 use Rattle.walks.specs.Arcs.{opposite, tail, head}
 use Rattle.walks.specs.Graph.{liveLinks}
 use Rattle.walks.specs.Cases as plants
-use Rattle.rings.specs.Packet.{byLink, rulesFor}
+use Rattle.rings.specs.Packet.{byLink, run, rulesFor}
 use Rattle.rings.specs.Rules.{inAll}
 use Rattle.rings.specs.Ring as rings
 use Rattle.rings.specs.Order as orders
@@ -27,8 +27,8 @@ pub record Switch : Type 0 where
   pub order : List ℕ
   -- the labels of probes 1 to E
   pub probes : List (List ℕ)
-  -- the probes that return while one link is down, for each link
-  pub returned : List (List ℕ)
+  -- the probes that end while one link is down, for each link
+  pub through : List (List ℕ)
 
 pub record Row : Type 0 where
   pub plant : Plant
@@ -47,7 +47,7 @@ switchOf p w s = record {
   ring = ringOf p w s;
   order = orderOf p w s;
   probes = map (probeOf p w s (liveLinks p)) (range 1 (liveLinks p));
-  returned = map (λ down. keep (λ m. probeRun p (crossed w) w s (liveLinks p) (byLink (λ l. not (eqb l down))) m .ended) (range 1 (liveLinks p)))
+  through = map (λ down. keep (λ m. probeRun p (crossed w) w s (liveLinks p) (byLink (λ l. not (eqb l down))) m .ended) (range 1 (liveLinks p)))
       (keep (live p) (range 0 (p .count)));
 }
 
@@ -63,19 +63,19 @@ triangle = record {
     ring = 0 ∷ 2 ∷ 4 ∷ [];
     order = 0 ∷ 1 ∷ 2 ∷ [];
     probes = (0 ∷ 1 ∷ []) ∷ (0 ∷ 2 ∷ 3 ∷ 1 ∷ []) ∷ (0 ∷ 2 ∷ 4 ∷ []) ∷ [];
-    returned = [] ∷ (1 ∷ []) ∷ (1 ∷ 2 ∷ []) ∷ [];
+    through = [] ∷ (1 ∷ []) ∷ (1 ∷ 2 ∷ []) ∷ [];
   } ∷ record {
     place = 1;
     ring = 2 ∷ 4 ∷ 0 ∷ [];
     order = 1 ∷ 2 ∷ 0 ∷ [];
     probes = (2 ∷ 3 ∷ []) ∷ (2 ∷ 4 ∷ 5 ∷ 3 ∷ []) ∷ (2 ∷ 4 ∷ 0 ∷ []) ∷ [];
-    returned = (1 ∷ 2 ∷ []) ∷ [] ∷ (1 ∷ []) ∷ [];
+    through = (1 ∷ 2 ∷ []) ∷ [] ∷ (1 ∷ []) ∷ [];
   } ∷ record {
     place = 2;
     ring = 4 ∷ 0 ∷ 2 ∷ [];
     order = 2 ∷ 0 ∷ 1 ∷ [];
     probes = (4 ∷ 5 ∷ []) ∷ (4 ∷ 0 ∷ 1 ∷ 5 ∷ []) ∷ (4 ∷ 0 ∷ 2 ∷ []) ∷ [];
-    returned = (1 ∷ []) ∷ (1 ∷ 2 ∷ []) ∷ [] ∷ [];
+    through = (1 ∷ []) ∷ (1 ∷ 2 ∷ []) ∷ [] ∷ [];
   } ∷ [];
 }
 
@@ -88,13 +88,13 @@ oneLink = record {
     ring = 0 ∷ 1 ∷ [];
     order = 0 ∷ [];
     probes = (0 ∷ 1 ∷ []) ∷ [];
-    returned = [] ∷ [];
+    through = [] ∷ [];
   } ∷ record {
     place = 1;
     ring = 1 ∷ 0 ∷ [];
     order = 0 ∷ [];
     probes = (1 ∷ 0 ∷ []) ∷ [];
-    returned = [] ∷ [];
+    through = [] ∷ [];
   } ∷ [];
 }
 
@@ -107,13 +107,13 @@ threeParallel = record {
     ring = 0 ∷ 3 ∷ 0 ∷ 5 ∷ [];
     order = 0 ∷ 1 ∷ 2 ∷ [];
     probes = (0 ∷ 1 ∷ []) ∷ (0 ∷ 3 ∷ 2 ∷ 1 ∷ []) ∷ (0 ∷ 3 ∷ 0 ∷ 5 ∷ []) ∷ [];
-    returned = [] ∷ (1 ∷ []) ∷ (1 ∷ 2 ∷ []) ∷ [];
+    through = [] ∷ (1 ∷ []) ∷ (1 ∷ 2 ∷ []) ∷ [];
   } ∷ record {
     place = 1;
     ring = 3 ∷ 0 ∷ 5 ∷ 0 ∷ [];
     order = 1 ∷ 0 ∷ 2 ∷ [];
     probes = (3 ∷ 2 ∷ []) ∷ (3 ∷ 0 ∷ 1 ∷ 2 ∷ []) ∷ (3 ∷ 0 ∷ 5 ∷ 0 ∷ []) ∷ [];
-    returned = (1 ∷ []) ∷ [] ∷ (1 ∷ 2 ∷ []) ∷ [];
+    through = (1 ∷ []) ∷ [] ∷ (1 ∷ 2 ∷ []) ∷ [];
   } ∷ [];
 }
 
@@ -126,7 +126,7 @@ alone = record {
     ring = [];
     order = [];
     probes = [];
-    returned = [];
+    through = [];
   } ∷ [];
 }
 
@@ -139,25 +139,25 @@ ringWithTail = record {
     ring = 0 ∷ 2 ∷ 4 ∷ 6 ∷ 7 ∷ [];
     order = 0 ∷ 1 ∷ 2 ∷ 3 ∷ [];
     probes = (0 ∷ 1 ∷ []) ∷ (0 ∷ 2 ∷ 3 ∷ 1 ∷ []) ∷ (0 ∷ 2 ∷ 4 ∷ 5 ∷ 3 ∷ 1 ∷ []) ∷ (0 ∷ 2 ∷ 4 ∷ 6 ∷ 7 ∷ []) ∷ [];
-    returned = [] ∷ (1 ∷ []) ∷ (1 ∷ 2 ∷ []) ∷ (1 ∷ 2 ∷ 3 ∷ []) ∷ [];
+    through = [] ∷ (1 ∷ []) ∷ (1 ∷ 2 ∷ []) ∷ (1 ∷ 2 ∷ 3 ∷ []) ∷ [];
   } ∷ record {
     place = 1;
     ring = 2 ∷ 4 ∷ 6 ∷ 7 ∷ 0 ∷ [];
     order = 1 ∷ 2 ∷ 3 ∷ 0 ∷ [];
     probes = (2 ∷ 3 ∷ []) ∷ (2 ∷ 4 ∷ 5 ∷ 3 ∷ []) ∷ (2 ∷ 4 ∷ 6 ∷ 7 ∷ 5 ∷ 3 ∷ []) ∷ (2 ∷ 4 ∷ 6 ∷ 7 ∷ 0 ∷ []) ∷ [];
-    returned = (1 ∷ 2 ∷ 3 ∷ []) ∷ [] ∷ (1 ∷ []) ∷ (1 ∷ 2 ∷ []) ∷ [];
+    through = (1 ∷ 2 ∷ 3 ∷ []) ∷ [] ∷ (1 ∷ []) ∷ (1 ∷ 2 ∷ []) ∷ [];
   } ∷ record {
     place = 2;
     ring = 4 ∷ 6 ∷ 7 ∷ 0 ∷ 2 ∷ [];
     order = 2 ∷ 3 ∷ 0 ∷ 1 ∷ [];
     probes = (4 ∷ 5 ∷ []) ∷ (4 ∷ 6 ∷ 7 ∷ 5 ∷ []) ∷ (4 ∷ 6 ∷ 7 ∷ 0 ∷ 1 ∷ 6 ∷ 7 ∷ 5 ∷ []) ∷ (4 ∷ 6 ∷ 7 ∷ 0 ∷ 2 ∷ []) ∷ [];
-    returned = (1 ∷ 2 ∷ []) ∷ (1 ∷ 2 ∷ 3 ∷ []) ∷ [] ∷ (1 ∷ []) ∷ [];
+    through = (1 ∷ 2 ∷ []) ∷ (1 ∷ 2 ∷ 3 ∷ []) ∷ [] ∷ (1 ∷ []) ∷ [];
   } ∷ record {
     place = 4;
     ring = 7 ∷ 0 ∷ 2 ∷ 4 ∷ 6 ∷ [];
     order = 3 ∷ 0 ∷ 1 ∷ 2 ∷ [];
     probes = (7 ∷ 6 ∷ []) ∷ (7 ∷ 0 ∷ 1 ∷ 6 ∷ []) ∷ (7 ∷ 0 ∷ 2 ∷ 3 ∷ 1 ∷ 6 ∷ []) ∷ (7 ∷ 0 ∷ 2 ∷ 4 ∷ 6 ∷ []) ∷ [];
-    returned = (1 ∷ []) ∷ (1 ∷ 2 ∷ []) ∷ (1 ∷ 2 ∷ 3 ∷ []) ∷ [] ∷ [];
+    through = (1 ∷ []) ∷ (1 ∷ 2 ∷ []) ∷ (1 ∷ 2 ∷ 3 ∷ []) ∷ [] ∷ [];
   } ∷ [];
 }
 
@@ -165,5 +165,5 @@ abbrev pub table : List Row
 table = triangle ∷ oneLink ∷ threeParallel ∷ alone ∷ ringWithTail ∷ []
 
 pub as-expected : map (λ r. rowOf (r .plant) (r .trail)) table ≡ table
-unfolding switchOf probeRun probeRules probeOf orderOf ringOf probe outward orders.order rings.ring rings.readFrom rings.place leastFrom rulesFor inAll opposite tail head live liveLinks count
+unfolding switchOf run probeRun probeRules probeOf orderOf ringOf probe outward orders.order rings.ring rings.readFrom rings.place leastFrom rulesFor inAll opposite tail head live liveLinks count
 as-expected = refl

@@ -22,7 +22,7 @@ pub enum Said {
     Down(u16),
 }
 
-// What became of a probe: it came home, or it did not.
+// The outcome of a probe, as it is given to a search. Which one a run has is read out of it by `packet::outcome_of`.
 pub enum Outcome {
     Returned,
     Lost,

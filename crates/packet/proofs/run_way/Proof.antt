@@ -1,76 +1,96 @@
--- A run. The invariant: what is left of it from here comes out as the whole from where the packet was. Assumes nothing.
-use mathlib.Core.Path.{_≡_, refl, sym, _∙_}
-use Prim.Native.Nat.{_+_, _-_, _≤_}
+-- A run. The invariant: the packet has not been lost, its hops count on by the labels crossed, and what is left of the run comes out as the whole from where the packet was.
+-- Assumes nothing.
+use mathlib.Core.Path.{_≡_, refl, ap, ap₂, _∙_}
+use mathlib.Core.List.{List}
+use Prim.Native.Nat.{ℕ, _+_, _-_, _<_}
 use native.Mathlib.Omega.{arith}
 use borrow.Author.Needs.{needs}
 use borrow.Author.Tests.{not-true, not-false}
-use lib.ListN.{length, drop}
+use lib.ListN.{length, getD, drop}
 use Rattle.walks.specs.Arcs.{head}
-use Rattle.packet.specs.Runs.{endOf, goesOn}
+use Rattle.rings.specs.Packet as ring
+use Rattle.packet.specs.Runs.{endOf, afterLabel, goesOn}
 use Rattle.packet.specs.Asked.{way}
-use Rattle.packet.proofs.Hops.{runs, passes-past, passes-is, runs-lost, runs-hop, runs-all, on-lost, on-ended}
+use Rattle.packet.proofs.Ways.{way-length}
+use Rattle.packet.proofs.Hops.{Came, passes, passes-past, passes-is, goes-lost, goes-none, goes-label, after-counts}
 use Rattle.packet.proofs.run_way.Statement.{statement}
 use Rattle.packet.proofs.run_way.Tie as tie
 
 abbrev Inv-loop : tie.InvT-loop
-Inv-loop states labels backward p rules n at₀ hops₀ i₀ at hops i =
-    (i ≤ length labels) × ((hops ≡ hops₀ + i) × (runs p rules states at hops (drop i (way backward labels)) ≡ runs p rules states at₀ hops₀ (way backward labels)))
+Inv-loop states labels backward p rules n at₀ i₀ at i = Came p rules states (way backward labels) (endOf at₀) (endOf at) i
 
 abbrev μ-loop : tie.MeasureT-loop
-μ-loop states labels backward p rules n at₀ hops₀ i₀ at hops i = length labels - i
+μ-loop states labels backward p rules n at₀ i₀ at i = length labels - i
 
 returns : tie.Need-returns Inv-loop μ-loop
-returns c = on-lost _ _ _ (endOf (c .before .before .before .before .args .e)) _ (not-true _ (c .if1 .taken))
+returns c = goes-lost _ _ _ (endOf (c .before .before .before .before .args .e)) _ (not-true _ (c .if1 .taken))
 
 loop-holds : tie.Need-loop-holds Inv-loop μ-loop
-loop-holds c = (omega arith, (omega arith, refl))
+loop-holds c = record { going = not-false _ (c .if1 .left); counted = omega arith; rest = refl }
 
--- what is left of the run comes out as the run over all labels
-rest : (c : tie.At-loop Inv-loop μ-loop)
-    → let s = c .before .before .before .before .before .args in
-    runs (s .t1) (s .t2) (s .states .now) (c .loop .at) (c .loop .hops) (drop (c .loop .i) (way (s .backward) (s .labels .now)))
-    ≡ goesOn (s .t1) (s .t2) (s .states .now) (endOf (s .e)) (way (s .backward) (s .labels .now))
-rest c = c .loop .inv .1 .1 ∙ on-ended _ _ _ (endOf (c .before .before .before .before .before .args .e)) _ (not-false _ (c .before .if1 .left))
+-- ---- at the loop
 
-returns-2 : tie.Need-returns-2 Inv-loop μ-loop
-returns-2 c =
-    let k = c .before .before .before in
-    let s = k .before .before .before .before .before in
-    runs-lost _ _ _ (s .args .backward) (s .args .labels .now) _ _ (k .loop .i) _ (c .before .before .loop-test .taken) (c .before .label-at .ensures)
-    (passes-past _ _ _ (s .pre .0 .arcs) _ _ (c .if2 .taken))
-    ∙ rest k
+module _ (k : tie.At-loop Inv-loop μ-loop) where
+  abbrev start : tie.Start Inv-loop μ-loop
+  start = k .before .before .before .before .before
 
-returns-3 : tie.Need-returns-3 Inv-loop μ-loop
-returns-3 c =
-    let a = c .before .before .before .before .before in
-    let k = a .before .before in
-    let s = k .before .before .before .before .before in
-    runs-lost _ _ _ (s .args .backward) (s .args .labels .now) _ _ (k .loop .i) _ (a .before .loop-test .taken) (a .label-at .ensures)
-    (sym (passes-is _ _ _ _ _ _ (c .before .crosses .ensures)) ∙ not-true _ (c .if3 .taken))
-    ∙ rest k
+  abbrev labels : List ℕ
+  labels = start .args .labels .now
 
-loop-again : tie.Need-loop-again Inv-loop μ-loop
+  -- how the run comes out in the end
+  abbrev whole : ring.End
+  whole = goesOn (start .args .t1) (start .args .t2) (start .args .states .now) (endOf (start .args .e)) (way (start .args .backward) labels)
+
+  -- label a comes next, and leaves the packet at r: from there the run comes out as it does
+  label : (a : ℕ) → k .loop .i < length labels → a ≡ getD (way (start .args .backward) labels) (k .loop .i) 0 → (r : ring.End)
+      → r ≡ afterLabel (endOf (k .loop .at)) (passes (start .args .t1) (start .args .t2) (start .args .states .now) (k .loop .at .last) a) (head (start .args .t1) a)
+      → goesOn (start .args .t1) (start .args .t2) (start .args .states .now) r (drop (k .loop .i + 1) (way (start .args .backward) labels)) ≡ whole
+  label a h e r q =
+      goes-label _ _ _ (way (start .args .backward) labels) (k .loop .i) a (endOf (k .loop .at)) r (k .loop .inv .going)
+      (omega (arith, h, way-length (start .args .backward) labels)) e q ∙ k .loop .inv .rest
+
+-- after a label of the plant
+on : (c : tie.After-after-label2 Inv-loop μ-loop)
+    → let k = c .before .before .before .before .before .before .before .before in
+    goesOn (start k .args .t1) (start k .args .t2) (start k .args .states .now) (endOf (c .after-label2 .result)) (drop (k .loop .i + 1) (way (start k .args .backward) (labels k)))
+    ≡ whole k
 unfolding head
-loop-again c =
+on c =
     let a = c .before .before .before .before .before .before in
     let k = a .before .before in
-    let s = k .before .before .before .before .before in (
-      omega arith,
-      (
-        omega arith,
-        runs-hop _ _ _ (s .args .backward) (s .args .labels .now) _ (k .loop .hops) (k .loop .i) _ (a .before .loop-test .taken) (a .label-at .ensures) _
-            (sym (passes-is _ _ _ _ _ _ (c .before .before .crosses .ensures)) ∙ not-false _ (c .before .if3 .left)) (c .head-of .ensures)
-            ∙ k .loop .inv .1 .1,
-      ),
-    )
+    label k _ (a .before .loop-test .taken) (a .label-at .ensures) _
+    (c .after-label2 .ensures ∙ ap₂ (afterLabel (endOf (k .loop .at))) (passes-is _ _ _ _ _ _ (c .before .before .crosses .ensures)) (c .before .head-of .ensures))
+
+-- ---- the needs
+
+-- a label past those of the plant
+returns-2 : tie.Need-returns-2 Inv-loop μ-loop
+returns-2 c =
+    let a = c .before .before in
+    let k = a .before .before in
+    let none = passes-past (start k .args .t1) (start k .args .t2) (start k .args .states .now) (start k .pre .0 .arcs) (k .loop .at .last) (a .label-at .result) (c .before .if2 .taken) in
+    goes-lost _ _ _ (endOf (c .after-label .result)) _ (ap (λ (d : ring.End). d .ended) (c .after-label .ensures))
+    ∙ label k _ (a .before .loop-test .taken) (a .label-at .ensures) _ (c .after-label .ensures ∙ rw none)
+
+returns-3 : tie.Need-returns-3 Inv-loop μ-loop
+returns-3 c = let b = c .before .before in goes-lost _ _ _ (endOf (b .after-label2 .result)) _ (not-true _ (c .if3 .taken)) ∙ on b
+
+loop-again : tie.Need-loop-again Inv-loop μ-loop
+loop-again c =
+    let b = c .before .before in
+    let k = b .before .before .before .before .before .before .before .before in
+    let going = not-false _ (c .if3 .left) in
+    let hop = after-counts (b .before .before .crosses .result) (endOf (k .loop .at)) (endOf (b .after-label2 .result)) (b .before .head-of .result) (b .after-label2 .ensures) going in
+    record { going = going; counted = omega (arith, hop, k .loop .inv .counted); rest = on b }
 
 returns-4 : tie.Need-returns-4 Inv-loop μ-loop
 returns-4 c =
-    let s = c .before .before .before .before .before .before .args in
-    runs-all _ _ _ (s .backward) (s .labels .now) _ _ (c .before .loop .i) (c .loop-test .left) ∙ rest (c .before)
+    let k = c .before in
+    goes-none _ _ _ (way (start k .args .backward) (labels k)) (k .loop .i) (endOf (k .loop .at)) (omega (arith, c .loop-test .left, way-length (start k .args .backward) (labels k)))
+    (k .loop .inv .going) ∙ k .loop .inv .rest
 
 pub run-way-spec : {M : Type 1} → statement M
 run-way-spec =
     tie.close (tie.spec Inv-loop μ-loop returns (λ c. search needs) (λ c. search needs) loop-holds (λ c κs. search needs) (λ c. search needs)
-    returns-2 (λ c. search needs) (λ c. search needs) (λ c. search needs) (λ c. search needs) (λ c κs. search needs) returns-3
-    (λ c κs. search needs) (λ c. search needs) (λ c. search needs) (λ c. search needs) loop-again returns-4)
+    (λ c κs. omega (arith, c .before .before .before .loop .inv .counted)) returns-2 (λ c. search needs) (λ c. search needs) (λ c. search needs) (λ c. search needs) (λ c κs. search needs) (λ c κs. search needs)
+    (λ c κs. omega (arith, c .before .before .before .before .before .before .before .loop .inv .counted)) returns-3 (λ c. search needs) (λ c. search needs) loop-again returns-4)

@@ -21,13 +21,13 @@ full-check-requires c κs =
 returns : tie.Need-returns
 unfolding checkIn
 returns c =
-    let m = c .before .before in
+    let m = c .before in
     let j = m .before .before in
     let u = j .before in
     let a = u .before .before .before in
     let s = a .args in
     checked (s .x .plant) (s .trail .now) (s .switch) (lent-same _ _ _ _ (j .judge-lent .ensures) (m .enum-told .given .1)) (flags-same (a .pre .from-start .parts .used-are))
-    (upByLink (s .states .now)) (endOf (c .before .full-check .result)) _ (c .outcome-of .ensures) (c .before .full-check .ensures)
+    (upByLink (s .states .now)) (endOf (c .full-check .result)) (c .full-check .ensures)
     ∙ sym (passed _ _ (j .judge-lent .ensures) _ (m .enum-told .given .1))
 
 returns-2 : tie.Need-returns-2
@@ -36,4 +36,4 @@ returns-2 c = sym (turned-down _ _ (c .before .before .before .judge-lent .ensur
 
 pub check-in-spec : {M : Type 1} → statement M
 check-in-spec =
-    tie.close (tie.spec (λ c κs. search needs) (λ c. search needs) full-check-requires (λ c κs. search needs) (λ c. search needs) returns returns-2)
+    tie.close (tie.spec (λ c κs. search needs) (λ c. search needs) full-check-requires (λ c. search needs) returns returns-2)

@@ -2,7 +2,7 @@
 use native.Mathlib.Omega.{arith}
 use Rattle.packet.specs.Runs.{endOf}
 use Rattle.planning.proofs.Counted.{links-few}
-use Rattle.probing.specs.Calls.{probeOutcome}
+use Rattle.probing.specs.Calls.{probeEnd}
 use Rattle.judging.proofs.Searching.{probe-given, probe-among, probe-refused}
 use Rattle.probing.proofs.Results.{probed}
 use borrow.Author.Needs.{needs}
@@ -19,20 +19,19 @@ probe-run-requires c κs =
 
 returns : tie.Need-returns
 returns c =
-    let l = c .before .before in
+    let l = c .before in
     let n = l .before .before in
     let a = n .before .before in
     let s = a .before .before .before in
-    probe-given _ _ _ (a .probe-wanted .ensures) (probeOutcome (s .args .p) (s .args .switch) (s .args .states .now)) _ _ (n .m .given .1)
-    (probed (s .args .p) _ _ (s .pre .1 .1) (s .pre .1 .0) _ (endOf (c .before .probe-run .result)) _ (c .outcome-of .ensures) _ _ (l .links-in-service .ensures)
-    (c .before .probe-run .ensures))
+    probe-given _ _ _ (a .probe-wanted .ensures) (probeEnd (s .args .p) (s .args .switch) (s .args .states .now)) _ _ (n .m .given .1)
+    (probed (s .args .p) _ _ (s .pre .1 .1) (s .pre .1 .0) _ (endOf (c .probe-run .result)) _ _ (l .links-in-service .ensures) (c .probe-run .ensures))
 
 returns-2 : tie.Need-returns-2
 returns-2 c =
     let a = c .before .before .before in
     let s = a .before .before .before in
-    probe-refused _ _ _ (a .probe-wanted .ensures) (probeOutcome (s .args .p) (s .args .switch) (s .args .states .now)) _ (c .before .k .given .1)
+    probe-refused _ _ _ (a .probe-wanted .ensures) (probeEnd (s .args .p) (s .args .switch) (s .args .states .now)) _ (c .before .k .given .1)
 
 pub probe-over-spec : {M : Type 1} → statement M
 probe-over-spec =
-    tie.close (tie.spec (λ c κs. search needs) (λ c. search needs) (λ c κs. search needs) probe-run-requires (λ c κs. search needs) (λ c. search needs) returns returns-2)
+    tie.close (tie.spec (λ c κs. search needs) (λ c. search needs) (λ c κs. search needs) probe-run-requires (λ c. search needs) returns returns-2)

@@ -1,6 +1,7 @@
 -- A run under the forwarding table: refusal 13, then the run. Assumes nothing.
 use mathlib.Core.Path.{sym, _∙_}
 use native.Mathlib.Omega.{arith}
+use Rattle.packet.specs.Runs.{endOf}
 use Rattle.packet.proofs.Probes.{injected-hops}
 use Rattle.probing.specs.Calls.{runIn}
 use Rattle.answers.proofs.Checks.{holds, fails}
@@ -27,23 +28,12 @@ run-on-requires c κs =
 returns-2 : tie.Need-returns-2
 unfolding runIn
 returns-2 c =
-    let i = c .before .before in
+    let i = c .before in
     let b = i .before .before in
     let s = b .before .before .before .before in
     fails 13 _ _ _ (sym (b .before .too-few .ensures) ∙ b .if1 .left)
-    (ran-as _ _ _ _ _ (flags-same (s .pre .parts .used-are)) (i .injected .result) (c .before .run-on .result) _
-    (i .injected .ensures) (c .before .run-on .ensures) (c .if2 .taken))
-
-returns-3 : tie.Need-returns-3
-unfolding runIn
-returns-3 c =
-    let i = c .before .before in
-    let b = i .before .before in
-    let s = b .before .before .before .before in
-    fails 13 _ _ _ (sym (b .before .too-few .ensures) ∙ b .if1 .left)
-    (ran-as _ _ _ _ _ (flags-same (s .pre .parts .used-are)) (i .injected .result) (c .before .run-on .result) _
-    (i .injected .ensures) (c .before .run-on .ensures) (c .if2 .left))
+    (ran-as _ _ _ _ _ (flags-same (s .pre .parts .used-are)) (endOf (i .injected .result)) (endOf (c .run-on .result)) (i .injected .ensures) (c .run-on .ensures))
 
 pub run-in-spec : {M : Type 1} → statement M
 run-in-spec =
-    tie.close (tie.spec (λ c κs. search needs) returns (λ c κs. search needs) run-on-requires returns-2 returns-3)
+    tie.close (tie.spec (λ c κs. search needs) returns (λ c κs. search needs) run-on-requires returns-2)
