@@ -1,4 +1,5 @@
-// Packet runs: under rules that are flags of labels, by one state byte for each link; the full check, every probe, and the outcome of a run. Inner: the calls are the crates `planner` and `probing`.
+// Packet runs: under rules that are flags of labels, by one state byte for each link; the full check, every probe, and the outcome of a run. Inner: the calls are the
+// crates `planner` and `probing`.
 ghost use mathlib.Core.Path.{_≡_};
 ghost use mathlib.Core.Bool.{not, _&&_};
 ghost use Prim.Native.Nat.{_+_, _*_, _%_, _≤_, _<_};
@@ -79,7 +80,8 @@ fn crosses(rule: bool, state: u8, l: Link, a: usize, s: u8) -> bool
     state != 0
 }
 
-// After the next label: a packet that crosses is at the switch that the label leads to, after one hop more; one that does not is lost where it is, after those that it made.
+// After the next label: a packet that crosses is at the switch that the label leads to, after one hop more; one that does not is lost where it is, after the hops
+// that it made.
 fn after_label(e: End, crosses: bool, to: u8) -> End
     requires { do ⌜ e .hops + 1 ≤ (← ⟦usize::MAX⟧) ⌝ }
     ensures { λ r. ⌜ endOf r ≡ afterLabel (endOf e) crosses to ⌝ }

@@ -40,8 +40,9 @@ counts-on p w s table e up m n t =
 
 -- ---- the first label whose link is down is of the first broken link of the order
 
-first-lost : (up : ℕ → Bool) {seen w o : List ℕ} → Firsts seen w o → (k : ℕ) → k < length w → all up seen ≡ true → ((i : ℕ) → i < k → up (getD w i 0 / 2) ≡ true)
-    → up (getD w k 0 / 2) ≡ false → (j : ℕ) × (j < length o) × (getD o j 0 ≡ getD w k 0 / 2) × ((i : ℕ) → i < j → up (getD o i 0) ≡ true)
+first-lost : (up : ℕ → Bool) {seen w o : List ℕ} → Firsts seen w o → (k : ℕ) → k < length w → all up seen ≡ true
+    → ((i : ℕ) → i < k → up (getD w i 0 / 2) ≡ true) → up (getD w k 0 / 2) ≡ false
+    → (j : ℕ) × (j < length o) × (getD o j 0 ≡ getD w k 0 / 2) × ((i : ℕ) → i < j → up (getD o i 0) ≡ true)
 first-lost up none k h s before down = absurd (omega arith)
 first-lost up (old {seen} {w} {o} {a} q r) zero h s before down = absurd (not-both (up (a / 2)) (all-at up seen s (a / 2) q) down)
 first-lost up (old q r) (suc k) h s before down = first-lost up r k (omega arith) s (λ i g. before (suc i) (omega arith)) down
@@ -127,7 +128,8 @@ module _ (p : Plant) (w : List ℕ) (s : ℕ) (at : RingAt p w s) (m e : ℕ) wh
       unfolding orderOf order
       lost-broken = broken (probeRun p table w s e (byLink up) m .hops) lost-out (stopped .0) (stopped .1)
         where
-          stopped : ((i : ℕ) → i < probeRun p table w s e (byLink up) m .hops → up (getD way i 0 / 2) ≡ true) × (up (getD way (probeRun p table w s e (byLink up) m .hops) 0 / 2) ≡ false)
+          stopped : ((i : ℕ) → i < probeRun p table w s e (byLink up) m .hops → up (getD way i 0 / 2) ≡ true)
+              × (up (getD way (probeRun p table w s e (byLink up) m .hops) 0 / 2) ≡ false)
           stopped =
               let r = way-rules in
               let c = front-walk way (way-front .0) (way-front .1) in

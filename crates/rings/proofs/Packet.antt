@@ -25,76 +25,72 @@ module _ (rule : ℕ → ℕ → Bool) (up : ℕ → Bool) (hd : ℕ → ℕ) wh
   pub run-label : (at n a : ℕ) (w : List ℕ)
       → run rule up hd at n (a ∷ w) ≡ choose (rule at a && up a) (run rule up hd (hd a) (suc n) w) (record { ended = false; hops = n; last = at })
   unfolding run
-  run-label at n a w = go (rule at a && up a)
+  run-label at n a w = go (rule at a && up a) (crossed rule up hd (hd a) w)
     where
-      go : (b : Bool) → record {
-        ended = b && ends rule up hd (hd a) w;
-        hops = n + length (choose b (a ∷ crossed rule up hd (hd a) w) []);
-        last = leadsTo hd at (choose b (a ∷ crossed rule up hd (hd a) w) []);
-      } ≡ choose b (run rule up hd (hd a) (suc n) w) (record { ended = false; hops = n; last = at })
-      go true = ap (λ (j : ℕ). record { ended = ends rule up hd (hd a) w; hops = j; last = leadsTo hd (hd a) (crossed rule up hd (hd a) w) }) (omega arith)
-      go false = ap (λ (j : ℕ). record { ended = false; hops = j; last = at }) (add-zero n)
+      go : (b : Bool) (v : List ℕ) → _≡_ {A = End}
+          (record { ended = b && ends rule up hd (hd a) w; hops = n + length (choose b (a ∷ v) []); last = leadsTo hd at (choose b (a ∷ v) []) })
+          (choose b (record { ended = ends rule up hd (hd a) w; hops = suc n + length v; last = leadsTo hd (hd a) v }) (record { ended = false; hops = n; last = at }))
+      go true v = ap (λ (j : ℕ). record { ended = ends rule up hd (hd a) w; hops = j; last = leadsTo hd (hd a) v }) (omega arith)
+      go false v = ap (λ (j : ℕ). record { ended = false; hops = j; last = at }) (add-zero n)
 
-  -- ---- the labels crossed
+  -- ---- the labels crossed. Below, b tells whether the first label is, and v are those crossed after it
 
   -- they are the first of those carried
   pub crossed-most : (w : List ℕ) (at : ℕ) → length (crossed rule up hd at w) ≤ length w
   crossed-most [] at = omega arith
-  crossed-most (a ∷ w) at = go (rule at a && up a) (crossed-most w (hd a))
+  crossed-most (a ∷ w) at = go (rule at a && up a) (crossed rule up hd (hd a) w) (crossed-most w (hd a))
     where
-      go : (b : Bool) → length (crossed rule up hd (hd a) w) ≤ length w → length (choose b (a ∷ crossed rule up hd (hd a) w) []) ≤ suc (length w)
-      go true h = omega arith
-      go false h = omega arith
+      go : (b : Bool) (v : List ℕ) → length v ≤ length w → length (choose b (a ∷ v) []) ≤ suc (length w)
+      go true v h = omega arith
+      go false v h = omega arith
 
   pub crossed-first : (w : List ℕ) (at : ℕ) → crossed rule up hd at w ≡ take (length (crossed rule up hd at w)) w
   crossed-first [] at = refl
-  crossed-first (a ∷ w) at = go (rule at a && up a) (crossed-first w (hd a))
+  crossed-first (a ∷ w) at = go (rule at a && up a) (crossed rule up hd (hd a) w) (crossed-first w (hd a))
     where
-      go : (b : Bool) → crossed rule up hd (hd a) w ≡ take (length (crossed rule up hd (hd a) w)) w
-          → choose b (a ∷ crossed rule up hd (hd a) w) [] ≡ take (length (choose b (a ∷ crossed rule up hd (hd a) w) [])) (a ∷ w)
-      go true e = ap (λ (v : List ℕ). a ∷ v) e
-      go false e = refl
+      go : (b : Bool) (v : List ℕ) → v ≡ take (length v) w → choose b (a ∷ v) [] ≡ take (length (choose b (a ∷ v) [])) (a ∷ w)
+      go true v e = ap (λ (l : List ℕ). a ∷ l) e
+      go false v e = refl
 
   -- each of them has a rule at the switch that those before it lead to, and is up
   pub crossed-before : (w : List ℕ) (at i : ℕ) → i < length (crossed rule up hd at w) → crosses rule up (leadsTo hd at (take i w)) (getD w i 0) ≡ true
   crossed-before [] at i h = absurd (omega arith)
-  crossed-before (a ∷ w) at zero h = go (rule at a && up a) h
+  crossed-before (a ∷ w) at zero h = go (rule at a && up a) (crossed rule up hd (hd a) w) h
     where
-      go : (b : Bool) → 0 < length (choose b (a ∷ crossed rule up hd (hd a) w) []) → b ≡ true
-      go true h = refl
-      go false h = absurd (omega arith)
-  crossed-before (a ∷ w) at (suc i) h = crossed-before w (hd a) i (go (rule at a && up a) h)
+      go : (b : Bool) (v : List ℕ) → 0 < length (choose b (a ∷ v) []) → b ≡ true
+      go true v h = refl
+      go false v h = absurd (omega arith)
+  crossed-before (a ∷ w) at (suc i) h = crossed-before w (hd a) i (go (rule at a && up a) (crossed rule up hd (hd a) w) h)
     where
-      go : (b : Bool) → suc i < length (choose b (a ∷ crossed rule up hd (hd a) w) []) → i < length (crossed rule up hd (hd a) w)
-      go true h = omega arith
-      go false h = absurd (omega arith)
+      go : (b : Bool) (v : List ℕ) → suc i < length (choose b (a ∷ v) []) → i < length v
+      go true v h = omega arith
+      go false v h = absurd (omega arith)
 
   -- the next, if there is one, has no rule there or is not up
   pub crossed-next : (w : List ℕ) (at : ℕ) → length (crossed rule up hd at w) < length w
       → crosses rule up (leadsTo hd at (crossed rule up hd at w)) (getD w (length (crossed rule up hd at w)) 0) ≡ false
   crossed-next [] at h = absurd (omega arith)
-  crossed-next (a ∷ w) at h = go (rule at a && up a) refl (crossed-next w (hd a)) h
+  crossed-next (a ∷ w) at h = go (rule at a && up a) refl (crossed rule up hd (hd a) w) (crossed-next w (hd a)) h
     where
-      go : (b : Bool) → (rule at a && up a) ≡ b
-          → (length (crossed rule up hd (hd a) w) < length w
-          → crosses rule up (leadsTo hd (hd a) (crossed rule up hd (hd a) w)) (getD w (length (crossed rule up hd (hd a) w)) 0) ≡ false)
-          → length (choose b (a ∷ crossed rule up hd (hd a) w) []) < suc (length w)
-          → crosses rule up (leadsTo hd at (choose b (a ∷ crossed rule up hd (hd a) w) [])) (getD (a ∷ w) (length (choose b (a ∷ crossed rule up hd (hd a) w) [])) 0) ≡ false
-      go true e next h = next (omega arith)
-      go false e next h = e
+      go : (b : Bool) → (rule at a && up a) ≡ b → (v : List ℕ) → (length v < length w → crosses rule up (leadsTo hd (hd a) v) (getD w (length v) 0) ≡ false)
+          → length (choose b (a ∷ v) []) < suc (length w)
+          → crosses rule up (leadsTo hd at (choose b (a ∷ v) [])) (getD (a ∷ w) (length (choose b (a ∷ v) [])) 0) ≡ false
+      go true e v next h = next (omega arith)
+      go false e v next h = e
 
   -- a packet ends exactly if it crosses all its labels
   pub ends-all : (w : List ℕ) (at : ℕ) → ends rule up hd at w ≡ true → crossed rule up hd at w ≡ w
   ends-all [] at e = refl
-  ends-all (a ∷ w) at e = let k = and-true (rule at a && up a) (ends rule up hd (hd a) w) e in rw (k .0) (ap (λ (v : List ℕ). a ∷ v) (ends-all w (hd a) (k .1)))
+  ends-all (a ∷ w) at e = let k = and-true (rule at a && up a) (ends rule up hd (hd a) w) e in rw (k .0) (ap (λ (l : List ℕ). a ∷ l) (ends-all w (hd a) (k .1)))
 
   pub all-ends : (w : List ℕ) (at : ℕ) → length (crossed rule up hd at w) ≡ length w → ends rule up hd at w ≡ true
   all-ends [] at e = refl
-  all-ends (a ∷ w) at e = go (rule at a && up a) (all-ends w (hd a)) e
+  all-ends (a ∷ w) at e = go (rule at a && up a) (crossed rule up hd (hd a) w) (all-ends w (hd a)) e
     where
-      go : (b : Bool) → (length (crossed rule up hd (hd a) w) ≡ length w → ends rule up hd (hd a) w ≡ true) → length (choose b (a ∷ crossed rule up hd (hd a) w) []) ≡ suc (length w) → b && ends rule up hd (hd a) w ≡ true
-      go true rest e = rest (omega arith)
-      go false rest e = absurd (omega arith)
+      go : (b : Bool) (v : List ℕ) → (length v ≡ length w → ends rule up hd (hd a) w ≡ true) → length (choose b (a ∷ v) []) ≡ suc (length w)
+          → b && ends rule up hd (hd a) w ≡ true
+      go true v rest e = rest (omega arith)
+      go false v rest e = absurd (omega arith)
 
   -- so exactly if its hops are as many as its labels, and else they are fewer
   pub ended-hops : (w : List ℕ) (at n : ℕ) → (run rule up hd at n w .ended ≡ true) ↔ (run rule up hd at n w .hops ≡ n + length w)

@@ -68,7 +68,9 @@ returns-2 : tie.Need-returns-2 Inv-loop μ-loop
 returns-2 c =
     let a = c .before .before in
     let k = a .before .before in
-    let none = passes-past (start k .args .t1) (start k .args .t2) (start k .args .states .now) (start k .pre .0 .arcs) (k .loop .at .last) (a .label-at .result) (c .before .if2 .taken) in
+    let none = passes-past (start k .args .t1) (start k .args .t2) (start k .args .states .now) (start k .pre .0 .arcs) (k .loop .at .last) (a .label-at .result)
+    (c .before .if2 .taken)
+    in
     goes-lost _ _ _ (endOf (c .after-label .result)) _ (ap (λ (d : ring.End). d .ended) (c .after-label .ensures))
     ∙ label k _ (a .before .loop-test .taken) (a .label-at .ensures) _ (c .after-label .ensures ∙ rw none)
 
@@ -92,5 +94,6 @@ returns-4 c =
 pub run-way-spec : {M : Type 1} → statement M
 run-way-spec =
     tie.close (tie.spec Inv-loop μ-loop returns (λ c. search needs) (λ c. search needs) loop-holds (λ c κs. search needs) (λ c. search needs)
-    (λ c κs. omega (arith, c .before .before .before .loop .inv .counted)) returns-2 (λ c. search needs) (λ c. search needs) (λ c. search needs) (λ c. search needs) (λ c κs. search needs) (λ c κs. search needs)
+    (λ c κs. omega (arith, c .before .before .before .loop .inv .counted)) returns-2 (λ c. search needs) (λ c. search needs) (λ c. search needs)
+    (λ c. search needs) (λ c κs. search needs) (λ c κs. search needs)
     (λ c κs. omega (arith, c .before .before .before .before .before .before .before .loop .inv .counted)) returns-3 (λ c. search needs) (λ c. search needs) loop-again returns-4)

@@ -14,5 +14,5 @@ abbrev μ-loop : tie.MeasureT-loop
 
 pub packet-spec : {M : Type 1} → statement M
 packet-spec =
-    tie.close (tie.spec Inv-loop μ-loop (λ c. search needs) (λ c κs. search needs) (λ c. search needs) (λ c. search needs) (λ c. (search needs, c .before .before .copy .ensures .0)) (λ c κs. search needs)
-    (λ c. search needs) (λ c. c .before .before .copy2 .ensures))
+    tie.close (tie.spec Inv-loop μ-loop (λ c. search needs) (λ c κs. search needs) (λ c. search needs) (λ c. search needs)
+    (λ c. (search needs, c .before .before .copy .ensures .0)) (λ c κs. search needs) (λ c. search needs) (λ c. c .before .before .copy2 .ensures))
