@@ -38,7 +38,7 @@ use Rattle.demands.specs.Demands.{actualOutcome, GotTo, ProbeGotTo, Pack
 -- ---- any run
 
 module _ (rule : ℕ → ℕ → Bool) (up : ℕ → Bool) (hd : ℕ → ℕ) (at : ℕ) (w : List ℕ) where
-  -- the labels crossed
+  -- how many labels are crossed
   abbrev made : ℕ
   made = length (crossed rule up hd at w)
 
@@ -82,20 +82,27 @@ module _ (p : Plant) (ok : Sound p) (con : Connected p) (x : ℕ) (x-in : x < p 
     home : probeEnd p x states m .ended ≡ true → probeEnd p x states m ≡ record { ended = true; hops = length (probeOf p w x (liveLinks p) m); last = x }
     home = probe-home p w x (ring-at p ok con x x-in) (liveLinks p) (used p) (λ a. trail-is p ok .exactly a .0) (upByLink states) m
 
-    lost : probeEnd p x states m .ended ≡ false → GotTo (probeRules p (used p) (liveLinks p) m) (upByLink states) (head p) x (outLabels p x m) (probeEnd p x states m)
-    unfolding outLabels
-    lost f =
-        subst (GotTo (probeRules p (used p) (liveLinks p) m) (upByLink states) (head p) x (outLabels p x m))
-        (sym (rings.lost-way p w x (ring-at p ok con x x-in) m (liveLinks p) (used p) (λ a. trail-is p ok .exactly a .0) (upBy states) f))
-        (got-to (probeRules p (used p) (liveLinks p) m) (upByLink states) (head p) x (outLabels p x m))
+    -- the run under its rules, over all its labels
+    told : GotTo (probeRules p (used p) (liveLinks p) m) (upByLink states) (head p) x (probeOf p w x (liveLinks p) m) (probeEnd p x states m)
+    unfolding probeRun
+    told = got-to (probeRules p (used p) (liveLinks p) m) (upByLink states) (head p) x (probeOf p w x (liveLinks p) m)
+
+    module _ (f : probeEnd p x states m .ended ≡ false) where
+      lost-out : probeEnd p x states m .hops < length (outLabels p x m)
+      unfolding outLabels
+      lost-out = rings.lost-out p w x m (liveLinks p) (upBy states) (ring-at p ok con x x-in) (used p) (λ a. trail-is p ok .exactly a .0) f
+
+      lost-reached : probeEnd p x states m .last ≡ leadsTo (head p) x (take (probeEnd p x states m .hops) (outLabels p x m))
+      unfolding outLabels
+      lost-reached = told .reached ∙ ap (leadsTo (head p) x) (rings.way-take p w x m (liveLinks p) (probeEnd p x states m .hops) (omega (arith, lost-out)))
 
     probe-got-to : ProbeGotTo p x states m (probeEnd p x states m)
     unfolding outLabels
     probe-got-to = record {
       there-and-back = λ h t. home t ∙ ap (λ (n : ℕ). record { ended = true; hops = n; last = x }) (there m h);
       round = λ e t. home t ∙ ap (λ (n : ℕ). record { ended = true; hops = n; last = x }) (whole m e);
-      lost-out = λ f. (rings.lost-out p w x (ring-at p ok con x x-in) m (liveLinks p) (used p) (λ a. trail-is p ok .exactly a .0) (upBy states) f, lost f .reached);
-      lost-at = rings.lost-broken p w x (ring-at p ok con x x-in) m (liveLinks p) (used p) (λ a. trail-is p ok .exactly a .0) (upBy states);
+      lost-out = λ f. (lost-out f, lost-reached f);
+      lost-at = rings.lost-broken p w x m (liveLinks p) (upBy states) (ring-at p ok con x x-in) (used p) (λ a. trail-is p ok .exactly a .0);
     }
 
 -- ---- the calls

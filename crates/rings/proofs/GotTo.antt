@@ -1,34 +1,33 @@
 -- Where a probe got to (document 02, order 1). Its way back counts on, under any states of labels. Where either label of a link is up if the link is, a lost probe is lost
 -- on its way out, since it comes back over the links that it went out by; the label that it did not cross is of the first broken link of the order. Assumes a closed walk
 -- that leaves the injection switch, and rules for its arcs.
-use mathlib.Core.Path.{_≡_, refl, sym, ap, _∙_, subst}
+use mathlib.Core.Path.{_≡_, refl, sym, ap, _∙_}
 use mathlib.Core.Logic.{_⊎_, inl, inr}
 use mathlib.Core.Bool.{Bool, true, false}
 use mathlib.Core.List.{List, [], _∷_, _++_, append-nil}
-use Prim.Native.Nat.{ℕ, zero, suc, _-_, _/_, _<_}
+use Prim.Native.Nat.{ℕ, zero, suc, _-_, _/_, _≤_, _<_}
 use native.Mathlib.Omega.{arith}
 use native.Mathlib.Nat.{zero-add}
 use lib.Dec.{T, eqb}
-use lib.ListN.{length, getD, length-append, List·getD-append}
+use lib.ListN.{length, getD, take, length-append, List·getD-append}
+use lib.Seq.{take-all, take-append-le}
 use Rattle.lists.specs.Tests.{choose}
-use Rattle.lists.proofs.Tests.{bool?, not-both, not-true-false}
+use Rattle.lists.proofs.Tests.{not-both, below?}
 use Rattle.lists.specs.Members.{In, all}
-use Rattle.lists.proofs.Members.{in-append-left, all-at, all-append}
+use Rattle.lists.proofs.Members.{all-at}
+use Rattle.lists.proofs.Parts.{all-take}
 use Rattle.plant.specs.declared.Plant.{Plant}
-use Rattle.plant.specs.Links.{live}
-use Rattle.walks.specs.Walk.{Walk}
-use Rattle.walks.specs.Arcs.{tail, head}
-use Rattle.rings.specs.Packet.{End, byLink, leadsTo, run, rulesFor}
+use Rattle.walks.specs.Arcs.{head}
+use Rattle.rings.specs.Packet.{byLink, leadsTo, run}
 use Rattle.rings.specs.Rules.{inAll}
 use Rattle.rings.specs.Order.{firsts, order, nth}
 use Rattle.rings.specs.FirstDown.{FirstDown}
 use Rattle.rings.specs.Probe.{back, outward, probe}
-use Rattle.rings.specs.Injection.{ringOf, orderOf, probeRules, probeOf, probeRun}
-use Rattle.rings.proofs.Packet.{run-ended, run-on, run-off, lost-hops, lost-at}
-use Rattle.rings.proofs.Ring.{walk-split}
+use Rattle.rings.specs.Injection.{ringOf, orderOf, probeOf, probeRun}
+use Rattle.rings.proofs.Packet.{run-on}
 use Rattle.rings.proofs.Order.{Firsts, none, old, new, orders}
-use Rattle.rings.proofs.Probe.{back-clear, outward-front}
-use Rattle.rings.proofs.Injection.{RingAt, ring-labels, ring-closed, back-run, probe-states}
+use Rattle.rings.proofs.Probe.{there-and-back-clear, outward-front}
+use Rattle.rings.proofs.Injection.{RingAt, back-run, probe-states, probe-lost}
 
 -- the way back counts on: with all labels of the way out crossed, the probe goes on from where they lead, after as many hops as they are
 pub counts-on : (p : Plant) (w : List ℕ) (s : ℕ) (table : ℕ → Bool) (e : ℕ) (up : ℕ → Bool) (m : ℕ) → (m ≡ e → ⊥)
@@ -56,105 +55,93 @@ first-lost up (new {seen} {w} {o} {a} n r) (suc k) h s before down =
     earlier u j f zero g = u
     earlier u j f (suc i) g = f i (omega arith)
 
-module _ (p : Plant) (w : List ℕ) (s : ℕ) (at : RingAt p w s) (m e : ℕ) where
+module _ (p : Plant) (w : List ℕ) (s m e : ℕ) where
   abbrev ring : List ℕ
   ring = ringOf p w s
 
-  abbrev out : List ℕ
-  out = outward m ring
-
   -- the way out of probe m over e links: for the full check, m = e, the whole ring
   abbrev way : List ℕ
-  way = choose (eqb m e) ring out
+  way = choose (eqb m e) ring (outward m ring)
 
-  -- ---- the ring begins with the way out: this is a walk over arcs of the plant
+  -- ---- the ring begins with the way out, and so does the probe
 
-  front-walk : (v u : List ℕ) → v ++ u ≡ ring → (z : ℕ) × Walk (tail p) (head p) v s z
-  front-walk v u q =
-      let c = walk-split (tail p) (head p) v u s s (subst (λ (l : List ℕ). Walk (tail p) (head p) l s s) (sym q) (ring-closed p w s at)) in
-      (c .0, c .1)
-
-  front-in : (v u : List ℕ) → v ++ u ≡ ring → (a : ℕ) → In a v → In a w
-  front-in v u q a h = ring-labels p w s a .0 (subst (λ (l : List ℕ). In a l) q (in-append-left a v u h))
-
-  way-front : (u : List ℕ) × (way ++ u ≡ ring)
-  way-front = go (eqb m e)
+  way-ring : (u : List ℕ) × (way ++ u ≡ ring)
+  way-ring = go (eqb m e)
     where
-      go : (t : Bool) → (u : List ℕ) × (choose t ring out ++ u ≡ ring)
+      go : (t : Bool) → (u : List ℕ) × (choose t ring (outward m ring) ++ u ≡ ring)
       go true = ([], append-nil ring)
       go false = outward-front m ring
 
-  -- ---- where the table has a rule for each arc of the walk, and either label of a link is up if the link is
+  way-probe : (u : List ℕ) × (way ++ u ≡ probeOf p w s e m)
+  unfolding probeOf probe
+  way-probe = go (eqb m e) ring (outward m ring)
+    where
+      go : (t : Bool) (r o : List ℕ) → (u : List ℕ) × (choose t r o ++ u ≡ choose t r (o ++ back o))
+      go true r o = ([], append-nil r)
+      go false r o = (back o, refl)
 
-  module _ (table : ℕ → Bool) (in-table : (a : ℕ) → In a w → T (table a)) (up : ℕ → Bool) where
-    -- the rules of a probe are for arcs of a kind that all labels of its way out are of
-    way-rules : (kind : ℕ → Bool) × (probeRules p table e m ≡ rulesFor kind (tail p)) × ((a : ℕ) → In a way → T (kind a))
-    unfolding probeRules inAll
-    way-rules = go (bool? (eqb m e))
+  pub way-take : (n : ℕ) → n ≤ length way → take n (probeOf p w s e m) ≡ take n way
+  way-take n h = ap (take n) (sym (way-probe .1)) ∙ take-append-le n way (way-probe .0) h
+
+  -- the same label stands in all three
+  same : (i : ℕ) → i < length way → (getD ring i 0 ≡ getD way i 0) × (getD (probeOf p w s e m) i 0 ≡ getD way i 0)
+  same i h = (
+    sym (ap (λ (l : List ℕ). getD l i 0) (way-ring .1)) ∙ List·getD-append way (way-ring .0) 0 i h,
+    sym (ap (λ (l : List ℕ). getD l i 0) (way-probe .1)) ∙ List·getD-append way (way-probe .0) 0 i h,
+  )
+
+  -- ---- where either label of a link is up if the link is, all labels of a probe are up if those of its way out are
+
+  module _ (up : ℕ → Bool) where
+    way-clear : all (byLink up) (probeOf p w s e m) ≡ all (byLink up) way
+    unfolding probeOf probe
+    way-clear = go (eqb m e) ring (outward m ring)
       where
-        go : (eqb m e ≡ true) ⊎ (eqb m e ≡ false) → (kind : ℕ → Bool) × (probeRules p table e m ≡ rulesFor kind (tail p)) × ((a : ℕ) → In a way → T (kind a))
-        go (inl t) = (table, rw t, λ a h. in-table a (front-in way (way-front .0) (way-front .1) a h))
-        go (inr t) = (λ a. live p (a / 2), rw t, λ a h. at .closed .arcs-alone a (front-in way (way-front .0) (way-front .1) a h))
+        go : (t : Bool) (r o : List ℕ) → all (byLink up) (choose t r (o ++ back o)) ≡ all (byLink up) (choose t r o)
+        go true r o = refl
+        go false r o = there-and-back-clear up o
 
-    -- where the way out ends, all its links are up, and so the whole probe ends
-    out-and-back : eqb m e ≡ false → run (inAll p) (byLink up) (head p) s 0 out .ended ≡ true → probeRun p table w s e (byLink up) m .ended ≡ true
-    unfolding probeOf probe inAll
-    out-and-back t d =
-        let v = outward-front m ring in
-        let c = front-walk out (v .0) (v .1) in
-        let u : all (byLink up) out ≡ true =
-        sym (run-ended (tail p) (head p) (λ a. live p (a / 2)) (byLink up) out s (c .0) 0 (c .1) (λ a h. at .closed .arcs-alone a (front-in out (v .0) (v .1) a h))) ∙ d
-        in
-        probe-states p w s at e table in-table (byLink up) m ∙ rw (t, all-append (byLink up) out (back out), back-clear up out, u)
+    -- ---- a probe that is lost, where the table has a rule for each arc of the walk
 
-    -- ---- a probe that is lost
+    module _ (at : RingAt p w s) (table : ℕ → Bool) (in-table : (a : ℕ) → In a w → T (table a)) (f : probeRun p table w s e (byLink up) m .ended ≡ false) where
+      abbrev hops : ℕ
+      hops = probeRun p table w s e (byLink up) m .hops
 
-    module _ (f : probeRun p table w s e (byLink up) m .ended ≡ false) where
-      -- its way back, of which the full check has none, does not matter
-      pub lost-way : probeRun p table w s e (byLink up) m ≡ run (probeRules p table e m) (byLink up) (head p) s 0 way
-      unfolding probeRun probeRules probeOf probe
-      lost-way = go (bool? (eqb m e))
+      stopped : ((i : ℕ) → i < hops → up (getD (probeOf p w s e m) i 0 / 2) ≡ true) × (up (getD (probeOf p w s e m) hops 0 / 2) ≡ false)
+      stopped = probe-lost p w s at e table in-table (byLink up) m f
+
+      -- it is lost on its way out: else all labels of that are up, and so all of its labels
+      pub lost-out : hops < length way
+      lost-out = go (below? hops (length way))
         where
-          go : (eqb m e ≡ true) ⊎ (eqb m e ≡ false) → probeRun p table w s e (byLink up) m ≡ run (probeRules p table e m) (byLink up) (head p) s 0 way
-          go (inl t) = rw t
-          go (inr t) = rw t (run-off (inAll p) (byLink up) (head p) out (back out) s 0 (not-true-false _ (λ d. not-both _ (out-and-back t d) f)))
+          front : take (length way) (probeOf p w s e m) ≡ way
+          front = way-take (length way) (omega arith) ∙ take-all (length way) way (omega arith)
 
-      -- it is lost on its way out
-      pub lost-out : probeRun p table w s e (byLink up) m .hops < length way
-      lost-out = rw lost-way (omega (arith, lost-hops (probeRules p table e m) (byLink up) (head p) way s 0 (sym (ap (λ (d : End). d .ended) lost-way) ∙ f)))
+          go : (hops < length way) ⊎ (length way ≤ hops) → hops < length way
+          go (inl h) = h
+          go (inr h) =
+              let fits : length way ≤ length (probeOf p w s e m) = omega (arith, ap length (way-probe .1), length-append way (way-probe .0)) in
+              let clear = sym (ap (all (byLink up)) front) ∙ all-take (byLink up) (probeOf p w s e m) (length way) fits .1 (λ i k. stopped .0 i (omega arith)) in
+              absurd (not-both _ (probe-states p w s at e table in-table (byLink up) m ∙ way-clear ∙ clear) f)
 
       -- the label that it did not cross is of the first broken link of the order
-      pub lost-broken : (k : ℕ) × FirstDown up (orderOf p w s) k × (nth (orderOf p w s) k ≡ getD way (probeRun p table w s e (byLink up) m .hops) 0 / 2)
+      pub lost-broken : (k : ℕ) × FirstDown up (orderOf p w s) k × (nth (orderOf p w s) k ≡ getD way hops 0 / 2)
       unfolding orderOf order
-      lost-broken = broken (probeRun p table w s e (byLink up) m .hops) lost-out (stopped .0) (stopped .1)
-        where
-          stopped : ((i : ℕ) → i < probeRun p table w s e (byLink up) m .hops → up (getD way i 0 / 2) ≡ true)
-              × (up (getD way (probeRun p table w s e (byLink up) m .hops) 0 / 2) ≡ false)
-          stopped =
-              let r = way-rules in
-              let c = front-walk way (way-front .0) (way-front .1) in
-              let q = lost-way ∙ ap (λ (rule : ℕ → ℕ → Bool). run rule (byLink up) (head p) s 0 way) (r .1) in
-              subst (λ (d : End). ((i : ℕ) → i < d .hops → up (getD way i 0 / 2) ≡ true) × (up (getD way (d .hops) 0 / 2) ≡ false)) (sym q)
-              (lost-at (tail p) (head p) (r .0) (byLink up) way s (c .0) (c .1) (r .2) (sym (ap (λ (d : End). d .ended) q) ∙ f))
-
-          broken : (h : ℕ) → h < length way → ((i : ℕ) → i < h → up (getD way i 0 / 2) ≡ true) → up (getD way h 0 / 2) ≡ false
-              → (k : ℕ) × FirstDown up (orderOf p w s) k × (nth (orderOf p w s) k ≡ getD way h 0 / 2)
-          broken h g before down =
-              let same : (i : ℕ) → i < length way → getD ring i 0 ≡ getD way i 0 =
-              λ i k. sym (ap (λ (l : List ℕ). getD l i 0) (way-front .1)) ∙ List·getD-append way (way-front .0) 0 i k
-              in
-              let long = ap length (way-front .1) in
-              let d = first-lost up (orders [] ring) h (omega (arith, length-append way (way-front .0), long)) refl
-              (λ i k. ap (λ (a : ℕ). up (a / 2)) (same i (omega arith)) ∙ before i k) (ap (λ (a : ℕ). up (a / 2)) (same h g) ∙ down)
-              in
-              let one : suc (d .0) - 1 ≡ d .0 = omega arith in
-              let link : getD (firsts [] ring) (d .0) 0 ≡ getD way h 0 / 2 = d .2 ∙ ap (λ (a : ℕ). a / 2) (same h g) in (
-                suc (d .0),
-                record {
-                  from-one = omega arith;
-                  to-last = omega (arith, d .1);
-                  down = rw (one, link) down;
-                  before = λ j a b. d .3 (j - 1) (omega arith);
-                },
-                rw one link,
-              )
+      lost-broken =
+          let long = ap length (way-ring .1) in
+          let g = same hops lost-out in
+          let d = first-lost up (orders [] ring) hops (omega (arith, length-append way (way-ring .0), long, lost-out)) refl
+          (λ i k. let b = same i (omega (arith, lost-out)) in ap (λ (a : ℕ). up (a / 2)) (b .0 ∙ sym (b .1)) ∙ stopped .0 i k)
+          (ap (λ (a : ℕ). up (a / 2)) (g .0 ∙ sym (g .1)) ∙ stopped .1)
+          in
+          let one : suc (d .0) - 1 ≡ d .0 = omega arith in
+          let link : getD (firsts [] ring) (d .0) 0 ≡ getD way hops 0 / 2 = d .2 ∙ ap (λ (a : ℕ). a / 2) (g .0) in (
+            suc (d .0),
+            record {
+              from-one = omega arith;
+              to-last = omega (arith, d .1);
+              down = rw (one, link) (ap (λ (a : ℕ). up (a / 2)) (sym (g .1)) ∙ stopped .1);
+              before = λ j a b. d .3 (j - 1) (omega arith);
+            },
+            rw one link,
+          )

@@ -1,15 +1,16 @@
 -- For a closed walk over arcs of a plant, from any root, and an injection switch that it leaves: the switch has a place, its ring is a closed walk, the order has the
--- links that are crossed, each once. Where the table has rules for its arcs, and e is the length of the order: probe m returns exactly if the first m links of the order are
--- up, and so if m is less than the place of the first broken link. Assumes nothing more of the plant.
+-- links that are crossed, each once. Where the table has rules for its arcs, a probe that returns has crossed all its labels, and a lost one was so at the first that is not
+-- up; where e is the length of the order too, probe m returns exactly if the first m links of the order are up, and so if m is less than the place of the first broken
+-- link. Assumes nothing more of the plant.
 use mathlib.Core.Path.{_≡_, refl, sym, ap, _∙_, subst}
 use mathlib.Core.Logic.{_⊎_, inl, inr, ⊎-elim, _↔_}
 use mathlib.Core.Bool.{Bool, true, false}
 use mathlib.Core.List.{List, [], _++_}
-use Prim.Native.Nat.{ℕ, _/_, _≤_}
+use Prim.Native.Nat.{ℕ, _/_, _≤_, _<_}
 use native.Mathlib.Omega.{arith}
 use native.Mathlib.Nat.{zero-add}
 use lib.Dec.{T, eqb, ltb}
-use lib.ListN.{length, take}
+use lib.ListN.{length, getD, take}
 use borrow.Author.Tests.{eq-eqb, ne-eqb}
 use Rattle.lists.specs.Tests.{choose}
 use Rattle.lists.proofs.Tests.{bool?}
@@ -27,7 +28,7 @@ use Rattle.rings.specs.Order.{order}
 use Rattle.rings.specs.Probe.{outward, back, probe}
 use Rattle.rings.proofs.FirstDown.{firstDown, first-take}
 use Rattle.rings.specs.Injection.{probeRules, placeOf, ringOf, orderOf, probeOf, probeRun}
-use Rattle.rings.proofs.Packet.{run-ended, run-clear}
+use Rattle.rings.proofs.Packet.{run-ended, run-clear, lost-at}
 use Rattle.rings.proofs.Rules.{rule-arc, all-arc, bytes-past}
 use Rattle.rings.proofs.Ring.{place-first, ring-empty, read-labels, read-walk}
 use Rattle.rings.proofs.Order.{order-distinct, label-order, order-label}
@@ -139,6 +140,12 @@ module _ (p : Plant) (w : List ℕ) (s : ℕ) (at : RingAt p w s) where
         probe-home t =
             let k = meets m in
             rw (k .1) (run-clear (tail p) (head p) (k .0) up (probeOf p w s e m) s s 0 (probe-closed m) (k .2) (sym probe-states ∙ t) ∙ rw zero-add)
+
+        -- one that is lost was so at its first label that is not up
+        pub probe-lost : probeRun p table w s e up m .ended ≡ false
+            → ((i : ℕ) → i < probeRun p table w s e up m .hops → up (getD (probeOf p w s e m) i 0) ≡ true) × (up (getD (probeOf p w s e m) (probeRun p table w s e up m .hops) 0) ≡ false)
+        unfolding probeRun
+        probe-lost f = let k = meets m in rw (k .1) (lost-at (tail p) (head p) (k .0) up (probeOf p w s e m) s s (probe-closed m) (k .2) (rw (k .1) at f))
 
     -- ---- where either label of a link is up if the link is, and e is the length of the order
 

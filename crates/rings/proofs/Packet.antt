@@ -130,11 +130,6 @@ module _ (rule : ℕ → ℕ → Bool) (up : ℕ → Bool) (hd : ℕ → ℕ) wh
   unfolding runOn run
   run-on x y at n t = run-append x y at n ∙ rw (t, ends-all x at t)
 
-  -- one that is lost stays so
-  pub run-off : (x y : List ℕ) (at n : ℕ) → run rule up hd at n x .ended ≡ false → run rule up hd at n (x ++ y) ≡ run rule up hd at n x
-  unfolding runOn
-  run-off x y at n f = run-append x y at n ∙ rw f
-
   pub runOn-append : (e : End) (x y : List ℕ) → runOn rule up hd e (x ++ y) ≡ runOn rule up hd (runOn rule up hd e x) y
   unfolding runOn
   runOn-append e x y = go (e .ended) refl

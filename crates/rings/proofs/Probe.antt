@@ -69,12 +69,16 @@ module _ (up : ℕ → Bool) where
   outward-clear r zero h i = absurd (omega arith)
   outward-clear r (suc m) h i = let e : suc m - 1 ≡ m = omega arith in rw e (upTo-clear (orders [] r) m refl (omega arith))
 
-  pub back-clear : (w : List ℕ) → all (byLink up) (back w) ≡ all (byLink up) w
+  back-clear : (w : List ℕ) → all (byLink up) (back w) ≡ all (byLink up) w
   back-clear [] = refl
   back-clear (a ∷ w) =
       all-append (λ b. up (b / 2)) (back w) (opposite a ∷ [])
       ∙ ap₂ (λ (x y : Bool). x && y) (back-clear w) (ap (λ (k : ℕ). up k && true) (opposite-half a) ∙ and-comm (up (a / 2)) true)
       ∙ and-comm (all (byLink up) w) (up (a / 2))
+
+  -- out and back all links are up exactly if they are out
+  pub there-and-back-clear : (w : List ℕ) → all (byLink up) (w ++ back w) ≡ all (byLink up) w
+  there-and-back-clear w = all-append (byLink up) w (back w) ∙ ap (λ (b : Bool). all (byLink up) w && b) (back-clear w) ∙ and-self (all (byLink up) w)
 
   -- in a whole ring all links are up exactly if those of its order are
   pub ring-clear : (r : List ℕ) → all (byLink up) r ≡ all up (order r)
@@ -90,10 +94,7 @@ module _ (up : ℕ → Bool) where
     where
       go : (eqb m e ≡ true) ⊎ (eqb m e ≡ false) → all (byLink up) (choose (eqb m e) r (outward m r ++ back (outward m r))) ≡ all up (take m (order r))
       go (inl t) = rw t (ring-clear r ∙ ap (all up) (sym (take-all m (order r) (omega (arith, eqb-true m e t)))))
-      go (inr t) =
-          rw t
-          (all-append (byLink up) (outward m r) (back (outward m r)) ∙ ap (λ (b : Bool). all (byLink up) (outward m r) && b) (back-clear (outward m r))
-          ∙ and-self (all (byLink up) (outward m r)) ∙ outward-clear r m h (omega arith))
+      go (inr t) = rw t (there-and-back-clear (outward m r) ∙ outward-clear r m h (omega arith))
 
 -- ---- the outward labels are the first of the ring
 
