@@ -1,7 +1,7 @@
 //! Every call with its refusals in checking order.
 
 use crate::listing;
-use crate::net::{Net, Page};
+use crate::net::{BySwitch, Net, Page};
 use crate::packet::{self, Order, Run, Under};
 use crate::plant::{Answer, Plant, Refusal};
 use crate::search::Search;
@@ -84,6 +84,11 @@ pub fn bridges(listing: &[u8]) -> Answer<(usize, [bool; Plant::MAX_LINKS])> {
 /// Refusals 1 to 9.
 pub fn rules(listing: &[u8]) -> Answer<Page> {
     Ok(net(listing)?.page())
+}
+
+/// Refusals 1 to 9.
+pub fn by_switch(listing: &[u8]) -> Answer<BySwitch> {
+    Ok(net(listing)?.by_switch())
 }
 
 /// Writes the trail to the front of the buffer and returns its hops;

@@ -10,7 +10,7 @@ use crate::search::Search;
 use std::io::Write;
 
 /// The calls by their number in the case format.
-pub const NAMES: [&str; 22] = [
+pub const NAMES: [&str; 23] = [
     "",
     "read",
     "write",
@@ -33,6 +33,7 @@ pub const NAMES: [&str; 22] = [
     "reread",
     "allowance",
     "long run",
+    "by switch",
 ];
 
 /// The input does not follow the format at this byte.
@@ -411,6 +412,10 @@ impl Answerer {
                 calls::run(listing, switch, packet, input.string()?)
                     .map(|run| put(format_args!("{}", Told("ended", run))))
             }
+            22 => calls::by_switch(input.string()?).map(|by| {
+                let rules = by.rules.iter().map(|count| u32::from(*count));
+                put(format_args!("{} {}", by.total, Sum::of(rules)))
+            }),
             _ => return Err(Malformed(called_at)),
         })
     }

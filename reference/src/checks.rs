@@ -5,7 +5,7 @@ use crate::calls::{self, Named};
 use crate::cases::{prefilled, Answerer, Case, Sum};
 use crate::listing;
 use crate::make::{self, Chance};
-use crate::net::Net;
+use crate::net::{BySwitch, Net};
 use crate::packet::{self, Fate, Order, Run};
 use crate::plant::{Link, Plant, Refusal};
 use crate::search::{quantity, Search, ALLOWANCE};
@@ -82,6 +82,33 @@ fn marked_buffers() {
     let mut six = [9; 6];
     assert_eq!(calls::trail(PARALLEL, &mut six), Ok(4));
     assert_eq!(six, [0, 3, 0, 5, 9, 9]);
+}
+
+/// The rules by switch, those of the first switches being given.
+fn sending(rules: &[u16]) -> BySwitch {
+    let mut by = BySwitch {
+        rules: [0; Plant::MAX_SWITCHES],
+        total: rules.iter().copied().map(usize::from).sum(),
+    };
+    by.rules[..rules.len()].copy_from_slice(rules);
+    by
+}
+
+#[test]
+fn marked_rules_by_switch() {
+    let cases: &[(&[u8], &[u16], usize)] = &[
+        (&[0x00], &[], 0),
+        (ONE_LINK, &[1, 1], 2),
+        (TRIANGLE, &[1, 1, 1], 3),
+        (PARALLEL, &[1, 2], 3),
+        (TAILED, &[2, 1, 1, 1], 5),
+    ];
+    for (listing, rules, total) in cases {
+        let by = calls::by_switch(listing).unwrap();
+        assert_eq!(by, sending(rules));
+        assert_eq!(by.total, *total);
+    }
+    assert_eq!(calls::by_switch(&[0x01, 0x40]), Err(Refusal::NotConnected));
 }
 
 #[test]
@@ -398,6 +425,122 @@ fn bridges_and_rules() {
             .iter()
             .all(|rule| *rule == Default::default()));
     }
+}
+
+#[test]
+fn rules_by_switch() {
+    for plant in plants(14, 3000, 150) {
+        let listing = make::listing_of(&plant);
+        let by = calls::by_switch(&listing).unwrap();
+        // By the page: its rules with that sending switch, and its length.
+        let page = calls::rules(&listing).unwrap();
+        let mut rules = [0; Plant::MAX_SWITCHES];
+        for rule in page.rules() {
+            rules[usize::from(rule.from)] += 1;
+        }
+        assert_eq!(by.rules, rules);
+        assert_eq!(by.total, page.count);
+        assert_eq!(by, sending(&rules[..usize::from(plant.switches)]));
+        let net = Net::new(plant).unwrap();
+        assert_eq!(by.total, net.links() + net.bridges);
+    }
+    // By the definition of the arcs in use.
+    for plant in plants(15, 500, 4) {
+        let plain = Plain::new(&plant);
+        let used = plain.used();
+        let sent = |switch: usize| {
+            let labels = plain.labels().filter(|label| used[*label]);
+            labels.filter(|label| plain.from(*label) == switch).count() as u16
+        };
+        let rules: Vec<u16> = (0..plain.switches).map(sent).collect();
+        assert_eq!(Net::new(plant).unwrap().by_switch(), sending(&rules));
+    }
+}
+
+#[test]
+fn rules_by_switch_of_shapes() {
+    let of = |sketch: &make::Sketch, start: usize| {
+        let mut plant = sketch.plain();
+        plant.start = start as u8;
+        calls::by_switch(&make::listing_of(&plant)).unwrap()
+    };
+    for switches in 3..=Plant::MAX_SWITCHES {
+        let last = switches - 1;
+        let some = |rules: &dyn Fn(usize) -> usize| {
+            let rules: Vec<u16> = (0..switches).map(|switch| rules(switch) as u16).collect();
+            sending(&rules)
+        };
+        for start in [0, 1, last] {
+            // Bridges alone: each switch sends over every link at it.
+            let star = some(&|switch| if switch == 0 { last } else { 1 });
+            assert_eq!(of(&make::star(switches), start), star);
+            let path = some(&|switch| 2 - usize::from(switch == 0 || switch == last));
+            assert_eq!(of(&make::path(switches), start), path);
+            // A ring: each switch sends over one of its two links.
+            assert_eq!(of(&make::cycle(switches), start), some(&|_| 1));
+        }
+        // The last switch of a fan is visited last, or first.
+        let fan = make::fan(switches);
+        let to_last = some(&|switch| if switch == last { last - 1 } else { 1 });
+        assert_eq!(of(&fan, 0), to_last);
+        let one = [0, last - 1, last];
+        let from_last = some(&|switch| 2 - usize::from(one.contains(&switch)));
+        assert_eq!(of(&fan, last), from_last);
+    }
+    for links in 2..=Plant::MAX_LINKS {
+        let bundle = make::bundle(links);
+        let back = links as u16 - 1;
+        assert_eq!(of(&bundle, 0), sending(&[1, back]));
+        assert_eq!(of(&bundle, 1), sending(&[back, 1]));
+    }
+}
+
+/// The quantity with the spare laid on the total is at most the sum of those
+/// with the spare laid on each switch.
+#[test]
+fn spare_on_the_total() {
+    let mut more = 0;
+    for plant in plants(16, 500, 30) {
+        let switches = usize::from(plant.switches);
+        let by = Net::new(plant).unwrap().by_switch();
+        for percent in 0..=100 {
+            let on_total = quantity(by.total as u16, percent).unwrap();
+            let on_each = |count: &u16| quantity(*count, percent).unwrap();
+            let sum: u32 = by.rules[..switches].iter().map(on_each).sum();
+            assert!(on_total <= sum);
+            more += usize::from(on_total < sum);
+        }
+    }
+    assert!(more > 0);
+    // Two switches of one rule each.
+    let by = calls::by_switch(ONE_LINK).unwrap();
+    assert_eq!(quantity(by.total as u16, 10), Ok(3));
+    let each = by.rules.map(|count| quantity(count, 10).unwrap());
+    assert_eq!(each[..2], [2, 2]);
+    assert_eq!(each.iter().sum::<u32>(), 4);
+}
+
+#[test]
+fn rules_by_switch_refused() {
+    let mut chance = Chance::new(17);
+    let mut seen = [0; 10];
+    for round in 0..4000 {
+        let plant = make::joined(&mut chance, 6, 9).mixed(&mut chance);
+        let bytes = match round % 4 {
+            0 => make::noise(&mut chance),
+            1 => make::listing_of(&make::apart(&mut chance, 6, 9).mixed(&mut chance)),
+            _ => make::damaged(&mut chance, &plant),
+        };
+        let wanted = plain_read(&bytes).and_then(|plant| {
+            let whole = Plain::new(&plant).is_whole();
+            whole.then_some(()).ok_or(9)
+        });
+        let answer = calls::by_switch(&bytes).map(|_| ());
+        assert_eq!(answer.map_err(Refusal::number), wanted, "{bytes:02x?}");
+        assert_eq!(answer, calls::summary(&bytes).map(|_| ()));
+        seen[usize::from(number(answer))] += 1;
+    }
+    assert!(seen.iter().all(|count| *count > 20), "{seen:?}");
 }
 
 #[test]
@@ -1248,6 +1391,7 @@ fn case_lines() {
         case.labels(more).string(states)
     };
     let plant = listing::read(TRIANGLE).unwrap();
+    let three: [u32; 64] = std::array::from_fn(|switch| u32::from(switch < 3));
     let wide: Vec<u32> = (0..14).map(|place| u32::from(prefilled(place))).collect();
     let mut written = wide.clone();
     for (place, byte) in written.iter_mut().zip(TRIANGLE) {
@@ -1355,6 +1499,10 @@ fn case_lines() {
         (long(2, &[], 0xffff, &[], &[1; 3]), "ended 0 2".into()),
         (long(3, &trail, 0xffff, &[], &[]), "refused 11".into()),
         (long(0, &trail, 0xffff, &[], &[1, 1]), "refused 13".into()),
+        (on(22), format!("3 {}", sum(&three))),
+        (Case::new(22).string(&[0]), format!("0 {}", sum(&[0; 64]))),
+        (Case::new(22).string(&[1, 64]), "refused 9".into()),
+        (Case::new(22).string(&[]), "refused 1".into()),
     ];
     for (case, answer) in cases {
         assert_eq!(line(&case), answer + "\n", "{:?}", case.bytes);

@@ -1,9 +1,10 @@
-//! Second implementation of the network planner, made from document 01, order 1
-//! of document 02 and a list of calls.
+//! Second implementation of the network planner, made from document 01, orders
+//! 1 and 2 of document 02 and a list of calls.
 //!
 //! - [`plant`]: plant values, their limits and the refusals;
 //! - [`listing`]: the listing's reader and writer;
-//! - [`net`]: depth-first visit, bridges, arcs in use, rule page;
+//! - [`net`]: depth-first visit, bridges, arcs in use, rule page, rules by
+//!   switch;
 //! - [`trail`]: distances and the trail;
 //! - [`packet`]: packet runs, place, ring, order of links, probes;
 //! - [`search`]: the search, its allowance, the order quantity;

@@ -17,11 +17,13 @@ use std::path::Path;
 use std::process::ExitCode;
 
 const SEED: u64 = 1;
-/// The first cases are of every call but the long run, those after them of
-/// packet runs alone, and any more are of both kinds.
+/// The first cases are of every call but the long run and the rules by switch,
+/// those after them of packet runs alone, the next of rules by switch alone,
+/// and any more are of all three kinds.
 const FIRST: usize = 18_000;
 const RUNS: usize = 1_000;
-const COUNT: usize = FIRST + RUNS;
+const BY_SWITCH: usize = 1_000;
+const COUNT: usize = FIRST + RUNS + BY_SWITCH;
 
 const SWITCHES: usize = Plant::MAX_SWITCHES;
 const LINKS: usize = Plant::MAX_LINKS;
@@ -1389,12 +1391,193 @@ fn drawn_long(chance: &mut Chance) -> Case {
     long(&subject.listing, begin, &round, times, &more, &states)
 }
 
-/// How often each call is drawn, from call 1; the long run is drawn apart.
+/// The number of the call for the rules by switch.
+const RULES_BY_SWITCH: u8 = 22;
+
+/// The rules by switch of a listing.
+fn by_switch(listing: &[u8]) -> Case {
+    Case::new(RULES_BY_SWITCH).string(listing)
+}
+
+/// The rules by switch of a plant.
+fn of_plant(plant: &Plant) -> Case {
+    by_switch(&make::listing_of(plant))
+}
+
+/// The rules by switch of a sketch as it stands, from a start.
+fn started(sketch: &Sketch, start: usize) -> Case {
+    let mut plant = sketch.plain();
+    plant.start = start as u8;
+    of_plant(&plant)
+}
+
+/// So many switches parted among rings, at most four of them.
+fn parted(chance: &mut Chance, switches: usize) -> Vec<usize> {
+    let mut sizes = Vec::new();
+    let mut left = switches;
+    while sizes.len() < 3 && left > 1 {
+        let size = chance.within(1, left - 1);
+        sizes.push(size);
+        left -= size;
+    }
+    sizes.push(left);
+    sizes
+}
+
+/// A listing of so many bytes at least that meets a refusal, 1 to 9, of a plant
+/// with at most so many switches and links.
+fn refused(
+    chance: &mut Chance,
+    refusal: u8,
+    (switches, links): (usize, usize),
+    least: usize,
+) -> Vec<u8> {
+    loop {
+        let listing = if refusal == 9 && chance.percent(75) {
+            make::listing_of(&make::apart(chance, switches, links).mixed(chance))
+        } else {
+            let plant = make::joined(chance, switches, links).mixed(chance);
+            make::damaged(chance, &plant)
+        };
+        let met = calls::net(&listing).err();
+        if met.is_some_and(|met| met.number() == refusal) && listing.len() >= least {
+            return listing;
+        }
+    }
+}
+
+/// The cases of rules by switch that do not wait for chance.
+fn fixed_by_switch(chance: &mut Chance, out: &mut Out) -> io::Result<()> {
+    fixed_by_switch_listings(out)?;
+    fixed_by_switch_sizes(chance, out)?;
+    fixed_by_switch_shapes(chance, out)?;
+    // Each refusal, of short listings and of long ones.
+    for refusal in 1..=9 {
+        for (limits, least, times) in [
+            ((5, 8), 0, 5),
+            ((12, 24), 0, 5),
+            ((32, 80), 60, 1),
+            ((SWITCHES, LINKS), 200, 1),
+        ] {
+            for _ in 0..times {
+                out.put(by_switch(&refused(chance, refusal, limits, least)))?;
+            }
+        }
+    }
+    Ok(())
+}
+
+/// The rules by switch of the listings of document 01, of every front of one
+/// of them, and of that one with a byte too many.
+fn fixed_by_switch_listings(out: &mut Out) -> io::Result<()> {
+    for listing in named_listings() {
+        out.put(by_switch(&listing))?;
+    }
+    let tailed = [3, 4, 4, 0, 2, 1, 3, 1, 2, 3, 2, 0, 3, 0, 3];
+    for length in 0..tailed.len() {
+        out.put(by_switch(&tailed[..length]))?;
+    }
+    out.put(by_switch(&[&tailed[..], &[0]].concat()))
+}
+
+/// The rules by switch of plants of every number of switches, and of many
+/// numbers of links.
+fn fixed_by_switch_sizes(chance: &mut Chance, out: &mut Out) -> io::Result<()> {
+    // A tree, a ring, a ring with tails, rings joined by one cable.
+    for switches in 1..=SWITCHES {
+        let ring = chance.within(1, switches);
+        let sizes = parted(chance, switches);
+        for sketch in [
+            make::tree(chance, switches),
+            make::cycle(switches),
+            make::tailed(chance, ring, switches),
+            make::rings(chance, &sizes),
+        ] {
+            out.put(of_plant(&sketch.mixed(chance)))?;
+        }
+    }
+    // Every number of links up to that of switches, and every fifth above.
+    for links in (0..LINKS).filter(|links| *links <= SWITCHES || links % 5 == 0) {
+        let most = SWITCHES.min(links + 1);
+        let switches = chance.within(most.min(2), most);
+        let sketch = make::exact(chance, switches, links);
+        out.put(of_plant(&sketch.mixed(chance)))?;
+    }
+    // The limits: as many switches and links as there can be.
+    for _ in 0..3 {
+        let sketch = make::exact(chance, SWITCHES, LINKS);
+        out.put(of_plant(&sketch.mixed(chance)))?;
+    }
+    let long = make::long(SWITCHES, LINKS - (SWITCHES - 1));
+    out.put(started(&long, 0))?;
+    out.put(started(&long, SWITCHES - 1))?;
+    out.put(of_plant(&make::longest_listing()))
+}
+
+/// The rules by switch of plants of a known shape, from more than one start.
+fn fixed_by_switch_shapes(chance: &mut Chance, out: &mut Out) -> io::Result<()> {
+    // The same links from every start.
+    let tailed = make::tailed(chance, 3, 6);
+    for sketch in [make::cycle(3), tailed, make::table_one()] {
+        for start in 0..sketch.switches {
+            out.put(started(&sketch, start))?;
+        }
+    }
+    // One switch that sends by many rules: the middle of a star, of a star
+    // with two links to each switch, of a fan.
+    for switches in [3, 4, 5, 8, 13, 21, 34, SWITCHES] {
+        let star = make::star(switches);
+        for sketch in [star.clone(), star.doubled(), make::fan(switches)] {
+            out.put(started(&sketch, 0))?;
+            out.put(started(&sketch, switches - 1))?;
+            out.put(of_plant(&sketch.mixed(chance)))?;
+        }
+    }
+    // Parallel links between two switches.
+    for links in [1, 2, 3, 4, 7, 16, 63, 64, 128, LINKS - 1, LINKS] {
+        let bundle = make::bundle(links);
+        out.put(started(&bundle, 0))?;
+        out.put(started(&bundle, 1))?;
+    }
+    for links in [2, 3, 5, 9, 20, 40] {
+        out.put(of_plant(&make::bundle(links).mixed(chance)))?;
+    }
+    // One link between every two switches, and two.
+    for switches in 3..=9 {
+        let complete = make::complete(switches);
+        out.put(started(&complete, switches / 2))?;
+        out.put(of_plant(&complete.mixed(chance)))?;
+        out.put(of_plant(&complete.doubled().mixed(chance)))?;
+    }
+    Ok(())
+}
+
+/// One case of rules by switch, drawn by chance.
+fn drawn_by_switch(chance: &mut Chance) -> Case {
+    if chance.percent(90) {
+        // Dense plants besides those of every kind.
+        let sketch = if chance.percent(20) {
+            let switches = chance.within(2, 12);
+            let links = chance.within(switches, 5 * switches);
+            make::exact(chance, switches, links)
+        } else {
+            let (switches, links) = limits(chance);
+            make::joined(chance, switches, links)
+        };
+        of_plant(&sketch.mixed(chance))
+    } else {
+        by_switch(&subject(chance, 0).listing)
+    }
+}
+
+/// How often each call is drawn, from call 1; the long run and the rules by
+/// switch are drawn apart.
 const WEIGHTS: [usize; NAMES.len() - 1] = [
-    14, 9, 7, 5, 5, 9, 9, 7, 6, 8, 9, 7, 4, 2, 3, 6, 2, 7, 7, 1, 0,
+    14, 9, 7, 5, 5, 9, 9, 7, 6, 8, 9, 7, 4, 2, 3, 6, 2, 7, 7, 1, 0, 0,
 ];
 
-/// One case of any call but the long run, drawn by chance.
+/// One case of any call but the long run and the rules by switch, drawn by
+/// chance.
 fn drawn_any(chance: &mut Chance) -> Case {
     let call = 1 + chance.weighed(&WEIGHTS) as u8;
     drawn(chance, call)
@@ -1417,19 +1600,26 @@ fn make(folder: &Path, seed: u64, count: usize) -> io::Result<Out> {
     while !out.full() {
         out.put(drawn_any(&mut chance))?;
     }
-    // Packet runs are drawn by a chance of their own.
+    // Packet runs are drawn by a chance of their own, and so are the rules by
+    // switch.
     let mut other = Chance::new(!seed);
-    out.most = count.min(COUNT);
+    out.most = count.min(FIRST + RUNS);
     fixed_runs(&mut other, &mut out)?;
     while !out.full() {
         out.put(drawn_run(&mut other)?)?;
     }
+    let mut third = Chance::new(seed ^ u64::from(RULES_BY_SWITCH) << 32);
+    out.most = count.min(COUNT);
+    fixed_by_switch(&mut third, &mut out)?;
+    while !out.full() {
+        out.put(drawn_by_switch(&mut third))?;
+    }
     out.most = count;
     while !out.full() {
-        let case = if other.percent(5) {
-            drawn_run(&mut other)?
-        } else {
-            drawn_any(&mut chance)
+        let case = match third.weighed(&[FIRST, RUNS, BY_SWITCH]) {
+            0 => drawn_any(&mut chance),
+            1 => drawn_run(&mut other)?,
+            _ => drawn_by_switch(&mut third),
         };
         out.put(case)?;
     }

@@ -107,6 +107,60 @@ pub fn cycle(switches: usize) -> Sketch {
     sketch
 }
 
+/// A ring with tails: of so many switches in all, the first in the ring.
+pub fn tailed(chance: &mut Chance, ring: usize, switches: usize) -> Sketch {
+    let mut sketch = cycle(ring);
+    while sketch.switches < switches {
+        let at = chance.below(sketch.switches);
+        sketch.pairs.push((at, sketch.switches));
+        sketch.switches += 1;
+    }
+    sketch
+}
+
+/// Rings of so many switches, each joined by one cable to those before.
+pub fn rings(chance: &mut Chance, sizes: &[usize]) -> Sketch {
+    let mut sketch = Sketch::default();
+    for size in sizes {
+        let before = sketch.switches;
+        sketch = sketch.beside(&cycle(*size));
+        if before > 0 {
+            let one = chance.below(before);
+            let other = before + chance.below(*size);
+            sketch.pairs.push((one, other));
+        }
+    }
+    sketch
+}
+
+/// So many parallel links between two switches.
+pub fn bundle(links: usize) -> Sketch {
+    Sketch {
+        switches: 2,
+        pairs: vec![(0, 1); links],
+    }
+}
+
+/// A path, and a last switch that is joined to each switch of it: a visit
+/// from the path's first switch comes to the last one at its end.
+pub fn fan(switches: usize) -> Sketch {
+    let hub = switches - 1;
+    let mut sketch = path(hub);
+    sketch.switches = switches;
+    sketch.pairs.extend((0..hub).map(|switch| (hub, switch)));
+    sketch
+}
+
+/// One link between every two switches.
+pub fn complete(switches: usize) -> Sketch {
+    Sketch {
+        switches,
+        pairs: (1..switches)
+            .flat_map(|one| (0..one).map(move |other| (other, one)))
+            .collect(),
+    }
+}
+
 /// The plant of source document 003, Table I, with s1 as switch 0.
 pub fn table_one() -> Sketch {
     Sketch {
@@ -149,6 +203,12 @@ impl Sketch {
             let other = (one + 1 + chance.below(self.switches - 1)) % self.switches;
             self.pairs.push((one, other));
         }
+        self
+    }
+
+    /// Every link twice, the second time after all the others.
+    pub fn doubled(mut self) -> Sketch {
+        self.pairs.extend_from_within(..);
         self
     }
 
@@ -230,23 +290,11 @@ pub fn joined(chance: &mut Chance, switches: usize, links: usize) -> Sketch {
         2 => star(size),
         3 => cycle(size),
         // A ring with tails.
-        4 | 5 => {
-            let mut sketch = cycle(small);
-            while sketch.switches < size {
-                let at = chance.below(sketch.switches);
-                sketch.pairs.push((at, sketch.switches));
-                sketch.switches += 1;
-            }
-            sketch
-        }
+        4 | 5 => tailed(chance, small, size),
         // Two rings joined by one cable: one link more than a ring.
         6 | 7 if size >= 2 && size < links => {
             let first = chance.within(1, size - 1);
-            let mut sketch = cycle(first).beside(&cycle(size - first));
-            let one = chance.below(first);
-            let other = first + chance.below(size - first);
-            sketch.pairs.push((one, other));
-            sketch
+            rings(chance, &[first, size - first])
         }
         // A few links more than a tree.
         8 | 9 if size >= 2 => {

@@ -1,4 +1,5 @@
-//! Depth-first visit, bridges, arcs in use and the rule page.
+//! Depth-first visit, bridges, arcs in use, the rule page and the rules by
+//! switch.
 
 use crate::plant::{Answer, Plant, Refusal};
 
@@ -23,6 +24,14 @@ impl Page {
     }
 }
 
+/// The number of rules that each switch sends by, with zeros from S on, and
+/// the total over the switches.
+#[derive(Clone, Debug, PartialEq, Eq)]
+pub struct BySwitch {
+    pub rules: [u16; Plant::MAX_SWITCHES],
+    pub total: usize,
+}
+
 /// A plant whose switches are all reached from the start, with its bridges
 /// and its arcs in use.
 #[derive(Clone, Debug)]
@@ -31,6 +40,9 @@ pub struct Net {
     pub bridge: [bool; Plant::MAX_LINKS],
     pub bridges: usize,
     pub used: [bool; Plant::MAX_ARCS],
+    /// Number of each switch in the order of the visit.
+    number: [u8; Plant::MAX_SWITCHES],
+    entered: [bool; Plant::MAX_LINKS],
 }
 
 /// The links at each switch by rising number.
@@ -69,6 +81,11 @@ impl Joins {
         }
         Joins { at, join }
     }
+
+    /// The links at a switch.
+    fn of(&self, switch: usize) -> &[Join] {
+        &self.join[usize::from(self.at[switch])..usize::from(self.at[switch + 1])]
+    }
 }
 
 /// The state of the depth-first visit.
@@ -90,8 +107,7 @@ impl Visit<'_> {
         let number = self.visited;
         let mut low = number;
         self.number[switch] = number;
-        for place in self.joins.at[switch]..self.joins.at[switch + 1] {
-            let Join { link, other } = self.joins.join[usize::from(place)];
+        for Join { link, other } in self.joins.of(switch).iter().copied() {
             let other = usize::from(other);
             if Some(link) == by {
                 continue;
@@ -139,12 +155,19 @@ impl Net {
                 used[2 * number + usize::from(!forth)] = true;
             }
         }
-        let bridge = visit.bridge;
+        let Visit {
+            number,
+            entered,
+            bridge,
+            ..
+        } = visit;
         Ok(Net {
             plant,
             bridge,
             bridges,
             used,
+            number,
+            entered,
         })
     }
 
@@ -188,5 +211,29 @@ impl Net {
             page.count += 1;
         }
         page
+    }
+
+    /// Whether a switch sends by a rule over a link at it: over a bridge, over
+    /// an entered link to a switch visited later, and over any other link to
+    /// one visited earlier.
+    fn sends(&self, switch: usize, join: Join) -> bool {
+        let (link, other) = (usize::from(join.link), usize::from(join.other));
+        let onward = self.number[switch] < self.number[other];
+        self.bridge[link] || onward == self.entered[link]
+    }
+
+    /// The rules of each switch in turn, by the links at it and without the
+    /// page.
+    pub fn by_switch(&self) -> BySwitch {
+        let joins = Joins::new(&self.plant);
+        let sent = |switch: usize| {
+            let over = joins.of(switch).iter();
+            over.filter(|join| self.sends(switch, **join)).count()
+        };
+        let rules: [usize; Plant::MAX_SWITCHES] = std::array::from_fn(sent);
+        BySwitch {
+            rules: rules.map(|count| count as u16),
+            total: rules.iter().sum(),
+        }
     }
 }

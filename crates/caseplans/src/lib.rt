@@ -1,4 +1,4 @@
-// Calls 1 to 6, 18 and 19 of the program `cases`: reading and writing a listing, and its plan. Its main file has the table of cases.
+// Calls 1 to 6, 18, 19 and 22 of the program `cases`: reading and writing a listing, and its plan. Its main file has the table of cases.
 use answers::Verdict;
 use caseform::checksum;
 use caseform::input;
@@ -9,6 +9,7 @@ use planner::Summary;
 use planner::Trailed;
 use planning::Numbers;
 use plant::Plant;
+use table::BySwitch;
 use table::Table;
 
 fn show_plant(p: Plant) {
@@ -107,6 +108,25 @@ fn rules(listing: &[u8]) {
     }
 }
 
+fn show_by_switch(b: BySwitch) {
+    show::number(b.total as u64);
+    show::word(b" ");
+    let counts = b.counts;
+    show::list(counts.len() as u64, checksum::with_labels(0, &counts));
+}
+
+fn by_switch(listing: &[u8]) {
+    let c = planner::rules_by_switch(listing);
+    let v = c.verdict;
+    match v {
+        Verdict::Accepted => {
+            let rules = c.rules;
+            show_by_switch(rules);
+        }
+        Verdict::Refused(k) => show::refusal(k),
+    }
+}
+
 fn trail_into(listing: &[u8], buffer: &mut [u16]) {
     checksum::fill_labels(buffer);
     match planner::lay_trail(listing, buffer) {
@@ -144,6 +164,7 @@ pub fn answer(call: u8, s: &[u8], at: usize) -> usize {
         3 => summary(listing),
         4 => bridges(listing),
         5 => rules(listing),
+        22 => by_switch(listing),
         _ => return s.len(),
     }
     input::past_string(s, at)

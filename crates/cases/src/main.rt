@@ -25,6 +25,7 @@
 // 20 allowance       links (two bytes)                        allowance
 // 21 long run        listing, switch, labels, times (two      as of run, with the labels so many times over and then
 //                    bytes), more labels, states              those of the second list
+// 22 by switch       listing                                  total, checksum of a number for each switch place
 //
 // A plant is its switches, links (two bytes) and start, a two-byte number of link places, and first end, second end and tag (two bytes) of each; the other link
 // places are zero. A refusal is the word `refused` and its number. The line of a call that is lent a buffer ends with the buffer's checksum after the call.
@@ -52,7 +53,7 @@ fn answer(s: &[u8], at: usize) -> usize {
     if call < 13 || call == 21 {
         return packets::answer(call, s, from);
     }
-    if call == 18 || call == 19 {
+    if call == 18 || call == 19 || call == 22 {
         return caseplans::answer(call, s, from);
     }
     searches::answer(call, s, from)

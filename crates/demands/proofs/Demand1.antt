@@ -29,6 +29,7 @@ demand-1 = record {
   summarize = λ s. answers _;
   find-bridges = λ s. answers _;
   forwarding-table = λ s. answers _;
+  rules-by-switch = λ s. answers _;
   lay-trail = λ s b. into (trailing s b) _ b;
   order-quantity = λ rules spare. answers _;
   allowance = λ n. answers _;

@@ -8,7 +8,9 @@ use lib.Dec.{T}
 use lib.ListN.{length, getD, take, drop}
 use Rattle.lists.specs.Members.{In, memb, Distinct}
 use Rattle.lists.specs.Count.{count}
+use Rattle.lists.specs.Arrays.{at}
 use Rattle.lists.specs.Numbers.{range, keep}
+use Rattle.lists.specs.Sum.{sum}
 use Rattle.answers.specs.Answers.{given, refused}
 use Rattle.answers.specs.Checks.{check, answer, Answers, AnswersInto}
 use Rattle.plant.specs.declared.Plant.{Plant}
@@ -29,7 +31,9 @@ use Rattle.rings.specs.Probe.{upTo, back}
 use Rattle.rings.specs.Injection.{probeRules, placeOf, ringOf, orderOf, probeOf, probeRun}
 use Rattle.rings.specs.FirstDown.{FirstDown}
 use Rattle.table.specs.Rules.{tableWith}
-use Rattle.plan.specs.Plan.{Connected, visited, used, distanceOf, trailOf, ruleOf, rulesOf, inTable}
+use Rattle.table.specs.Senders.{sentBy, pastSenders, bySwitch}
+use Rattle.plan.specs.Plan.{Connected, visited, used, distanceOf, trailOf, ruleOf, rulesOf, tableOf, inTable}
+use Rattle.plan.specs.Totals.{Totals}
 use Rattle.plan.specs.Trails.{IsTrail}
 use Rattle.order.specs.declared.Span.{Span}
 use Rattle.order.specs.Span.{stretchOf, frontOf}
@@ -44,7 +48,7 @@ use Rattle.search.specs.Search.{newSearch, ended, wanted, ask, give}
 use Rattle.search.specs.Calls.{Call, perform, begun, TrueCalls}
 use Rattle.search.specs.Limit.{limit}
 use Rattle.planning.specs.Planning.{planning, planningAt}
-use Rattle.planner.specs.Calls.{rewriting, rewritten, rereading, summing, bridging, tabling, trailing, laidOut}
+use Rattle.planner.specs.Calls.{rewriting, rewritten, rereading, summing, bridging, tabling, counting, trailing, laidOut}
 use Rattle.probing.specs.Calls.{running, checking, ordering, outLabels, outgoing, probing, naming, beginning, performing}
 
 -- ---- demand 1: each call answers its result, or a refusal exactly under its condition, and a refusal leaves a lent buffer as it was
@@ -59,6 +63,7 @@ pub record Demand1 : Type 0 where
   pub summarize : (s : List ℕ) → Answers (summing s)
   pub find-bridges : (s : List ℕ) → Answers (bridging s)
   pub forwarding-table : (s : List ℕ) → Answers (tabling s)
+  pub rules-by-switch : (s : List ℕ) → Answers (counting s)
   pub lay-trail : (s b : List ℕ) → AnswersInto (trailing s b) b (laidOut s b)
   pub order-quantity : (rules spare : ℕ) → Answers (orderQuantity rules spare)
   pub allowance : (n : ℕ) → Answers (check [] (allowance (clipped n)))
@@ -264,3 +269,21 @@ pub record PacketsTell (s : List ℕ) (p : Plant) (x : ℕ) : Type 0 where
       × ProbeGotTo p x states (wanted q) e
   -- "who used the old two-way fate reads it out of the new one": it is the one that demand 3 speaks of
   pub outcome : (w states : List ℕ) (q : Search) (e : End) → answer (probing s x w states q) ≡ given e → outcomeOf e ≡ actualOutcome p x states (wanted q)
+
+-- ---- document 02, order 2: rules for each switch
+
+-- for every plant value, sound or not: `tableOf p` is its forwarding table, and `bySwitch` what is answered of it
+pub record SameTotals (p : Plant) : Type 0 where
+  -- the total is over switches, each with the number of rules in the table which have it as sending switch, up to the last that sends
+  pub total : bySwitch (tableOf p) .total ≡ sum (pastSenders (rulesOf p)) (sentBy (rulesOf p))
+  -- "both totals must be the same number for every plant": that over switches, and that over labels
+  pub same : sum (pastSenders (rulesOf p)) (sentBy (rulesOf p)) ≡ count (2 * p .count) (used p)
+
+-- for every listing that is read as a connected plant
+pub record BySwitches (s : List ℕ) (p : Plant) : Type 0 where
+  pub answers : answer (counting s) ≡ given (bySwitch (tableOf p))
+  -- a number for each of the S switches, zeros from S on; the total over the S switches is that over labels, and links plus bridges
+  pub totals : Totals p (bySwitch (tableOf p))
+  -- "the spare is still laid on the total, since rounding per switch can give more": it never gives less
+  pub spare-on-total : (spare : ℕ)
+      → orderQuantity (bySwitch (tableOf p) .total) spare .result ≤ sum (p .switches) (λ x. orderQuantity (at (bySwitch (tableOf p) .counts) x) spare .result)

@@ -17,8 +17,8 @@ pub sized : {A B : Type 0} (f : A → B) (l : List A) (n : ℕ) → length (map 
 sized f l n e = sym (length-map l f) ∙ e
 
 -- the members before place i + 1
-pub take-next : (l : List ℕ) (i : ℕ) → i < length l → take (i + 1) l ≡ take i l ++ (getD l i 0 ∷ [])
-take-next l i h = ap (λ (k : ℕ). take k l) (add-one i) ∙ take-suc l i 0 h
+pub take-next : {A : Type 0} (d : A) (l : List A) (i : ℕ) → i < length l → take (i + 1) l ≡ take i l ++ (getD l i d ∷ [])
+take-next d l i h = ap (λ (k : ℕ). take k l) (add-one i) ∙ take-suc l i d h
 
 -- ---- laid into an array from a place on
 

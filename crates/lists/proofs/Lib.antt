@@ -10,3 +10,4 @@ pub mod Stepwise
 pub mod Parts
 pub mod Padded
 pub mod Laid
+pub mod Sum

@@ -5,3 +5,4 @@ pub mod Numbers
 pub mod Least
 pub mod Padded
 pub mod Arrays
+pub mod Sum

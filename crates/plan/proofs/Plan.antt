@@ -34,6 +34,11 @@ module _ (p : Plant) where
   pub table-is : {tl hd : ℕ → ℕ} {ok : ℕ → Bool} → tl ≡ tail p → hd ≡ head p → ok ≡ used p → tableIn (2 * p .count) tl hd ok ≡ tableOf p
   table-is d e f = rw (d, e, f)
 
+  -- the rules are as many as the arcs in use, label by label
+  pub rules-by-label : length (rulesOf p) ≡ arcsUsed p
+  unfolding arcsUsedFrom
+  rules-by-label = rules-count (tail p) (head p) (used p) (2 * p .count)
+
   module _ (ok : Sound p) where
     abbrev valid : Valid p
     valid = sound-valid p ok
@@ -75,5 +80,4 @@ module _ (p : Plant) where
       arcs-in-use = counting.arcs-all p valid (p .start) (ok .start-in) con
 
       pub rules-number : length (rulesOf p) ≡ liveLinks p + bridges p
-      unfolding arcsUsedFrom
-      rules-number = rules-count (tail p) (head p) (used p) (2 * p .count) ∙ arcs-in-use
+      rules-number = rules-by-label ∙ arcs-in-use

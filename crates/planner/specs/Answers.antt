@@ -1,14 +1,21 @@
 -- What each answer of the planner's calls stands for: values, or the number of a refusal.
+use mathlib.Core.Path.{_≡_}
 use mathlib.Core.Bool.{Bool, false}
 use mathlib.Core.List.{List, []}
 use Prim.Native.Nat.{ℕ}
 use lib.ListN.{replicate}
+use Rattle.plant.specs.declared.Plant.{Plant}
+use Rattle.answers.specs.declared.Verdict.the-variants as verdict
 use Rattle.answers.specs.Answers.{Answer, given, refused, numberOf, Beside}
 use Rattle.limits.specs.Limits.{maxLinks}
 use Rattle.table.specs.declared.Table.{Table}
+use Rattle.table.specs.declared.BySwitch.{BySwitch}
 use Rattle.table.specs.Rules.{tableWith}
+use Rattle.table.specs.Senders.{noneSent}
+use Rattle.plan.specs.Totals.{Totals}
 use Rattle.planning.specs.declared.Numbers.{Numbers}
 use Rattle.planner.specs.declared.Bridged.{Bridged}
+use Rattle.planner.specs.declared.Counted.{Counted}
 use Rattle.planner.specs.declared.Tabled.{Tabled}
 use Rattle.planner.specs.declared.Summary.{Summary}
 use Rattle.planner.specs.declared.Summary.the-variants as summary-is
@@ -18,6 +25,14 @@ use Rattle.planner.specs.declared.Trailed.the-variants as trailed
 -- the forwarding table; at a refusal it has no rules
 abbrev pub Tables : Answer Table → Tabled → Type 0
 Tables a r = Beside (tableWith []) a (r .verdict) (r .table)
+
+-- the rules by sending switch; at a refusal every number is zero
+abbrev pub Counts : Answer BySwitch → Counted → Type 0
+Counts a r = Beside noneSent a (r .verdict) (r .rules)
+
+-- where they are not refused, what document 02's order 2 says of them
+abbrev pub AddsUp : Plant → Counted → Type 0
+AddsUp p r = r .verdict ≡ verdict.Accepted → Totals p (r .rules)
 
 -- the bridges; at a refusal no flag is set
 abbrev pub Bridges : Answer (List Bool) → Bridged → Type 0

@@ -15,6 +15,8 @@ use Rattle.walks.specs.Graph.{bridge}
 use Rattle.plan.specs.Plan.{trailOf, tableOf}
 use Rattle.trail.specs.Filled.{filledWith}
 use Rattle.table.specs.declared.Table.{Table}
+use Rattle.table.specs.declared.BySwitch.{BySwitch}
+use Rattle.table.specs.Senders.{bySwitch}
 use Rattle.planning.specs.declared.Numbers.{Numbers}
 use Rattle.planning.specs.Planning.{planning}
 use Rattle.planning.specs.Numbers.{numbersOf}
@@ -37,6 +39,12 @@ rereading p b = writing p b giving λ _. p
 
 unfoldable pub tabling : List ℕ → Checked Table
 tabling s = planning s giving tableOf
+
+-- ---- the rules for each switch: 1 to 9
+
+-- those of the forwarding table, by sending switch
+unfoldable pub counting : List ℕ → Checked BySwitch
+counting s = tabling s giving bySwitch
 
 -- ---- the bridges: 1 to 9
 

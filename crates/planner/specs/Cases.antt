@@ -1,4 +1,4 @@
--- The starred cases of document 01 and those beside them: each row has what the definitions answer, and what document 01 says. One computed test over all rows. Assumes nothing.
+-- The starred cases of document 01 and those beside them: each row has what the definitions answer, and what documents 01 and 02 say. One computed test over all rows. Assumes nothing.
 -- Bytes are in decimal; the most switches are hexadecimal 40.
 use mathlib.Core.Path.{_≡_, refl}
 use mathlib.Core.List.{List, [], _∷_, _++_, map}
@@ -11,22 +11,26 @@ use Rattle.answers.specs.Checks.{answer}
 use Rattle.codec.specs.Part.{taken, valueOf, redundant, mapMissing, mapUndefined, fieldMissing, fieldRedundant, fieldValues, afterPart, part}
 use Rattle.listing.specs.Listing.{valueOutOfRange, endOutOfRange, selfLink, bytesRemain, soundLink, header, link, links, withLinks, linked, ended, reading, linksOf}
 use Rattle.limits.specs.Limits.{maxSwitches}
+use Rattle.lists.specs.Arrays.{at}
 use Rattle.lists.specs.Count.{count}
 use Rattle.lists.specs.Least.{leastFrom}
 use Rattle.lists.specs.Numbers.{every}
+use Rattle.lists.specs.Padded.{padded}
+use Rattle.lists.specs.Sum.{sum}
 use Rattle.walks.specs.Visit.{scan, visit}
 use Rattle.walks.specs.Arcs.{tail, head}
 use Rattle.walks.specs.Graph.{arcs, others, visitFrom, bridge, usedFrom}
 use Rattle.routes.specs.Distance.{sources, within, dist, hop, hops, route}
 use Rattle.routes.specs.Trail.{near, nearest, legs, trail}
 use Rattle.table.specs.Rules.{tableWith, rulesIn}
+use Rattle.table.specs.Senders.{sentBy, bySwitch}
 use Rattle.search.specs.Search.{newSearch, give}
 use Rattle.search.specs.Calls.{begun}
 use Rattle.search.specs.Cases.{rows as searches}
 use Rattle.quantity.specs.Quantity.{orderQuantity}
 use Rattle.quantity.specs.Cases.{rows as quantities}
 use Rattle.planning.specs.Planning.{notConnected, planning}
-use Rattle.planner.specs.Calls.{tabling, placesShort, laying, laidOut, trailing}
+use Rattle.planner.specs.Calls.{tabling, counting, placesShort, laying, laidOut, trailing}
 
 pub record Row : Type 0 where
   pub got : Answer (List ℕ)
@@ -88,6 +92,36 @@ planned =
     ∷ trails threeParallel 4 (given (0 ∷ 3 ∷ 0 ∷ 5 ∷ []))
     ∷ []
 
+-- ---- the rules for each switch: a number for each switch place, then the total; and the order quantity laid on the total, then the sum of those laid on each switch
+
+abbrev counts : List ℕ → Answer (List ℕ) → Row
+counts s a = record { got = answer (counting s) >>= λ b. given (b .counts ++ (b .total ∷ [])); said = a }
+
+-- the numbers of the first switches, zeros in the places past them, and the total
+abbrev sending : List ℕ → ℕ → Answer (List ℕ)
+sending ns total = given (padded maxSwitches 0 ns ++ (total ∷ []))
+
+abbrev orders : List ℕ → ℕ → Answer (List ℕ) → Row
+orders s spare a =
+    record { got = answer (counting s) >>= λ b. given (orderQuantity (b .total) spare .result ∷ sum maxSwitches (λ x. orderQuantity (at (b .counts) x) spare .result) ∷ []); said = a }
+
+-- document 01's example of the program `rules`
+abbrev ringAndTail : List ℕ
+ringAndTail = 3 ∷ 4 ∷ 4 ∷ 0 ∷ 2 ∷ 1 ∷ 3 ∷ 1 ∷ 2 ∷ 3 ∷ 2 ∷ 0 ∷ 3 ∷ 0 ∷ 3 ∷ []
+
+abbrev bySwitches : List Row
+bySwitches =
+    counts (8 ∷ []) (refused 2)
+    ∷ counts (1 ∷ maxSwitches ∷ []) (refused 9)
+    ∷ counts (0 ∷ []) (sending [] 0)
+    ∷ counts twoSwitches (sending (1 ∷ 1 ∷ []) 2)
+    ∷ counts triangle (sending (1 ∷ 1 ∷ 1 ∷ []) 3)
+    ∷ counts threeParallel (sending (1 ∷ 2 ∷ []) 3)
+    ∷ counts ringAndTail (sending (2 ∷ 1 ∷ 1 ∷ 1 ∷ []) 5)
+    ∷ orders twoSwitches 0 (given (2 ∷ 2 ∷ []))
+    ∷ orders twoSwitches 10 (given (3 ∷ 4 ∷ []))
+    ∷ []
+
 -- ---- the search and the order quantity
 
 abbrev as-row : Answer (List ℕ) × Answer (List ℕ) → Row
@@ -96,8 +130,8 @@ as-row r = record { got = r .0; said = r .1 }
 -- ---- the table, and the test
 
 abbrev table : List Row
-table = readings ++ planned ++ map as-row searches ++ map as-row quantities
+table = readings ++ planned ++ bySwitches ++ map as-row searches ++ map as-row quantities
 
 as-said : map (λ r. r .got) table ≡ map (λ r. r .said) table
-unfolding plantWith taken valueOf redundant mapMissing mapUndefined fieldMissing fieldRedundant fieldValues afterPart part valueOutOfRange endOutOfRange selfLink bytesRemain soundLink header link links withLinks linked ended reading trail legs nearest near route hops hop dist within sources leastFrom count usedFrom bridge visitFrom arcs others visit scan tail head live every notConnected planning rulesIn tableWith tabling placesShort laying laidOut trailing begun newSearch give orderQuantity
+unfolding plantWith taken valueOf redundant mapMissing mapUndefined fieldMissing fieldRedundant fieldValues afterPart part valueOutOfRange endOutOfRange selfLink bytesRemain soundLink header link links withLinks linked ended reading trail legs nearest near route hops hop dist within sources leastFrom count usedFrom bridge visitFrom arcs others visit scan tail head live every notConnected planning rulesIn tableWith tabling sentBy sum bySwitch counting placesShort laying laidOut trailing begun newSearch give orderQuantity
 as-said = refl

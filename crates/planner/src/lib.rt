@@ -8,6 +8,7 @@ use planning::Numbers;
 use planning::Parts;
 use plant::Plant;
 use quantity::Quantity;
+use table::BySwitch;
 use table::Table;
 ghost use mathlib.Core.Path.{_≡_};
 ghost use Rattle.answers.specs.Checks.{answer};
@@ -17,13 +18,20 @@ ghost use Rattle.listing.specs.Listing.{reading};
 ghost use Rattle.listing.specs.Answers.{Reads, writeAnswer};
 ghost use Rattle.quantity.specs.Quantity.{orderQuantity, quantityOf};
 ghost use Rattle.allowance.specs.Allowance.{allowance, clipped};
-ghost use Rattle.planner.specs.Calls.{rewriting, rewritten, rereading, tabling, bridging, summing, laying, trailing, trailLeft, laidOut};
-ghost use Rattle.planner.specs.Answers.{Tables, Bridges, summaryAnswer, trailAnswer};
+ghost use Rattle.planning.specs.Planning.{planning};
+ghost use Rattle.planner.specs.Calls.{rewriting, rewritten, rereading, tabling, counting, bridging, summing, laying, trailing, trailLeft, laidOut};
+ghost use Rattle.planner.specs.Answers.{Tables, Counts, AddsUp, Bridges, summaryAnswer, trailAnswer};
 
 // The forwarding table of a listing. At a refusal it has no rule.
 pub struct Tabled {
     pub verdict: Verdict,
     pub table: Table,
+}
+
+// The rules of a listing by sending switch. At a refusal every number is zero.
+pub struct Counted {
+    pub verdict: Verdict,
+    pub rules: BySwitch,
 }
 
 // A flag for each link place of a listing: is it a bridge? At a refusal none is set.
@@ -105,6 +113,33 @@ pub fn forwarding_table(listing: &[u8]) -> Tabled
             Tabled {
                 verdict: Verdict::Refused(k),
                 table,
+            }
+        }
+    }
+}
+
+// The number of rules of a listing that each switch sends by, and their total over switches: refusals 1 to 9.
+pub fn rules_by_switch(listing: &[u8]) -> Counted
+    ensures { λ r. ⌜ Counts (answer (counting (now (listing .entry)))) r ⌝ }
+    ensures { λ r. ⌜ AddsUp (planning (now (listing .entry)) .result) r ⌝ }
+{
+    let mut t = planning::blank();
+    let d = planning::plan(listing, &mut t);
+    let v = d.verdict;
+    match v {
+        Verdict::Accepted => {
+            let table = planning::table_of(d.parts);
+            let rules = table::by_switch(table);
+            Counted {
+                verdict: Verdict::Accepted,
+                rules,
+            }
+        }
+        Verdict::Refused(k) => {
+            let rules = BySwitch::none();
+            Counted {
+                verdict: Verdict::Refused(k),
+                rules,
             }
         }
     }

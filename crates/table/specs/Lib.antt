@@ -1,1 +1,3 @@
 pub mod Rules
+pub mod Senders
+pub mod Placed

@@ -19,7 +19,7 @@ module _ {b : List ℕ} {at : ℕ} (word : List ℕ) {c : List ℕ} {next : ℕ}
   word-room room = omega (arith, laid-same l, l .place, length-take-le i word (omega arith))
 
   pub word-next : Room b at word → Laid b at (take (i + 1) word) (set c next (getD word i 0)) (next + 1)
-  word-next room = rw (take-next word i h) (laid-then l (laid-byte c next (getD word i 0) (word-room room)))
+  word-next room = rw (take-next 0 word i h) (laid-then l (laid-byte c next (getD word i 0) (word-room room)))
 
 pub word-all : {b : List ℕ} {at : ℕ} (word : List ℕ) {c : List ℕ} {next : ℕ} (i : ℕ) → length word ≤ i → Laid b at (take i word) c next → Laid b at word c next
 word-all word i h l = rw (take-all i word h) at l
