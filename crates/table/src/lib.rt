@@ -1,4 +1,4 @@
-// The forwarding table (document 01's rule page), by value. Inner: the calls are the crates `planner` and `probing`.
+// The forwarding table (document 01's rule page), by value, and its rules by sending switch. Inner: the calls are the crates `planner` and `probing`.
 use plant::Plant;
 ghost use mathlib.Core.Path.{_≡_};
 ghost use mathlib.Core.List.{[]};
