@@ -9,7 +9,7 @@ use planner::Summary;
 use planner::Trailed;
 use planning::Numbers;
 use plant::Plant;
-use table::BySwitch;
+use senders::BySwitch;
 use table::Table;
 
 fn show_plant(p: Plant) {

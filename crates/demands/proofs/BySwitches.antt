@@ -10,8 +10,8 @@ use Rattle.answers.specs.Checks.{answer}
 use Rattle.answers.proofs.Checks.{gives-so}
 use Rattle.codec.specs.Field.{Bytes}
 use Rattle.walks.specs.Graph.{arcsUsedFrom}
-use Rattle.table.specs.Senders.{overSwitches, bySwitch}
-use Rattle.table.proofs.Senders.{held}
+use Rattle.senders.specs.Senders.{overSwitches, bySwitch}
+use Rattle.senders.proofs.Senders.{held}
 use Rattle.quantity.specs.Quantity.{orderQuantity}
 use Rattle.quantity.proofs.Spare.{quantity-sum}
 use Rattle.plan.specs.Plan.{rulesOf, tableOf}

@@ -31,7 +31,7 @@ use Rattle.rings.specs.Probe.{upTo, back}
 use Rattle.rings.specs.Injection.{probeRules, placeOf, ringOf, orderOf, probeOf, probeRun}
 use Rattle.rings.specs.FirstDown.{FirstDown}
 use Rattle.table.specs.Rules.{tableWith}
-use Rattle.table.specs.Senders.{sentBy, pastSenders, bySwitch}
+use Rattle.senders.specs.Senders.{sentBy, pastSenders, bySwitch}
 use Rattle.plan.specs.Plan.{Connected, visited, used, distanceOf, trailOf, ruleOf, rulesOf, tableOf, inTable}
 use Rattle.plan.specs.Totals.{Totals}
 use Rattle.plan.specs.Trails.{IsTrail}

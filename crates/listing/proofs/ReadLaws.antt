@@ -5,8 +5,8 @@ use mathlib.Core.List.{List, [], _∷_, _++_, append-assoc, append-nil}
 use Prim.Native.Nat.{ℕ, suc, _+_, _-_, _^_, _≤_, _<_}
 use native.Mathlib.Omega.{arith}
 use borrow.Author.Tests.{lt-ltb, le-ltb}
-use Rattle.lists.proofs.Padded.{padded-put}
-use lib.ListN.{length, getD, take, drop, set, replicate, length-append, length-drop, length-replicate}
+use Rattle.lists.proofs.Padded.{padded-length, padded-put}
+use lib.ListN.{length, getD, take, drop, set, length-append, length-drop}
 use lib.Seq.{getD-take, getD-set-same}
 use Rattle.plant.specs.declared.Link.{Link}
 use Rattle.plant.specs.declared.Plant.{Plant}
@@ -99,7 +99,7 @@ none switches count start = refl
 
 pub places : (p : Plant) (ls : List Link) → length (withLinks p ls .links) ≡ length ls + (maxLinks - length ls)
 unfolding withLinks
-places p ls = length-append ls (replicate (maxLinks - length ls) zeroLink) ∙ ap (λ (n : ℕ). length ls + n) (length-replicate (maxLinks - length ls) zeroLink)
+places p ls = padded-length maxLinks zeroLink ls
 
 -- one link more
 pub put : (p : Plant) (ls : List Link) (l : Link) → length ls < maxLinks

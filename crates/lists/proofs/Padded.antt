@@ -1,7 +1,7 @@
 -- A list in an array of n places, with z past its members: its length, one member more, and a member by its place. Assumes nothing.
 use mathlib.Core.Path.{_≡_, refl}
 use mathlib.Core.List.{List, [], _∷_, _++_, append-assoc}
-use Prim.Native.Nat.{ℕ, zero, suc, _+_, _-_, _≤_, _<_}
+use Prim.Native.Nat.{ℕ, zero, suc, _+_, _-_, _<_}
 use native.Mathlib.Omega.{arith}
 use lib.ListN.{length, getD, set, replicate, length-append, length-replicate}
 use lib.Seq.{set-at}
@@ -9,8 +9,8 @@ use Rattle.lists.specs.Padded.{padded}
 use Rattle.lists.proofs.Members.{getD-same}
 
 module _ {A : Type 0} (n : ℕ) (z : A) where
-  pub padded-length : (xs : List A) → length xs ≤ n → length (padded n z xs) ≡ n
-  padded-length xs h = omega (arith, length-append xs (replicate (n - length xs) z), length-replicate (n - length xs) z)
+  pub padded-length : (xs : List A) → length (padded n z xs) ≡ length xs + (n - length xs)
+  padded-length xs = omega (arith, length-append xs (replicate (n - length xs) z), length-replicate (n - length xs) z)
 
   -- one member more is put in the first place past them
   pub padded-put : (xs : List A) (x : A) → length xs < n → set (padded n z xs) (length xs) x ≡ padded n z (xs ++ (x ∷ []))

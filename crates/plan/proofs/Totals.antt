@@ -20,9 +20,9 @@ use Rattle.walks.proofs.Labels.{tail-in}
 use Rattle.walks.proofs.Valid.{sound-valid}
 use Rattle.table.specs.declared.Rule.{Rule}
 use Rattle.table.specs.Rules.{zeroRule, tableWith}
-use Rattle.table.specs.Senders.{rulesHeld, sentBy, pastSenders, bySwitch}
-use Rattle.table.specs.Placed.{Placed}
-use Rattle.table.proofs.Senders.{held, sent-none, sent-all, over-switches, senders-below}
+use Rattle.senders.specs.Senders.{rulesHeld, sentBy, pastSenders, bySwitch}
+use Rattle.senders.specs.Placed.{Placed}
+use Rattle.senders.proofs.Senders.{held, sent-none, sent-all, over-switches, senders-below}
 use Rattle.plan.specs.Plan.{Connected, used, arcsUsed, rulesOf, tableOf}
 use Rattle.plan.specs.Totals.{Totals}
 use Rattle.plan.proofs.Plan.{used-arc, rules-by-label, few-arcs, arcs-in-use}
@@ -51,7 +51,7 @@ module _ (p : Plant) where
     pub placed : Placed (tableOf p)
     unfolding tableWith
     placed = record {
-      places = padded-length maxRules zeroRule (rulesOf p) (omega (arith, rules-by-label p, few-arcs p ok));
+      places = padded-length maxRules zeroRule (rulesOf p) ∙ omega (arith, rules-by-label p, few-arcs p ok);
       few = omega (arith, rules-by-label p, few-arcs p ok);
       senders = omega (arith, ap pastSenders (held (rulesOf p)), senders-in, ok .few-switches);
     }

@@ -10,7 +10,7 @@ use Rattle.walks.specs.Visit.{scan, visit}
 use Rattle.walks.specs.Arcs.{tail, head}
 use Rattle.walks.specs.Graph.{arcs, others, visitFrom, bridge, usedFrom, arcsUsedFrom}
 use Rattle.table.specs.Rules.{tableWith, rulesIn}
-use Rattle.table.specs.Senders.{sentBy, bySwitch}
+use Rattle.senders.specs.Senders.{sentBy, bySwitch}
 use Rattle.plan.specs.Plan.{arcsUsed, rulesOf, tableOf}
 
 abbrev outside : Plant

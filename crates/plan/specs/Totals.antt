@@ -5,8 +5,8 @@ use Rattle.lists.specs.Arrays.{at}
 use Rattle.lists.specs.Sum.{sum}
 use Rattle.plant.specs.declared.Plant.{Plant}
 use Rattle.walks.specs.Graph.{liveLinks, bridges}
-use Rattle.table.specs.declared.BySwitch.{BySwitch}
-use Rattle.table.specs.Senders.{sentBy}
+use Rattle.senders.specs.declared.BySwitch.{BySwitch}
+use Rattle.senders.specs.Senders.{sentBy}
 use Rattle.plan.specs.Plan.{arcsUsed, rulesOf}
 
 pub record Totals (p : Plant) (b : BySwitch) : Type 0 where

@@ -9,9 +9,9 @@ use Rattle.answers.specs.declared.Verdict.the-variants as verdict
 use Rattle.answers.specs.Answers.{Answer, given, refused, numberOf, Beside}
 use Rattle.limits.specs.Limits.{maxLinks}
 use Rattle.table.specs.declared.Table.{Table}
-use Rattle.table.specs.declared.BySwitch.{BySwitch}
+use Rattle.senders.specs.declared.BySwitch.{BySwitch}
 use Rattle.table.specs.Rules.{tableWith}
-use Rattle.table.specs.Senders.{noneSent}
+use Rattle.senders.specs.Senders.{noneSent}
 use Rattle.plan.specs.Totals.{Totals}
 use Rattle.planning.specs.declared.Numbers.{Numbers}
 use Rattle.planner.specs.declared.Bridged.{Bridged}

@@ -15,8 +15,8 @@ use Rattle.walks.specs.Graph.{bridge}
 use Rattle.plan.specs.Plan.{trailOf, tableOf}
 use Rattle.trail.specs.Filled.{filledWith}
 use Rattle.table.specs.declared.Table.{Table}
-use Rattle.table.specs.declared.BySwitch.{BySwitch}
-use Rattle.table.specs.Senders.{bySwitch}
+use Rattle.senders.specs.declared.BySwitch.{BySwitch}
+use Rattle.senders.specs.Senders.{bySwitch}
 use Rattle.planning.specs.declared.Numbers.{Numbers}
 use Rattle.planning.specs.Planning.{planning}
 use Rattle.planning.specs.Numbers.{numbersOf}

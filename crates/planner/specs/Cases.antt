@@ -23,7 +23,7 @@ use Rattle.walks.specs.Graph.{arcs, others, visitFrom, bridge, usedFrom}
 use Rattle.routes.specs.Distance.{sources, within, dist, hop, hops, route}
 use Rattle.routes.specs.Trail.{near, nearest, legs, trail}
 use Rattle.table.specs.Rules.{tableWith, rulesIn}
-use Rattle.table.specs.Senders.{sentBy, bySwitch}
+use Rattle.senders.specs.Senders.{sentBy, bySwitch}
 use Rattle.search.specs.Search.{newSearch, give}
 use Rattle.search.specs.Calls.{begun}
 use Rattle.search.specs.Cases.{rows as searches}

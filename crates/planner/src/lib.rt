@@ -8,7 +8,7 @@ use planning::Numbers;
 use planning::Parts;
 use plant::Plant;
 use quantity::Quantity;
-use table::BySwitch;
+use senders::BySwitch;
 use table::Table;
 ghost use mathlib.Core.Path.{_≡_};
 ghost use Rattle.answers.specs.Checks.{answer};
@@ -129,7 +129,7 @@ pub fn rules_by_switch(listing: &[u8]) -> Counted
     match v {
         Verdict::Accepted => {
             let table = planning::table_of(d.parts);
-            let rules = table::by_switch(table);
+            let rules = senders::by_switch(table);
             Counted {
                 verdict: Verdict::Accepted,
                 rules,

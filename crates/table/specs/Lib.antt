@@ -1,3 +1,1 @@
 pub mod Rules
-pub mod Senders
-pub mod Placed

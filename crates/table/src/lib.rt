@@ -1,15 +1,12 @@
-// The forwarding table (document 01's rule page), by value, and its rules by sending switch. Inner: the calls are the crates `planner` and `probing`.
+// The forwarding table (document 01's rule page), by value. Inner: the calls are the crates `planner` and `probing`.
 use plant::Plant;
 ghost use mathlib.Core.Path.{_≡_};
 ghost use mathlib.Core.List.{[]};
-ghost use Prim.Native.Nat.{_*_, _^_, _≤_, _<_};
+ghost use Prim.Native.Nat.{_*_, _≤_};
 ghost use Rattle.lists.specs.Arrays.{flag, at};
 ghost use Rattle.lists.specs.Count.{count};
-ghost use Rattle.lists.specs.Sum.{sum};
-ghost use Rattle.limits.specs.Limits.{maxSwitches, maxLinks, maxRules};
+ghost use Rattle.limits.specs.Limits.{maxLinks, maxRules};
 ghost use Rattle.table.specs.Rules.{tableWith, tableIn};
-ghost use Rattle.table.specs.Senders.{noneSent, bySwitch};
-ghost use Rattle.table.specs.Placed.{Placed};
 
 pub struct Rule {
     pub from: u8,
@@ -20,12 +17,6 @@ pub struct Rule {
 pub struct Table {
     pub count: u16,
     pub rules: [Rule; Plant::MAX_RULES],
-}
-
-// How many rules each switch sends by, at the place of the switch, and their total over switches.
-pub struct BySwitch {
-    pub counts: [u16; Plant::PLACES],
-    pub total: u16,
 }
 
 impl Table {
@@ -39,18 +30,6 @@ impl Table {
         };
         let rules = [zero; Plant::MAX_RULES];
         Table { count: 0, rules }
-    }
-}
-
-impl BySwitch {
-    // No switch sends by a rule.
-    pub fn none() -> BySwitch
-        ensures { λ r. ⌜ r ≡ noneSent ⌝ }
-    {
-        BySwitch {
-            counts: [0; Plant::PLACES],
-            total: 0,
-        }
     }
 }
 
@@ -84,48 +63,8 @@ pub fn table_of(
 }
 
 // The place of the switch that sends by a rule.
-fn sender(r: Rule) -> usize
+pub fn sender_of(r: Rule) -> usize
     ensures { λ x. ⌜ x ≡ r .from ⌝ }
 {
     r.from as usize
-}
-
-// How many rules of a table each switch sends by.
-fn sent_by_each(t: Table) -> [u16; Plant::PLACES]
-    requires { ⌜ Placed t ⌝ }
-    ensures { λ r. ⌜ r ≡ bySwitch t .counts ⌝ }
-{
-    let n = t.count as usize;
-    let mut counts = [0u16; Plant::PLACES];
-    let mut k: usize = 0;
-    while k < n {
-        let x = sender(t.rules[k]);
-        counts[x] += 1;
-        k += 1;
-    }
-    counts
-}
-
-// The total over all switch places.
-fn total_of(counts: &[u16; Plant::PLACES]) -> u16
-    requires { ⌜ sum maxSwitches (at (now counts)) < 2 ^ 16 ⌝ }
-    ensures { λ r. ⌜ r ≡ sum maxSwitches (at (now (counts .entry))) ⌝ }
-{
-    let mut total: u16 = 0;
-    let mut x: usize = 0;
-    while x < Plant::PLACES {
-        total += counts[x];
-        x += 1;
-    }
-    total
-}
-
-// The rules of a table by sending switch, and their total over switches.
-pub fn by_switch(t: Table) -> BySwitch
-    requires { ⌜ Placed t ⌝ }
-    ensures { λ r. ⌜ r ≡ bySwitch t ⌝ }
-{
-    let counts = sent_by_each(t);
-    let total = total_of(&counts);
-    BySwitch { counts, total }
 }

@@ -8,9 +8,9 @@ use Rattle.answers.specs.Answers.{given}
 use Rattle.answers.specs.Checks.{answer}
 use Rattle.answers.proofs.Checks.{given-refused, result-given}
 use Rattle.answers.proofs.Beside.{beside-given, beside-refused, accepted, was-refused, on-giving, off-giving}
-use Rattle.table.specs.declared.BySwitch.{BySwitch}
-use Rattle.table.specs.Senders.{bySwitch}
-use Rattle.table.specs.Placed.{Placed}
+use Rattle.senders.specs.declared.BySwitch.{BySwitch}
+use Rattle.senders.specs.Senders.{bySwitch}
+use Rattle.senders.specs.Placed.{Placed}
 use Rattle.plan.specs.Plan.{tableOf}
 use Rattle.plan.specs.Totals.{Totals}
 use Rattle.plan.proofs.Totals.{placed, totals}

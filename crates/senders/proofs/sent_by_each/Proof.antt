@@ -1,4 +1,4 @@
--- `table::sent_by_each` meets its contract: after place k the counts are those of the rules before it. Assumes nothing.
+-- `senders::sent_by_each` meets its contract: after place k the counts are those of the rules before it. Assumes nothing.
 use mathlib.Core.Path.{_≡_, subst}
 use Prim.Native.Nat.{ℕ, _-_, _≤_, _<_}
 use native.Mathlib.Omega.{arith}
@@ -6,10 +6,10 @@ use borrow.Author.Needs.{needs}
 use lib.ListN.{take}
 use Rattle.lists.specs.Arrays.{at}
 use Rattle.limits.specs.Limits.{maxSwitches}
-use Rattle.table.specs.Senders.{bySwitch}
-use Rattle.table.proofs.Senders.{CountsOf, counts-none, counts-after, counts-are, count-most, sender-in}
-use Rattle.table.proofs.sent_by_each.Statement.{statement}
-use Rattle.table.proofs.sent_by_each.Tie as tie
+use Rattle.senders.specs.Senders.{bySwitch}
+use Rattle.senders.proofs.Senders.{CountsOf, counts-none, counts-after, counts-are, count-most, sender-in}
+use Rattle.senders.proofs.sent_by_each.Statement.{statement}
+use Rattle.senders.proofs.sent_by_each.Tie as tie
 
 abbrev Inv-loop : tie.InvT-loop
 Inv-loop t n counts₀ k₀ counts k = (k ≤ t .count) × CountsOf (take k (t .rules)) counts
@@ -21,13 +21,13 @@ loop-holds : tie.Need-loop-holds Inv-loop μ-loop
 loop-holds c = (search needs, counts-none)
 
 -- the sending switch of the next rule has a place
-place : (c : tie.After-sender Inv-loop μ-loop) → c .sender .result < maxSwitches
+place : (c : tie.After-sender-of Inv-loop μ-loop) → c .sender-of .result < maxSwitches
 place c =
     let l = c .before .before in
-    omega (arith, c .sender .ensures, sender-in _ (l .before .before .pre) (l .before .loop .k) (l .loop-test .taken))
+    omega (arith, c .sender-of .ensures, sender-in _ (l .before .before .pre) (l .before .loop .k) (l .loop-test .taken))
 
 -- and its count stays small
-small : (c : tie.After-sender Inv-loop μ-loop) → at (c .before .before .before .loop .counts) (c .sender .result) ≤ c .before .before .before .loop .k
+small : (c : tie.After-sender-of Inv-loop μ-loop) → at (c .before .before .before .loop .counts) (c .sender-of .result) ≤ c .before .before .before .loop .k
 small c =
     let l = c .before .before in
     count-most _ (l .before .before .pre) (l .before .loop .k) (l .loop-test .taken) (l .before .loop .counts) (l .before .loop .inv .1) _ (place c)
@@ -36,7 +36,7 @@ loop-again : tie.Need-loop-again Inv-loop μ-loop
 loop-again c =
     let l = c .before .before in (
       search needs,
-      counts-after _ (l .before .before .pre) (l .before .loop .k) (l .loop-test .taken) (l .before .loop .counts) (l .before .loop .inv .1) (c .sender .result) (c .sender .ensures),
+      counts-after _ (l .before .before .pre) (l .before .loop .k) (l .loop-test .taken) (l .before .loop .counts) (l .before .loop .inv .1) (c .sender-of .result) (c .sender-of .ensures),
     )
 
 returns : tie.Need-returns Inv-loop μ-loop

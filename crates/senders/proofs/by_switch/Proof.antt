@@ -1,4 +1,4 @@
--- `table::by_switch` meets its contract: the sum of the places is the total over switches. Assumes nothing.
+-- `senders::by_switch` meets its contract: the sum of the places is the total over switches. Assumes nothing.
 use mathlib.Core.Path.{_≡_, ap, ap₂, _∙_}
 use mathlib.Core.List.{List}
 use Prim.Native.Nat.{ℕ}
@@ -7,12 +7,12 @@ use borrow.Author.Needs.{needs}
 use Rattle.lists.specs.Arrays.{at}
 use Rattle.lists.specs.Sum.{sum}
 use Rattle.limits.specs.Limits.{maxSwitches}
 use Rattle.table.specs.declared.Table.{Table}
-use Rattle.table.specs.Senders.{rulesHeld, overSwitches, bySwitch}
-use Rattle.table.specs.Placed.{Placed}
-use Rattle.table.proofs.Senders.{places-total, total-most}
-use Rattle.table.proofs.by_switch.Statement.{statement}
-use Rattle.table.proofs.by_switch.Tie as tie
+use Rattle.senders.specs.Senders.{rulesHeld, overSwitches, bySwitch}
+use Rattle.senders.specs.Placed.{Placed}
+use Rattle.senders.proofs.Senders.{places-total, total-most}
+use Rattle.senders.proofs.by_switch.Statement.{statement}
+use Rattle.senders.proofs.by_switch.Tie as tie
 
 -- the counts that were found add up to the total over switches
 adds-up : (t : Table) → Placed t → (l : List ℕ) → l ≡ bySwitch t .counts → sum maxSwitches (at l) ≡ overSwitches (rulesHeld t)

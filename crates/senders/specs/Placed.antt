@@ -3,8 +3,8 @@ use mathlib.Core.Path.{_≡_}
 use Prim.Native.Nat.{_≤_}
 use lib.ListN.{length}
 use Rattle.limits.specs.Limits.{maxSwitches, maxRules}
 use Rattle.table.specs.declared.Table.{Table}
-use Rattle.table.specs.Senders.{rulesHeld, pastSenders}
+use Rattle.senders.specs.Senders.{rulesHeld, pastSenders}
 
 -- the table has a place for each of its rules, and there is one for each switch that sends by them
 pub record Placed (t : Table) : Type 0 where

@@ -7,9 +7,9 @@ use Rattle.lists.specs.Count.{bit}
 use Rattle.lists.specs.Numbers.{range}
 use Rattle.lists.specs.Sum.{sum}
 use Rattle.limits.specs.Limits.{maxSwitches}
 use Rattle.table.specs.declared.Rule.{Rule}
 use Rattle.table.specs.declared.Table.{Table}
-use Rattle.table.specs.declared.BySwitch.{BySwitch}
+use Rattle.senders.specs.declared.BySwitch.{BySwitch}
 
 -- the rules that a table holds
 abbrev pub rulesHeld : Table → List Rule

@@ -21,11 +21,11 @@ use Rattle.lists.proofs.Numbers.{keep-in, values-are, values-at}
 use Rattle.lists.proofs.Arrays.{take-next}
 use Rattle.lists.proofs.Sum.{sum-same, sum-plus, sum-none, sum-one}
 use Rattle.limits.specs.Limits.{maxSwitches}
 use Rattle.table.specs.declared.Rule.{Rule}
 use Rattle.table.specs.declared.Table.{Table}
 use Rattle.table.specs.Rules.{zeroRule, tableWith, ruleFor, rulesIn}
-use Rattle.table.specs.Senders.{rulesHeld, sentBy, pastSenders, overSwitches, bySwitch}
-use Rattle.table.specs.Placed.{Placed}
+use Rattle.senders.specs.Senders.{rulesHeld, sentBy, pastSenders, overSwitches, bySwitch}
+use Rattle.senders.specs.Placed.{Placed}
 
 -- the table with these rules holds them
 pub held : (rs : List Rule) → rulesHeld (tableWith rs) ≡ rs

@@ -1,4 +1,4 @@
--- `table::total_of` meets its contract: after place x the total is the sum of the places before it. Assumes nothing.
+-- `senders::total_of` meets its contract: after place x the total is the sum of the places before it. Assumes nothing.
 use mathlib.Core.Path.{_≡_, refl, ap, _∙_}
 use Prim.Native.Nat.{ℕ, _+_, _-_, _≤_}
 use native.Mathlib.Omega.{arith}
@@ -7,8 +7,8 @@ use Rattle.lists.specs.Arrays.{at}
 use Rattle.lists.specs.Sum.{sum}
 use Rattle.lists.proofs.Sum.{sum-next, sum-more}
 use Rattle.limits.specs.Limits.{maxSwitches}
-use Rattle.table.proofs.total_of.Statement.{statement}
-use Rattle.table.proofs.total_of.Tie as tie
+use Rattle.senders.proofs.total_of.Statement.{statement}
+use Rattle.senders.proofs.total_of.Tie as tie
 
 abbrev Inv-loop : tie.InvT-loop
 Inv-loop counts total₀ x₀ total x = (x ≤ maxSwitches) × (total ≡ sum x (at counts))
