@@ -3,11 +3,13 @@
 use crate::listing;
 use crate::net::{BySwitch, Net, Page};
 use crate::packet::{self, Order, Run, Under};
+use crate::page::{self, Counts};
 use crate::plant::{Answer, Plant, Refusal};
 use crate::search::Search;
 use crate::trail::Trail;
 
 pub use crate::listing::{read, write};
+pub use crate::page::read as page_read;
 pub use crate::search::{allowance, quantity};
 
 /// What the first line of the program `rules` shows.
@@ -89,6 +91,12 @@ pub fn rules(listing: &[u8]) -> Answer<Page> {
 /// Refusals 1 to 9.
 pub fn by_switch(listing: &[u8]) -> Answer<BySwitch> {
     Ok(net(listing)?.by_switch())
+}
+
+/// Writes the buying page to the front of the buffer and returns its length;
+/// refusals 1 to 9, 17, 18.
+pub fn page_written(listing: &[u8], percent: u8, buffer: &mut [u8]) -> Answer<usize> {
+    page::write(&Counts::new(&net(listing)?, percent)?, buffer)
 }
 
 /// Writes the trail to the front of the buffer and returns its hops;
@@ -264,4 +272,14 @@ pub fn print(listing: &[u8]) -> String {
         }
     }
     text
+}
+
+/// What the program `buying` prints for a listing and a spare.
+pub fn print_page(listing: &[u8], spare: u16) -> String {
+    // A spare that is no byte is above 100 too.
+    let percent = u8::try_from(spare).unwrap_or(u8::MAX);
+    match net(listing).and_then(|net| Counts::new(&net, percent)) {
+        Err(refusal) => format!("refused {}\n", refusal.number()),
+        Ok(counts) => page::text(&counts),
+    }
 }

@@ -10,7 +10,7 @@ use crate::search::Search;
 use std::io::Write;
 
 /// The calls by their number in the case format.
-pub const NAMES: [&str; 23] = [
+pub const NAMES: [&str; 25] = [
     "",
     "read",
     "write",
@@ -34,6 +34,8 @@ pub const NAMES: [&str; 23] = [
     "allowance",
     "long run",
     "by switch",
+    "page written",
+    "page read",
 ];
 
 /// The input does not follow the format at this byte.
@@ -415,6 +417,24 @@ impl Answerer {
             22 => calls::by_switch(input.string()?).map(|by| {
                 let rules = by.rules.iter().map(|count| u32::from(*count));
                 put(format_args!("{} {}", by.total, Sum::of(rules)))
+            }),
+            23 => {
+                let (listing, percent) = (input.string()?, input.byte()?);
+                let buffer = lend(&mut self.bytes, input.word()?);
+                let answer = calls::page_written(listing, percent, buffer);
+                *lent = Some(Sum::of_bytes(buffer));
+                answer.map(|length| put(format_args!("{length}")))
+            }
+            24 => calls::page_read(input.string()?).map(|counts| {
+                let sum = |list: &[u16]| Sum::of(list.iter().map(|count| u32::from(*count)));
+                put(format_args!(
+                    "{} {} {} {} {}",
+                    counts.switches,
+                    counts.total,
+                    counts.quantity,
+                    sum(&counts.rules),
+                    sum(&counts.links)
+                ))
             }),
             _ => return Err(Malformed(called_at)),
         })

@@ -7,6 +7,7 @@ use crate::listing;
 use crate::make::{self, Chance};
 use crate::net::{BySwitch, Net};
 use crate::packet::{self, Fate, Order, Run};
+use crate::page::{self, Counts};
 use crate::plant::{Link, Plant, Refusal};
 use crate::search::{quantity, Search, ALLOWANCE};
 use crate::trail::{distances, Trail};
@@ -1360,6 +1361,363 @@ fn writer_refusals() {
     );
 }
 
+/// A page restated: spaces, with the digits of each number up to its column.
+fn plain_page(each: &[(usize, usize)], total: usize, quantity: usize) -> Vec<u8> {
+    fn put(page: &mut [u8], column: usize, number: usize) {
+        page[column - 1] = b"0123456789"[number % 10];
+        if number > 9 {
+            put(page, column - 1, number / 10);
+        }
+    }
+    let mut page = vec![b' '; 32 * each.len() + 32];
+    for (switch, (rules, links)) in each.iter().enumerate() {
+        let line = &mut page[32 * switch..];
+        put(line, 6, switch);
+        put(line, 14, *rules);
+        put(line, 22, *links);
+        line[31] = b'\n';
+    }
+    let line = &mut page[32 * each.len()..];
+    line[..5].copy_from_slice(b"total");
+    put(line, 14, total);
+    put(line, 22, quantity);
+    line[31] = b'\n';
+    page
+}
+
+/// The page's reader restated: the words of the lines, if they make the same
+/// page again.
+fn plain_counts(page: &[u8]) -> Option<Counts> {
+    let text = std::str::from_utf8(page).ok()?;
+    let words: Vec<&str> = text.split_whitespace().collect();
+    let (each, last) = words.split_at_checked(words.len().checked_sub(3)?)?;
+    let number = |word: &str| word.parse::<usize>().ok().filter(|number| *number < 1000);
+    let each: Vec<(usize, usize)> = each
+        .chunks(3)
+        .map(|line| Some((number(line.get(1)?)?, number(line.get(2)?)?)))
+        .collect::<Option<_>>()?;
+    let (total, quantity) = (number(last[1])?, number(last[2])?);
+    let sum: usize = each.iter().map(|(rules, _)| rules).sum();
+    if !(1..=64).contains(&each.len()) || total != sum || page != plain_page(&each, total, quantity)
+    {
+        return None;
+    }
+    let mut counts = Counts {
+        switches: each.len(),
+        rules: [0; 64],
+        links: [0; 64],
+        total: total as u16,
+        quantity: quantity as u16,
+    };
+    for (switch, (rules, links)) in each.into_iter().enumerate() {
+        counts.rules[switch] = rules as u16;
+        counts.links[switch] = links as u16;
+    }
+    Some(counts)
+}
+
+/// The counts that are read, after a look at the restated reader and, of what
+/// is accepted, at what is written.
+fn read_page(page: &[u8]) -> Option<Counts> {
+    let answer = calls::page_read(page);
+    let shown = String::from_utf8_lossy(page);
+    assert_eq!(answer.clone().ok(), plain_counts(page), "{shown:?}");
+    match &answer {
+        Ok(counts) => assert_eq!(page::text(counts).as_bytes(), page),
+        Err(refusal) => assert_eq!(refusal.number(), 18),
+    }
+    answer.ok()
+}
+
+#[test]
+fn marked_pages() {
+    let tailed = concat!(
+        "     0       2       3         \n",
+        "     1       1       2         \n",
+        "     2       1       2         \n",
+        "     3       1       1         \n",
+        "total        5       6         \n",
+    );
+    let alone = concat!(
+        "     0       0       0         \n",
+        "total        0       0         \n",
+    );
+    let parallel = concat!(
+        "     0       1       3         \n",
+        "     1       2       3         \n",
+        "total        3       6         \n",
+    );
+    let of_tailed = Counts::told(&[(2, 3), (1, 2), (1, 2), (1, 1)], 5, 6);
+    let of_parallel = Counts::told(&[(1, 3), (2, 3)], 3, 6);
+    for (listing, spare, text, counts) in [
+        (TAILED, 10, tailed, of_tailed),
+        (&[0x00], 100, alone, Counts::told(&[(0, 0)], 0, 0)),
+        (PARALLEL, 100, parallel, of_parallel),
+    ] {
+        assert_eq!(calls::print_page(listing, spare.into()), text);
+        let mut buffer = vec![7; text.len() + 40];
+        let length = calls::page_written(listing, spare, &mut buffer);
+        assert_eq!(length, Ok(text.len()));
+        assert_eq!(buffer[..text.len()], *text.as_bytes());
+        assert_eq!(buffer[text.len()..], [7; 40]);
+        assert_eq!(read_page(text.as_bytes()), Some(counts));
+    }
+}
+
+#[test]
+fn pages_written() {
+    let mut chance = Chance::new(18);
+    for plant in plants(18, 1500, 40) {
+        let plain = Plain::new(&plant);
+        let listing = make::listing_of(&plant);
+        let percent = chance.below(101);
+        let by = calls::by_switch(&listing).unwrap();
+        let ends = |switch: usize| {
+            let labels = plain.labels();
+            labels.filter(|label| plain.from(*label) == switch).count()
+        };
+        let each: Vec<(usize, usize)> = (0..plain.switches)
+            .map(|switch| (usize::from(by.rules[switch]), ends(switch)))
+            .collect();
+        let quantity = (by.total * (100 + percent)).div_ceil(100);
+        let page = plain_page(&each, by.total, quantity);
+
+        let mut buffer = some_buffer(&mut chance, page.len());
+        let untouched = buffer.clone();
+        let answer = calls::page_written(&listing, percent as u8, &mut buffer);
+        if untouched.len() < page.len() {
+            assert_eq!(answer, Err(Refusal::PageUnfit));
+            assert_eq!(buffer, untouched);
+        } else {
+            assert_eq!(answer, Ok(page.len()));
+            assert_eq!(buffer[..page.len()], page);
+            assert_eq!(buffer[page.len()..], untouched[page.len()..]);
+        }
+        assert_eq!(calls::print_page(&listing, percent as u16).as_bytes(), page);
+
+        // The reader gets the counts back.
+        let counts = read_page(&page).unwrap();
+        assert_eq!(counts.switches, plain.switches);
+        assert_eq!(counts.rules, by.rules);
+        assert_eq!(usize::from(counts.total), by.total);
+        assert_eq!(usize::from(counts.quantity), quantity);
+        // Each link is counted at its two ends.
+        let links = counts.links.iter().copied().map(usize::from);
+        assert_eq!(links.sum::<usize>(), 2 * plain.links.len());
+    }
+}
+
+/// The largest numbers that a page of a plan can have.
+#[test]
+fn pages_have_three_digits() {
+    // Sixty-two bridges, and all other links between two switches.
+    let mut most = make::bundle(Plant::MAX_LINKS - 62);
+    most.pairs.extend((2..64).map(|switch| (0, switch)));
+    most.switches = 64;
+    let net = Net::new(most.plain()).unwrap();
+    let counts = Counts::new(&net, 100).unwrap();
+    assert_eq!((counts.total, counts.quantity), (318, 636));
+    assert_eq!((counts.links[0], counts.links[1]), (256, 194));
+    assert_eq!(read_page(page::text(&counts).as_bytes()), Some(counts));
+
+    let mut sketches = vec![
+        most,
+        make::star(64),
+        make::star(64).doubled(),
+        make::fan(64),
+    ];
+    sketches.extend((1..=Plant::MAX_LINKS).map(make::bundle));
+    let mut plants = plants(19, 500, 100);
+    plants.extend(sketches.iter().map(make::Sketch::plain));
+    plants.push(make::longest_listing());
+    for plant in plants {
+        let counts = Counts::new(&Net::new(plant).unwrap(), 100).unwrap();
+        let mut numbers = counts.rules.iter().chain(&counts.links);
+        assert!(numbers.all(|number| *number < 1000));
+        assert!(counts.total < 1000 && counts.quantity < 1000);
+        assert_eq!(read_page(page::text(&counts).as_bytes()), Some(counts));
+    }
+}
+
+#[test]
+fn pages_read() {
+    let mut chance = Chance::new(20);
+    let mut seen = [0; 2];
+    for round in 0..40_000 {
+        let most = chance.of(&[1, 2, 4, 12, 64]);
+        let switches = chance.within(1, most);
+        let counts = make::made_up(&mut chance, switches);
+        let page = page::text(&counts).into_bytes();
+        assert_eq!(read_page(&page), Some(counts.clone()));
+        let damaged = make::damaged_page(&mut chance, &counts);
+        let read = read_page(&damaged);
+        if damaged != page {
+            assert_ne!(read, Some(counts));
+        }
+        seen[usize::from(read.is_some())] += 1;
+        // A page cut short, or with bytes after it.
+        if round % 20 == 0 {
+            let length = chance.below(page.len());
+            let mut more = page.clone();
+            more.push(chance.of(&make::TELLING));
+            read_page(&page[..length]);
+            assert_eq!(read_page(&more), None);
+            more.resize(page.len() + page::LINE, b' ');
+            assert_eq!(read_page(&more), None);
+        }
+    }
+    assert!(seen.iter().all(|count| *count > 1000), "{seen:?}");
+}
+
+/// Every change of one byte is refused or gives other counts.
+#[test]
+fn changed_pages() {
+    let pages: &[&[(u16, u16)]] = &[
+        &[(0, 0)],
+        &[(1, 1), (1, 1)],
+        &[(123, 256), (100, 40)],
+        &[(7, 10), (0, 1), (12, 999)],
+    ];
+    for each in pages {
+        let total = each.iter().map(|(rules, _)| rules).sum();
+        let counts = Counts::told(each, total, 2 * total);
+        let page = page::text(&counts).into_bytes();
+        let mut taken = 0;
+        for at in 0..page.len() {
+            for byte in (0..=255).filter(|byte| *byte != page[at]) {
+                let mut changed = page.clone();
+                changed[at] = byte;
+                let read = read_page(&changed);
+                assert_ne!(read, Some(counts.clone()));
+                taken += usize::from(read.is_some());
+                // Only links and the quantity can be others.
+                let Some(other) = read else { continue };
+                assert_eq!((other.rules, other.total), (counts.rules, counts.total));
+                assert!((14..22).contains(&(at % 32)));
+            }
+        }
+        assert!(taken > 0);
+    }
+}
+
+/// Every text of some bytes in each field.
+#[test]
+fn page_fields() {
+    let page = page::text(&Counts::told(&[(0, 0)], 0, 0)).into_bytes();
+    let bytes = b" 019/:\nt";
+    for (end, width) in [(6, 4), (14, 4), (22, 5), (38, 6), (46, 4), (54, 5)] {
+        for text in 0..bytes.len().pow(width) {
+            let mut page = page.clone();
+            let mut left = text;
+            for at in 1..=width as usize {
+                page[end - at] = bytes[left % bytes.len()];
+                left /= bytes.len();
+            }
+            read_page(&page);
+        }
+    }
+    // Every number of links, and the rules of one switch.
+    for number in 0..=9999 {
+        let told = plain_page(&[(0, number)], 0, 0);
+        assert_eq!(read_page(&told).is_some(), number < 1000);
+        let told = plain_page(&[(number, 0)], number, 0);
+        assert_eq!(read_page(&told).is_some(), number < 1000);
+    }
+}
+
+#[test]
+fn page_lines() {
+    // Every number of switches, without a total and with two.
+    for switches in 0..70 {
+        let page = plain_page(&vec![(1, 2); switches], switches, 0);
+        let accepted = (1..=64).contains(&switches);
+        assert_eq!(read_page(&page).is_some(), accepted);
+        let (each, total) = page.split_at(32 * switches);
+        assert_eq!(read_page(each), None);
+        assert_eq!(read_page(&[each, total, total].concat()), None);
+    }
+    // Sums that do not fit what they might be counted in.
+    for (rules, total) in [(999, 936), (999, 192), (16, 24), (16, 0), (4, 0)] {
+        let page = plain_page(&[(rules, 0); 64], total, 0);
+        assert_eq!(read_page(&page), None);
+    }
+    // A last switch without rules may be left out, and no other.
+    let page = plain_page(&[(0, 1), (5, 2), (0, 3), (0, 4)], 5, 0);
+    for line in 0..5 {
+        let mut fewer = page.clone();
+        fewer.drain(32 * line..32 * line + 32);
+        assert_eq!(read_page(&fewer).is_some(), line == 3);
+    }
+    assert_eq!(read_page(&[]), None);
+}
+
+#[test]
+fn page_refusals() {
+    let mut chance = Chance::new(21);
+    let mut seen = [0; 19];
+    for round in 0..4000 {
+        let plant = make::joined(&mut chance, 6, 9).mixed(&mut chance);
+        let bytes = match round % 4 {
+            0 => make::noise(&mut chance),
+            1 => make::listing_of(&make::apart(&mut chance, 6, 9).mixed(&mut chance)),
+            2 => make::damaged(&mut chance, &plant),
+            _ => make::listing_of(&plant),
+        };
+        let percent = chance.of(&[0, 10, 100, 101, 255]);
+        let most = chance.of(&[4, 8]);
+        let mut buffer: Vec<u8> = (0..chance.below(32 * most)).map(prefilled).collect();
+        let untouched = buffer.clone();
+        // The lowest of the refusals that hold.
+        let wanted = match calls::net(&bytes) {
+            Err(refusal) => refusal.number(),
+            Ok(_) if percent > 100 => 17,
+            Ok(net) if buffer.len() < 32 * (usize::from(net.plant.switches) + 1) => 18,
+            Ok(_) => 0,
+        };
+        let answer = calls::page_written(&bytes, percent, &mut buffer);
+        assert_eq!(number(answer), wanted);
+        if wanted > 0 {
+            assert_eq!(buffer, untouched);
+        }
+        seen[usize::from(wanted)] += 1;
+    }
+    for refusal in (0..=9).chain([17, 18]) {
+        assert!(seen[refusal] > 20, "{seen:?}");
+    }
+    let written = |listing: &[u8], spare, places: usize| {
+        number(calls::page_written(listing, spare, &mut vec![0; places]))
+    };
+    assert_eq!(written(&[], 101, 0), 1);
+    assert_eq!(written(&[1, 64], 101, 0), 9);
+    assert_eq!(written(TRIANGLE, 101, 0), 17);
+    assert_eq!(written(TRIANGLE, 255, 128), 17);
+    assert_eq!(written(TRIANGLE, 100, 127), 18);
+    assert_eq!(written(TRIANGLE, 100, 128), 0);
+    assert_eq!(written(&[0], 0, 63), 18);
+    assert_eq!(written(&[0], 0, 64), 0);
+}
+
+/// What the program `buying` takes as a spare, and what it prints.
+#[test]
+fn printed_pages() {
+    for spare in 0..=999 {
+        assert_eq!(page::number(spare.to_string().as_bytes()), Some(spare));
+        let text = calls::print_page(TRIANGLE, spare);
+        if spare > 100 {
+            assert_eq!(text, "refused 17\n");
+        } else {
+            let quantity = quantity(3, spare as u8).unwrap() as u16;
+            assert_eq!(read_page(text.as_bytes()).unwrap().quantity, quantity);
+        }
+        assert_eq!(calls::print_page(&[1, 64], spare), "refused 9\n");
+    }
+    for text in [
+        "", "00", "01", "007", "1000", "0000", "-1", "+1", " 1", "1 ", "1.", "x", "1x", "\u{661}",
+    ] {
+        assert_eq!(page::number(text.as_bytes()), None, "{text:?}");
+    }
+}
+
 #[test]
 fn longest_trail() {
     let back = Plant::MAX_LINKS - (Plant::MAX_SWITCHES - 1);
@@ -1392,7 +1750,18 @@ fn case_lines() {
     };
     let plant = listing::read(TRIANGLE).unwrap();
     let three: [u32; 64] = std::array::from_fn(|switch| u32::from(switch < 3));
-    let wide: Vec<u32> = (0..14).map(|place| u32::from(prefilled(place))).collect();
+    let lent = |places: usize| -> Vec<u32> {
+        let lent = (0..places).map(prefilled);
+        lent.map(u32::from).collect()
+    };
+    let wide = lent(14);
+    // The page of the triangle with a spare of ten percent.
+    let page = calls::print_page(TRIANGLE, 10);
+    let page_in = |places: usize| {
+        let page = page.bytes().map(u32::from);
+        let after = lent(places).split_off(page.len());
+        page.chain(after).collect::<Vec<u32>>()
+    };
     let mut written = wide.clone();
     for (place, byte) in written.iter_mut().zip(TRIANGLE) {
         *place = u32::from(*byte);
@@ -1503,6 +1872,31 @@ fn case_lines() {
         (Case::new(22).string(&[0]), format!("0 {}", sum(&[0; 64]))),
         (Case::new(22).string(&[1, 64]), "refused 9".into()),
         (Case::new(22).string(&[]), "refused 1".into()),
+        (
+            on(23).byte(10).word(130),
+            format!("128 {}", sum(&page_in(130))),
+        ),
+        (
+            on(23).byte(10).word(127),
+            format!("refused 18 {}", sum(&lent(127))),
+        ),
+        (
+            on(23).byte(101).word(127),
+            format!("refused 17 {}", sum(&lent(127))),
+        ),
+        (
+            Case::new(23).string(&[1, 64]).byte(101).word(0),
+            "refused 9 0:0".into(),
+        ),
+        (
+            Case::new(24).string(page.as_bytes()),
+            format!("3 3 4 {} {}", sum(&three), sum(&three.map(|one| 2 * one))),
+        ),
+        (
+            Case::new(24).string(&page.as_bytes()[1..]),
+            "refused 18".into(),
+        ),
+        (Case::new(24).string(&[]), "refused 18".into()),
     ];
     for (case, answer) in cases {
         assert_eq!(line(&case), answer + "\n", "{:?}", case.bytes);

@@ -1,5 +1,5 @@
 //! Second implementation of the network planner, made from document 01, orders
-//! 1 and 2 of document 02 and a list of calls.
+//! 1 to 3 of document 02 and a list of calls.
 //!
 //! - [`plant`]: plant values, their limits and the refusals;
 //! - [`listing`]: the listing's reader and writer;
@@ -8,9 +8,10 @@
 //! - [`trail`]: distances and the trail;
 //! - [`packet`]: packet runs, place, ring, order of links, probes;
 //! - [`search`]: the search, its allowance, the order quantity;
+//! - [`page`]: the buying page's writer and reader;
 //! - [`calls`]: every call with its refusals in checking order;
 //! - [`cases`]: the case format and its answers;
-//! - [`make`]: generator of plants and damaged listings.
+//! - [`make`]: generator of plants, of damaged listings and of buying pages.
 
 pub mod calls;
 pub mod cases;
@@ -18,6 +19,7 @@ pub mod listing;
 pub mod make;
 pub mod net;
 pub mod packet;
+pub mod page;
 pub mod plant;
 pub mod search;
 pub mod trail;

@@ -5,9 +5,10 @@
 
 use reference::calls;
 use reference::cases::{Answerer, Case, NAMES};
-use reference::make::{self, Chance, Sketch};
+use reference::make::{self, Chance, Draft, Sketch};
 use reference::net::Net;
 use reference::packet::{self, Order};
+use reference::page::{self, Counts};
 use reference::plant::Plant;
 use reference::search::Search;
 use reference::trail::Trail;
@@ -17,13 +18,19 @@ use std::path::Path;
 use std::process::ExitCode;
 
 const SEED: u64 = 1;
-/// The first cases are of every call but the long run and the rules by switch,
-/// those after them of packet runs alone, the next of rules by switch alone,
-/// and any more are of all three kinds.
+/// The first cases are of every call but the long run, the rules by switch and
+/// the pages, those after them of packet runs alone, the next of rules by
+/// switch alone, of pages written alone and of pages read alone, and any more
+/// are of all five kinds.
 const FIRST: usize = 18_000;
 const RUNS: usize = 1_000;
 const BY_SWITCH: usize = 1_000;
-const COUNT: usize = FIRST + RUNS + BY_SWITCH;
+const WRITTEN: usize = 500;
+const READ: usize = 1_000;
+const COUNT: usize = FIRST + RUNS + BY_SWITCH + WRITTEN + READ;
+
+/// The highest number of a refusal.
+const REFUSALS: usize = 18;
 
 const SWITCHES: usize = Plant::MAX_SWITCHES;
 const LINKS: usize = Plant::MAX_LINKS;
@@ -46,7 +53,7 @@ struct Out {
     count: usize,
     sizes: [usize; 2],
     /// Answers by call and refusal, 0 for none.
-    table: [[usize; 18]; NAMES.len()],
+    table: [[usize; 1 + REFUSALS]; NAMES.len()],
 }
 
 impl Out {
@@ -1552,32 +1559,538 @@ fn fixed_by_switch_shapes(chance: &mut Chance, out: &mut Out) -> io::Result<()> 
     Ok(())
 }
 
+/// A joined sketch drawn by chance: dense ones besides those of every kind.
+fn any_joined(chance: &mut Chance) -> Sketch {
+    if chance.percent(20) {
+        let switches = chance.within(2, 12);
+        let links = chance.within(switches, 5 * switches);
+        make::exact(chance, switches, links)
+    } else {
+        let (switches, links) = limits(chance);
+        make::joined(chance, switches, links)
+    }
+}
+
 /// One case of rules by switch, drawn by chance.
 fn drawn_by_switch(chance: &mut Chance) -> Case {
     if chance.percent(90) {
-        // Dense plants besides those of every kind.
-        let sketch = if chance.percent(20) {
-            let switches = chance.within(2, 12);
-            let links = chance.within(switches, 5 * switches);
-            make::exact(chance, switches, links)
-        } else {
-            let (switches, links) = limits(chance);
-            make::joined(chance, switches, links)
-        };
-        of_plant(&sketch.mixed(chance))
+        of_plant(&any_joined(chance).mixed(chance))
     } else {
         by_switch(&subject(chance, 0).listing)
     }
 }
 
-/// How often each call is drawn, from call 1; the long run and the rules by
-/// switch are drawn apart.
+/// The number of the call that writes a page.
+const PAGE_WRITTEN: u8 = 23;
+/// The number of the call that reads a page.
+const PAGE_READ: u8 = 24;
+
+/// The page of a listing with a spare, in a buffer of so many bytes.
+fn page_written(listing: &[u8], spare: u8, places: usize) -> Case {
+    Case::new(PAGE_WRITTEN)
+        .string(listing)
+        .byte(spare)
+        .word(places)
+}
+
+/// How long the page of so many switches is.
+fn page_length(switches: usize) -> usize {
+    page::LINE * (switches + 1)
+}
+
+/// The page of a joined plant, with a spare and a buffer that it is written
+/// with.
+fn taken_page(chance: &mut Chance, plant: &Plant) -> Case {
+    let length = page_length(usize::from(plant.switches));
+    let any = chance.below(101) as u8;
+    let spare = chance.of(&[0, 1, 10, 99, 100, any, any, any]);
+    let places = length + chance.of(&[0, 0, 0, 1, 31, 32, 33, 100]);
+    page_written(&make::listing_of(plant), spare, places)
+}
+
+/// How many bytes are lent for a page of so many.
+fn page_places(chance: &mut Chance, length: usize) -> usize {
+    let short = chance.below(length);
+    let spare = chance.below(200);
+    chance.of(&[
+        length,
+        length,
+        length,
+        length,
+        length + 1,
+        length + 31,
+        length + page::LINE,
+        length + spare,
+        length - 1,
+        length - page::LINE,
+        short,
+        0,
+    ])
+}
+
+/// The cases of pages written that do not wait for chance.
+fn fixed_pages_written(chance: &mut Chance, out: &mut Out) -> io::Result<()> {
+    fixed_pages_lent(chance, out)?;
+    fixed_pages_of_shapes(chance, out)?;
+    // Each refusal of the listing, with a spare and a buffer that are right,
+    // and with those that meet 17 and 18.
+    let most = page_length(SWITCHES);
+    for refusal in 1..=9 {
+        for (limits, least, spare, places) in [
+            ((5, 8), 0, 10, most),
+            ((5, 8), 0, 101, most),
+            ((5, 8), 0, 10, page::LINE - 1),
+            ((5, 8), 0, 255, 0),
+            ((5, 8), 0, 100, 0),
+            ((12, 24), 0, 200, page::LINE),
+            ((32, 80), 60, 25, most + 1),
+        ] {
+            let listing = refused(chance, refusal, limits, least);
+            out.put(page_written(&listing, spare, places))?;
+        }
+    }
+    Ok(())
+}
+
+/// The pages of the listings of document 01, and those of small plants with
+/// every kind of spare and of buffer.
+fn fixed_pages_lent(chance: &mut Chance, out: &mut Out) -> io::Result<()> {
+    for listing in named_listings() {
+        let switches = calls::read(&listing).map_or(2, |plant| usize::from(plant.switches));
+        out.put(page_written(&listing, 10, page_length(switches)))?;
+    }
+    for sketch in [
+        make::path(1),
+        make::bundle(3),
+        make::tailed(chance, 3, 4),
+        make::table_one(),
+    ] {
+        let listing = make::listing_of(&sketch.plain());
+        let length = page_length(sketch.switches);
+        for spare in [0, 1, 2, 10, 33, 50, 99, 100, 101, 102, 128, 255] {
+            out.put(page_written(&listing, spare, length))?;
+        }
+        for places in [0, 1, 31, length - 32, length - 31, length - 1] {
+            out.put(page_written(&listing, 10, places))?;
+            // The spare goes before the buffer.
+            out.put(page_written(&listing, chance.of(&[101, 255]), places))?;
+        }
+        for more in [1, 31, 32, 33, 100] {
+            out.put(page_written(&listing, 10, length + more))?;
+        }
+    }
+    Ok(())
+}
+
+/// The pages of plants of every number of switches, and of a known shape.
+fn fixed_pages_of_shapes(chance: &mut Chance, out: &mut Out) -> io::Result<()> {
+    for switches in 1..=SWITCHES {
+        let ring = chance.within(1, switches);
+        let sizes = parted(chance, switches);
+        let sketch = match switches % 4 {
+            0 => make::tree(chance, switches),
+            1 => make::cycle(switches),
+            2 => make::tailed(chance, ring, switches),
+            _ => make::rings(chance, &sizes),
+        };
+        let plant = sketch.mixed(chance);
+        out.put(taken_page(chance, &plant))?;
+    }
+    // One switch with many links.
+    for switches in [3, 8, 21, SWITCHES] {
+        let star = make::star(switches);
+        for sketch in [star.clone(), star.doubled(), make::fan(switches)] {
+            let plant = sketch.plain();
+            out.put(taken_page(chance, &plant))?;
+            let plant = sketch.mixed(chance);
+            out.put(taken_page(chance, &plant))?;
+        }
+    }
+    // Parallel links, as many digits as there can be.
+    for links in [1, 2, 9, 10, 99, 100, 101, LINKS - 1, LINKS] {
+        let plant = make::bundle(links).mixed(chance);
+        out.put(taken_page(chance, &plant))?;
+    }
+    // Dense plants, and the limits.
+    for switches in 3..=9 {
+        let plant = make::complete(switches).mixed(chance);
+        out.put(taken_page(chance, &plant))?;
+    }
+    for (switches, links) in [(10, 60), (20, 100), (40, LINKS), (SWITCHES, LINKS)] {
+        let plant = make::exact(chance, switches, links).mixed(chance);
+        out.put(taken_page(chance, &plant))?;
+    }
+    out.put(taken_page(chance, &make::longest_listing()))?;
+    // As many rules as there can be: all switches but two are joined by one
+    // link each, and all other links are parallel.
+    let mut sketch = make::bundle(LINKS - (SWITCHES - 2));
+    sketch.pairs.extend((2..SWITCHES).map(|switch| (0, switch)));
+    sketch.switches = SWITCHES;
+    let listing = make::listing_of(&sketch.plain());
+    let most = page_length(SWITCHES);
+    for (spare, places) in [
+        (0, most),
+        (1, most),
+        (99, most),
+        (100, most),
+        (101, most),
+        (255, most - 1),
+        (100, most - 1),
+        (100, most - page::LINE),
+        (100, most + 1),
+        (100, most + page::LINE),
+    ] {
+        out.put(page_written(&listing, spare, places))?;
+    }
+    Ok(())
+}
+
+/// One case of a page written, drawn by chance.
+fn drawn_page_written(chance: &mut Chance) -> Case {
+    let (listing, switches) = if chance.percent(80) {
+        let sketch = any_joined(chance);
+        (make::listing_of(&sketch.mixed(chance)), sketch.switches)
+    } else {
+        let subject = subject(chance, 0);
+        (subject.listing, usize::from(subject.plant.switches))
+    };
+    let any = chance.below(101) as u8;
+    let above = chance.within(101, 255) as u8;
+    let spare = chance.of(&[0, 1, 10, 99, 100, any, any, any, any, any, 101, above]);
+    let places = page_places(chance, page_length(switches));
+    page_written(&listing, spare, places)
+}
+
+/// A page read.
+fn page_read(page: &[u8]) -> Case {
+    Case::new(PAGE_READ).string(page)
+}
+
+/// A draft read.
+fn draft_read(draft: &Draft) -> Case {
+    page_read(&draft.bytes())
+}
+
+/// The counts of a joined plant.
+fn planned(plant: Plant, spare: u8) -> io::Result<Counts> {
+    Net::new(plant)
+        .and_then(|net| Counts::new(&net, spare))
+        .map_err(|refusal| io::Error::other(format!("refused {}", refusal.number())))
+}
+
+/// A page with the rules and the links of each switch told; the rules add up.
+fn adding_up(each: &[(u16, u16)], quantity: u16) -> Draft {
+    let total = each.iter().map(|(rules, _)| rules).sum();
+    Draft::new(&Counts::told(each, total, quantity))
+}
+
+/// The cases of pages read that do not wait for chance.
+fn fixed_pages_read(chance: &mut Chance, out: &mut Out) -> io::Result<()> {
+    fixed_right_pages(chance, out)?;
+    fixed_changed_bytes(chance, out)?;
+    fixed_wrong_fields(out)?;
+    fixed_wrong_sums(out)?;
+    fixed_wrong_lines(chance, out)?;
+    fixed_wrong_lengths(out)
+}
+
+/// Pages that are of the form.
+fn fixed_right_pages(chance: &mut Chance, out: &mut Out) -> io::Result<()> {
+    // As written, of every number of switches.
+    for switches in 1..=SWITCHES {
+        let ring = chance.within(1, switches);
+        let links = switches - 1 + chance.below(switches);
+        let sketch = match switches % 3 {
+            0 => make::tree(chance, switches),
+            1 => make::exact(chance, switches, links),
+            _ => make::tailed(chance, ring, switches),
+        };
+        let spare = chance.below(101) as u8;
+        let counts = planned(sketch.mixed(chance), spare)?;
+        out.put(draft_read(&Draft::new(&counts)))?;
+    }
+    // Of no plan.
+    for switches in (1..=10).chain([20, 40, SWITCHES - 1, SWITCHES]) {
+        let counts = make::made_up(chance, switches);
+        out.put(draft_read(&Draft::new(&counts)))?;
+    }
+    // Any links and any quantity will do.
+    let draft = adding_up(&[(1, 1), (1, 1)], 3);
+    for number in ["0", "9", "10", "99", "100", "256", "999"] {
+        for line in 0..3 {
+            out.put(draft_read(&draft.with((line, 2), number)))?;
+        }
+    }
+    // The same total, otherwise parted.
+    for rules in [0, 1, 9, 10, 50, 90, 99, 100] {
+        let draft = adding_up(&[(rules, 2), (100 - rules, 2)], 110);
+        out.put(draft_read(&draft))?;
+    }
+    // The most and the fewest rules.
+    for rules in [0, 1, 999] {
+        out.put(draft_read(&adding_up(&[(rules, 0)], rules)))?;
+        out.put(draft_read(&adding_up(&[(0, 0), (rules, 0)], rules)))?;
+    }
+    let rules = 999 / SWITCHES as u16;
+    out.put(draft_read(&adding_up(&[(rules, 8); SWITCHES], 999)))
+}
+
+/// Every byte of a page changed: to one by chance, to a digit, and to another
+/// byte that a page has.
+fn fixed_changed_bytes(chance: &mut Chance, out: &mut Out) -> io::Result<()> {
+    let pages = [
+        adding_up(&[(1, 1), (1, 1)], 3).bytes(),
+        adding_up(&[(123, 256), (100, 40)], 446).bytes(),
+        adding_up(&[(7, 0), (0, 1)], 7).bytes(),
+    ];
+    let any: Vec<u8> = (0..=255).collect();
+    let choices = [&any[..], b"0123456789", b" \n0 \n0totl"];
+    for at in 0..page_length(2) {
+        for (page, choices) in pages.iter().zip(choices) {
+            let mut page = page.clone();
+            let before = page[at];
+            while page[at] == before {
+                page[at] = chance.of(choices);
+            }
+            out.put(page_read(&page))?;
+        }
+    }
+    Ok(())
+}
+
+/// Fields, and what is outside them, that are not of the form.
+fn fixed_wrong_fields(out: &mut Out) -> io::Result<()> {
+    let small = adding_up(&[(7, 0), (0, 1)], 7);
+    let large = adding_up(&[(123, 256), (100, 40)], 446);
+    for place in small.numbers() {
+        let text = small.text(place);
+        for before in ["0", "00", "+"] {
+            out.put(draft_read(
+                &small.with(place, &(before.to_string() + &text)),
+            ))?;
+        }
+        let text = large.text(place);
+        let (first, rest) = text.split_at(1);
+        for wrong in [
+            // The last digits are right.
+            format!("1{text:0>3}"),
+            format!("{text:0>6}"),
+            format!("1 {text}"),
+            format!("{first} {rest}0"),
+            format!("{text} "),
+            "999999".to_string(),
+            String::new(),
+        ] {
+            out.put(draft_read(&large.with(place, &wrong)))?;
+        }
+        out.put(draft_read(&large.at_left(place)))?;
+        out.put(draft_read(&large.to_the_right(place)))?;
+        // The bytes next to the digits, a letter, and a digit with its highest
+        // bit set.
+        for byte in [b'/', b':', b'A', 0x80 | b'0'] {
+            let mut draft = large.clone();
+            if let Some(last) = draft.digits(place).last_mut() {
+                *last = byte;
+            }
+            out.put(draft_read(&draft))?;
+        }
+        // A tab before the number.
+        out.put(draft_read(&large.with(place, &format!("\t{text}"))))?;
+    }
+    // Four digits that add up.
+    out.put(draft_read(&adding_up(&[(999, 2), (1, 2)], 5)))?;
+    out.put(draft_read(&adding_up(&[(500, 2), (500, 2)], 5)))?;
+    out.put(draft_read(&adding_up(&[(0, 2), (1000, 2)], 5)))?;
+    // The word of the last line.
+    for word in make::NOT_TOTAL {
+        out.put(draft_read(&small.with((2, 0), word)))?;
+    }
+    for word in ["", "2", "0", "2     "] {
+        out.put(draft_read(&small.with((2, 0), word)))?;
+    }
+    // The ends of the lines.
+    for line in 0..3 {
+        for end in [b"\r\n", b" \r", b"  ", b"\n ", b"\n\n", b" \x8a", b" \0"] {
+            let mut draft = small.clone();
+            draft.lines[line][page::LINE - 2..].copy_from_slice(end);
+            out.put(draft_read(&draft))?;
+        }
+    }
+    Ok(())
+}
+
+/// Pages whose rules do not add up.
+fn fixed_wrong_sums(out: &mut Out) -> io::Result<()> {
+    let mut told = |rules: &[u16], total: u16| {
+        let each: Vec<(u16, u16)> = rules.iter().map(|rules| (*rules, 3)).collect();
+        let draft = Draft::new(&Counts::told(&each, total, 7));
+        out.put(draft_read(&draft))
+    };
+    // One too high or too low; one line left out; the links, the quantity.
+    for total in [8, 6, 3, 4, 0, 1, 10, 14] {
+        told(&[3, 4], total)?;
+    }
+    told(&[2, 4], 7)?;
+    told(&[2, 2], 6)?;
+    told(&[0], 1)?;
+    told(&[1], 0)?;
+    told(&[999], 998)?;
+    // What is left of a sum in one byte, or in three digits.
+    told(&[200, 100], 44)?;
+    told(&[255, 1], 0)?;
+    told(&[256], 0)?;
+    told(&[600, 700], 300)?;
+    told(&[999, 1], 0)?;
+    told(&[999, 999], 998)?;
+    told(&[16; SWITCHES], 24)?;
+    told(&[999; SWITCHES], 936)?;
+    told(&[15; SWITCHES], 961)
+}
+
+/// Pages with lines in another order, left out, or too many.
+fn fixed_wrong_lines(chance: &mut Chance, out: &mut Out) -> io::Result<()> {
+    let tailed = make::tailed(chance, 3, 4).plain();
+    for draft in [
+        adding_up(&[(1, 1), (1, 1)], 3),
+        Draft::new(&planned(tailed, 10)?),
+        // Lines without rules: the sum stays without them.
+        adding_up(&[(0, 1), (5, 2), (0, 3), (0, 4)], 6),
+    ] {
+        let last = draft.lines.len() - 1;
+        for line in 0..=last {
+            let mut fewer = draft.clone();
+            fewer.lines.remove(line);
+            out.put(draft_read(&fewer))?;
+            let mut more = draft.clone();
+            more.lines.insert(line, draft.lines[line].clone());
+            out.put(draft_read(&more))?;
+            let mut swapped = draft.clone();
+            swapped.lines.swap(line, (line + 1) % (last + 1));
+            out.put(draft_read(&swapped))?;
+        }
+        let mut turned = draft.clone();
+        turned.lines[..last].reverse();
+        out.put(draft_read(&turned))?;
+        let mut moved = draft.clone();
+        moved.lines.rotate_right(1);
+        out.put(draft_read(&moved))?;
+        // A switch after the total, the page twice, a switch for the total.
+        let mut after = draft.clone();
+        after.lines.push(draft.lines[last - 1].clone());
+        out.put(draft_read(&after))?;
+        let twice = [draft.bytes(), draft.bytes()].concat();
+        out.put(page_read(&twice))?;
+        out.put(draft_read(&draft.with((last, 0), &last.to_string())))?;
+        // Switches from 1, with a gap, and one twice.
+        for from in 0..last {
+            let mut counted = draft.clone();
+            counted.count_up(from);
+            out.put(draft_read(&counted))?;
+            let switch = draft.text((from.saturating_sub(1), 0));
+            out.put(draft_read(&draft.with((from, 0), &switch)))?;
+        }
+    }
+
+    // As many switches as there can be.
+    let counts = planned(make::cycle(SWITCHES).plain(), 10)?;
+    let draft = Draft::new(&counts);
+    for line in [0, SWITCHES / 2, SWITCHES - 1, SWITCHES] {
+        let mut fewer = draft.clone();
+        fewer.lines.remove(line);
+        out.put(draft_read(&fewer))?;
+    }
+    let mut swapped = draft.clone();
+    swapped.lines.swap(9, 10);
+    out.put(draft_read(&swapped))?;
+    let mut twice = draft.clone();
+    twice.lines.push(draft.lines[SWITCHES].clone());
+    out.put(draft_read(&twice))?;
+    // One switch too many, with rules and without, and then no total.
+    let mut more = draft.clone();
+    more.lines
+        .insert(SWITCHES, draft.lines[SWITCHES - 1].clone());
+    more.put((SWITCHES, 0), &SWITCHES.to_string());
+    let total = usize::from(counts.total) + 1;
+    more.put((SWITCHES + 1, 1), &total.to_string());
+    out.put(draft_read(&more))?;
+    let mut empty = more.with((SWITCHES, 1), "0");
+    empty.put((SWITCHES + 1, 1), &counts.total.to_string());
+    out.put(draft_read(&empty))?;
+    more.lines.pop();
+    out.put(draft_read(&more))
+}
+
+/// Pages of which the length is not right, and what is no page.
+fn fixed_wrong_lengths(out: &mut Out) -> io::Result<()> {
+    let page = adding_up(&[(1, 1), (1, 1)], 3).bytes();
+    for length in [0, 1, 31, 32, 33, 63, 64, 65, 95] {
+        out.put(page_read(&page[..length]))?;
+    }
+    for begin in [1, 31, 32, 64] {
+        out.put(page_read(&page[begin..]))?;
+    }
+    let blank = adding_up(&[(0, 0)], 0).lines;
+    for more in [
+        &b"\n"[..],
+        b" ",
+        b"0",
+        b"\0",
+        &[b' '; 31],
+        &[b' '; 32],
+        &[b'\n'; 32],
+        &[0; 32],
+        &blank[0],
+        &blank[1],
+    ] {
+        out.put(page_read(&[&page, more].concat()))?;
+        out.put(page_read(&[more, &page].concat()))?;
+    }
+    // Single lines, and lines of one byte alone.
+    for line in &blank {
+        out.put(page_read(line))?;
+        out.put(page_read(&[&line[..], line].concat()))?;
+    }
+    for byte in [b' ', b'\n', b'0', 0] {
+        out.put(page_read(&[byte; 2 * page::LINE]))?;
+    }
+    // The longest page, one byte shorter and one longer.
+    let mut longest = adding_up(&[(4, 8); SWITCHES], 300).bytes();
+    out.put(page_read(&longest[..longest.len() - 1]))?;
+    longest.push(b'\n');
+    out.put(page_read(&longest))
+}
+
+/// One case of a page read, drawn by chance.
+fn drawn_page_read(chance: &mut Chance) -> io::Result<Case> {
+    let most = match chance.weighed(&[36, 36, 21, 7]) {
+        0 => 3,
+        1 => 6,
+        2 => 16,
+        _ => SWITCHES,
+    };
+    let counts = if chance.percent(50) {
+        let sketch = make::joined(chance, most, 4 * most);
+        let spare = chance.below(101) as u8;
+        planned(sketch.mixed(chance), spare)?
+    } else {
+        let switches = chance.within(1, most);
+        make::made_up(chance, switches)
+    };
+    Ok(if chance.percent(30) {
+        draft_read(&Draft::new(&counts))
+    } else {
+        page_read(&make::damaged_page(chance, &counts))
+    })
+}
+
+/// How often each call is drawn, from call 1; the long run, the rules by switch
+/// and the pages are drawn apart.
 const WEIGHTS: [usize; NAMES.len() - 1] = [
-    14, 9, 7, 5, 5, 9, 9, 7, 6, 8, 9, 7, 4, 2, 3, 6, 2, 7, 7, 1, 0, 0,
+    14, 9, 7, 5, 5, 9, 9, 7, 6, 8, 9, 7, 4, 2, 3, 6, 2, 7, 7, 1, 0, 0, 0, 0,
 ];
 
-/// One case of any call but the long run and the rules by switch, drawn by
-/// chance.
+/// One case of any call but the long run, the rules by switch and the pages,
+/// drawn by chance.
 fn drawn_any(chance: &mut Chance) -> Case {
     let call = 1 + chance.weighed(&WEIGHTS) as u8;
     drawn(chance, call)
@@ -1593,7 +2106,7 @@ fn make(folder: &Path, seed: u64, count: usize) -> io::Result<Out> {
         most: count.min(FIRST),
         count: 0,
         sizes: [0; 2],
-        table: [[0; 18]; NAMES.len()],
+        table: [[0; 1 + REFUSALS]; NAMES.len()],
     };
     let mut chance = Chance::new(seed);
     fixed(&mut chance, &mut out)?;
@@ -1601,7 +2114,7 @@ fn make(folder: &Path, seed: u64, count: usize) -> io::Result<Out> {
         out.put(drawn_any(&mut chance))?;
     }
     // Packet runs are drawn by a chance of their own, and so are the rules by
-    // switch.
+    // switch, the pages written and the pages read.
     let mut other = Chance::new(!seed);
     out.most = count.min(FIRST + RUNS);
     fixed_runs(&mut other, &mut out)?;
@@ -1609,17 +2122,31 @@ fn make(folder: &Path, seed: u64, count: usize) -> io::Result<Out> {
         out.put(drawn_run(&mut other)?)?;
     }
     let mut third = Chance::new(seed ^ u64::from(RULES_BY_SWITCH) << 32);
-    out.most = count.min(COUNT);
+    out.most = count.min(FIRST + RUNS + BY_SWITCH);
     fixed_by_switch(&mut third, &mut out)?;
     while !out.full() {
         out.put(drawn_by_switch(&mut third))?;
     }
+    let mut fourth = Chance::new(seed ^ u64::from(PAGE_WRITTEN) << 32);
+    out.most = count.min(FIRST + RUNS + BY_SWITCH + WRITTEN);
+    fixed_pages_written(&mut fourth, &mut out)?;
+    while !out.full() {
+        out.put(drawn_page_written(&mut fourth))?;
+    }
+    let mut fifth = Chance::new(seed ^ u64::from(PAGE_READ) << 32);
+    out.most = count.min(COUNT);
+    fixed_pages_read(&mut fifth, &mut out)?;
+    while !out.full() {
+        out.put(drawn_page_read(&mut fifth)?)?;
+    }
     out.most = count;
     while !out.full() {
-        let case = match third.weighed(&[FIRST, RUNS, BY_SWITCH]) {
+        let case = match fifth.weighed(&[FIRST, RUNS, BY_SWITCH, WRITTEN, READ]) {
             0 => drawn_any(&mut chance),
             1 => drawn_run(&mut other)?,
-            _ => drawn_by_switch(&mut third),
+            2 => drawn_by_switch(&mut third),
+            3 => drawn_page_written(&mut fourth),
+            _ => drawn_page_read(&mut fifth)?,
         };
         out.put(case)?;
     }
@@ -1630,20 +2157,20 @@ fn make(folder: &Path, seed: u64, count: usize) -> io::Result<Out> {
 
 /// Prints how often each call and each refusal occurs.
 fn report(out: &Out) {
-    eprint!("{:>2} {:<11}{:>7}{:>7}", "", "call", "cases", "taken");
-    for refusal in 1..=17 {
+    eprint!("{:>2} {:<13}{:>7}{:>7}", "", "call", "cases", "taken");
+    for refusal in 1..=REFUSALS {
         eprint!("{refusal:>6}");
     }
     eprintln!();
-    let line = |number: &str, name: &str, row: &[usize; 18]| {
+    let line = |number: &str, name: &str, row: &[usize; 1 + REFUSALS]| {
         let cases: usize = row.iter().sum();
-        eprint!("{number:>2} {name:<11}{cases:>7}{:>7}", row[0]);
+        eprint!("{number:>2} {name:<13}{cases:>7}{:>7}", row[0]);
         for count in &row[1..] {
             eprint!("{count:>6}");
         }
         eprintln!();
     };
-    let mut all = [0; 18];
+    let mut all = [0; 1 + REFUSALS];
     for (call, row) in out.table.iter().enumerate().skip(1) {
         line(&call.to_string(), NAMES[call], row);
         for (sum, count) in all.iter_mut().zip(row) {

@@ -1,7 +1,9 @@
-//! Generator of plants and of damaged listings.
+//! Generator of plants, of damaged listings and of buying pages.
 
 use crate::listing;
+use crate::page::{self, Counts};
 use crate::plant::{Link, Plant};
+use std::ops::Range;
 
 /// A small generator of pseudo-random numbers with a fixed course for each
 /// seed.
@@ -636,4 +638,192 @@ pub fn longest_listing() -> Plant {
 /// The listing of a plant that the writer accepts.
 pub fn listing_of(plant: &Plant) -> Vec<u8> {
     listing::write_vec(plant).expect("a plant that can be written")
+}
+
+/// A number of one to three digits.
+fn to_three_digits(chance: &mut Chance) -> u16 {
+    let any = chance.below(1000) as u16;
+    chance.of(&[any, any, any, 0, 1, 9, 10, 99, 100, 999])
+}
+
+/// Counts that a page of so many switches can tell, of no plan.
+pub fn made_up(chance: &mut Chance, switches: usize) -> Counts {
+    // The total is parted among the switches.
+    let total = to_three_digits(chance);
+    let mut parts: Vec<u16> = (1..switches)
+        .map(|_| chance.within(0, usize::from(total)) as u16)
+        .collect();
+    parts.push(total);
+    parts.sort_unstable();
+    let mut before = 0;
+    let mut each = Vec::new();
+    for part in parts {
+        each.push((part - before, to_three_digits(chance)));
+        before = part;
+    }
+    Counts::told(&each, total, to_three_digits(chance))
+}
+
+/// A buying page in the making: its lines, which may become longer or shorter.
+#[derive(Clone, Debug)]
+pub struct Draft {
+    pub lines: Vec<Vec<u8>>,
+}
+
+/// Where the fields of a line are.
+const FIELDS: [Range<usize>; 3] = [0..6, 6..14, 14..22];
+
+impl Draft {
+    pub fn new(counts: &Counts) -> Draft {
+        let text = page::text(counts);
+        let lines = text.as_bytes().chunks(page::LINE);
+        Draft {
+            lines: lines.map(<[u8]>::to_vec).collect(),
+        }
+    }
+
+    pub fn bytes(&self) -> Vec<u8> {
+        self.lines.concat()
+    }
+
+    /// Line and field of every number.
+    pub fn numbers(&self) -> Vec<(usize, usize)> {
+        let last = self.lines.len() - 1;
+        (0..=last)
+            .flat_map(|line| (0..3).map(move |field| (line, field)))
+            .filter(|place| *place != (last, 0))
+            .collect()
+    }
+
+    /// What a field holds besides spaces.
+    pub fn text(&self, (line, field): (usize, usize)) -> String {
+        let field = &self.lines[line][FIELDS[field].clone()];
+        String::from_utf8_lossy(field).trim().to_string()
+    }
+
+    /// The bytes from where a field's text begins to the field's end; of an
+    /// empty field, all.
+    pub fn digits(&mut self, (line, field): (usize, usize)) -> &mut [u8] {
+        let field = &mut self.lines[line][FIELDS[field].clone()];
+        let spaces = field.iter().take_while(|byte| **byte == b' ').count();
+        let begin = spaces % field.len();
+        &mut field[begin..]
+    }
+
+    /// Puts a text at the right of a field, with spaces before it.
+    pub fn put(&mut self, (line, field): (usize, usize), text: &str) {
+        let place = FIELDS[field].clone();
+        let text = format!("{text:>width$}", width = place.len());
+        self.lines[line][place].copy_from_slice(text.as_bytes());
+    }
+
+    /// The draft with a text at the right of a field.
+    pub fn with(&self, place: (usize, usize), text: &str) -> Draft {
+        let mut draft = self.clone();
+        draft.put(place, text);
+        draft
+    }
+
+    /// The draft with a field's number at the field's left.
+    pub fn at_left(&self, place: (usize, usize)) -> Draft {
+        let width = FIELDS[place.1].len();
+        self.with(place, &format!("{:<width$}", self.text(place)))
+    }
+
+    /// The draft with a field one column to the right, past the field's end.
+    pub fn to_the_right(&self, (line, field): (usize, usize)) -> Draft {
+        let mut draft = self.clone();
+        let Range { start, end } = FIELDS[field];
+        draft.lines[line][start..=end].rotate_right(1);
+        draft
+    }
+
+    /// Counts every switch one higher from a line on.
+    pub fn count_up(&mut self, from: usize) {
+        for line in from..self.lines.len() - 1 {
+            let switch: usize = self.text((line, 0)).parse().unwrap_or(line);
+            self.put((line, 0), &(switch + 1).to_string());
+        }
+    }
+}
+
+/// Words for the first field of the last line that are not the right one.
+pub const NOT_TOTAL: [&str; 16] = [
+    " total", "Total ", "TOTAL ", "tOtal ", "totals", "total.", "total0", "tota1 ", "t0tal ",
+    "tot al", "tota  ", "otal  ", "sum   ", "total\t", "total\n", "total\0",
+];
+
+/// Bytes that might be taken for another.
+pub const TELLING: [u8; 20] = *b" 0123456789\n\r\t\0/:-+\xa0";
+
+/// A page damaged in some way. Some are sound after all.
+pub fn damaged_page(chance: &mut Chance, counts: &Counts) -> Vec<u8> {
+    let mut draft = Draft::new(counts);
+    let last = counts.switches;
+    let place = chance.of(&draft.numbers());
+    let (line, other) = (place.0, chance.below(last + 1));
+    let text = draft.text(place);
+    let number: u16 = text.parse().unwrap_or(0);
+    match chance.below(24) {
+        // A number that is written otherwise.
+        0 => draft.put(place, &format!("{}{text}", chance.of(&["0", "00"]))),
+        1 => draft.put(place, &format!("{}{text:0>3}", chance.within(1, 9))),
+        2 => draft.put(place, ""),
+        3 => draft = draft.at_left(place),
+        4 => draft.put(place, &format!("{text} ")),
+        5 => draft = draft.to_the_right(place),
+        6 => draft.put(place, &format!("{} {text}", chance.below(10))),
+        7 => {
+            let digits = draft.digits(place);
+            let at = chance.below(digits.len());
+            digits[at] = chance.of(&[b'/', b':', digits[at] | 0x80]);
+        }
+        // Another number.
+        8 => draft.put(place, &to_three_digits(chance).to_string()),
+        9 => draft.put((line, 2), &to_three_digits(chance).to_string()),
+        10 => {
+            let near = [number + 1, number.saturating_sub(1)];
+            draft.put(place, &chance.of(&near).to_string());
+        }
+        11 => {
+            // The rules of two switches change places: the sum stays.
+            if line < last && other < last {
+                let (one, two) = (draft.text((line, 1)), draft.text((other, 1)));
+                draft.put((line, 1), &two);
+                draft.put((other, 1), &one);
+            }
+        }
+        12 => draft.count_up(line),
+        13 => draft.put((last, 0), chance.of(&NOT_TOTAL)),
+        // Lines in another order, left out, or too many.
+        14 => draft.lines.swap(line, other),
+        15 => {
+            draft.lines.remove(line);
+        }
+        16 => draft.lines.insert(other, draft.lines[line].clone()),
+        17 => draft.lines.push(draft.lines[line].clone()),
+        // A line that is longer or shorter.
+        18 => {
+            let at = chance.below(page::LINE);
+            if chance.percent(50) {
+                draft.lines[line].remove(at);
+            } else {
+                draft.lines[line].insert(at, chance.of(&TELLING));
+            }
+        }
+        // What is no number.
+        19 => {
+            let at = chance.within(FIELDS[2].end, page::LINE - 2);
+            draft.lines[line][at] = chance.of(&TELLING);
+        }
+        20 => draft.lines[line][page::LINE - 1] = chance.of(&TELLING),
+        _ => {
+            let at = chance.below(page::LINE);
+            draft.lines[line][at] = match chance.below(2) {
+                0 => chance.of(&TELLING),
+                _ => chance.byte(),
+            };
+        }
+    }
+    draft.bytes()
 }

@@ -1,6 +1,6 @@
 //! Plant values, their limits and the refusals.
 
-/// A refusal, with its number in document 01.
+/// A refusal, with its number in documents 01 and 02.
 #[derive(Clone, Copy, Debug, PartialEq, Eq, PartialOrd, Ord)]
 #[repr(u8)]
 pub enum Refusal {
@@ -39,6 +39,8 @@ pub enum Refusal {
     ListingBufferShort = 16,
     /// The spare is above 100.
     SpareTooLarge = 17,
+    /// The lent page is too short or, in reading, not of the form.
+    PageUnfit = 18,
 }
 
 impl Refusal {

@@ -4,8 +4,8 @@ use Rattle.answers.specs.declared.Refusal.{Refusal}
 use Rattle.answers.specs.declared.Verdict.{Verdict}
 use Rattle.answers.specs.declared.Verdict.the-variants as verdict
 use Rattle.answers.specs.Answers.{Answer, given, refused, _>>=_, numberOf, verdictAnswer, valueOr, Beside}
-use Rattle.answers.specs.Checks.{Checked, answer, _then_, _giving_}
-use Rattle.answers.proofs.Checks.{goes-on, stops, gives-so, refuses-so}
+use Rattle.answers.specs.Checks.{Judges, Checked, answer, _then_, _giving_}
+use Rattle.answers.proofs.Checks.{refused-exactly, given-exactly, goes-on, stops, gives-so, refuses-so}
 
 module _ {A : Type 0} (none : A) (a : Answer A) (v : Verdict) (x : A) where
   -- a result with the value beside it, and a refusal with none
@@ -22,6 +22,12 @@ module _ {A : Type 0} (none : A) (a : Answer A) (v : Verdict) (x : A) where
 
     pub was-refused : (k : Refusal) → v ≡ verdict.Refused k → a ≡ refused (numberOf k)
     was-refused k e = sym (q .answer) ∙ ap (λ (w : Verdict). verdictAnswer w >>= λ _. given x) e
+
+-- the verdict beside the answer of a call is that of its conditions
+pub beside-judges : {A : Type 0} (none : A) (c : Checked A) (v : Verdict) (x : A) → Beside none (answer c) v x → Judges (c .checks) v
+beside-judges none c verdict.Accepted x q =
+    record { first = sym (given-exactly (c .checks) tt tt .1 (given-exactly (c .checks) (c .result) x .0 (sym (q .answer)) .0, refl)) }
+beside-judges none c (verdict.Refused k) x q = record { first = sym (refused-exactly (c .checks) tt (numberOf k) .1 (refused-exactly (c .checks) (c .result) (numberOf k) .0 (sym (q .answer)))) }
 
 -- another name of the answer
 pub beside-as : {A : Type 0} (none : A) (a b : Answer A) (v : Verdict) (x : A) → a ≡ b → Beside none a v x → Beside none b v x

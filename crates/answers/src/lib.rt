@@ -1,8 +1,11 @@
-// What a call answers: the seventeen refusals by name, and the verdict that stands beside a value.
+// What a call answers: the refusals by name, and the verdict that stands beside a value or is on a lent buffer.
 ghost use mathlib.Core.Path.{_≡_};
+ghost use mathlib.Core.List.{_∷_, []};
+ghost use lib.Dec.{ltb};
 ghost use Rattle.answers.specs.Answers.{numberOf, firstOf};
+ghost use Rattle.answers.specs.Checks.{Judges};
 
-// The refusals, in the order of their numbers, 1 to 17. Each is named after its condition.
+// The refusals, in the order of their numbers, 1 to 18. Each is named after its condition.
 pub enum Refusal {
     MapMissing,
     MapUndefined,
@@ -21,6 +24,7 @@ pub enum Refusal {
     SearchEnded,
     ListingBufferShort,
     SpareTooLarge,
+    BuyingPageUnfit,
 }
 
 impl Refusal {
@@ -45,6 +49,7 @@ impl Refusal {
             Refusal::SearchEnded => 15,
             Refusal::ListingBufferShort => 16,
             Refusal::SpareTooLarge => 17,
+            Refusal::BuyingPageUnfit => 18,
         }
     }
 }
@@ -63,4 +68,14 @@ pub fn first_of(v: Verdict, w: Verdict) -> Verdict
         Verdict::Accepted => w,
         Verdict::Refused(k) => Verdict::Refused(k),
     }
+}
+
+// The verdict on a lent buffer with this length, where so many bytes are to be laid: this refusal if it is shorter.
+pub fn judge_room(size: usize, room: usize, k: Refusal) -> Verdict
+    ensures { λ r. ⌜ Judges ((numberOf k, ltb room size) ∷ []) r ⌝ }
+{
+    if room < size {
+        return Verdict::Refused(k);
+    }
+    Verdict::Accepted
 }

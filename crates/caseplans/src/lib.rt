@@ -1,4 +1,4 @@
-// Calls 1 to 6, 18, 19 and 22 of the program `cases`: reading and writing a listing, and its plan. Its main file has the table of cases.
+// Calls 1 to 6, 18, 19 and 22 to 24 of the program `cases`: reading and writing a listing, its plan, and its buying page. Its main file has the table of cases.
 use answers::Verdict;
 use caseform::checksum;
 use caseform::input;
@@ -10,6 +10,7 @@ use planner::Trailed;
 use planning::Numbers;
 use plant::Plant;
 use senders::BySwitch;
+use sheet::Sheet;
 use table::Table;
 
 fn show_plant(p: Plant) {
@@ -38,11 +39,18 @@ fn show_written(w: Written) {
     }
 }
 
-// Call 2, 18 or 19 with a lent buffer.
+// The spare follows the listing.
+fn show_page(s: &[u8], at: usize, buffer: &mut [u8]) {
+    let spare = input::byte(s, input::past_string(s, at));
+    show_written(planner::write_buying_page(input::string(s, at), spare, buffer));
+}
+
+// Call 2, 18, 19 or 23 with a lent buffer.
 fn show_call(call: u8, s: &[u8], at: usize, buffer: &mut [u8]) {
     match call {
         2 => show_written(planner::write(input::plant(s, at), buffer)),
         18 => show_written(planner::rewrite(input::string(s, at), buffer)),
+        23 => show_page(s, at, buffer),
         _ => show_decoded(planner::reread(input::plant(s, at), buffer)),
     }
 }
@@ -55,7 +63,7 @@ fn call_into(call: u8, s: &[u8], at: usize, buffer: &mut [u8]) {
     show::list(buffer.len() as u64, checksum::of_bytes(buffer));
 }
 
-// The buffer's length follows the plant or the listing.
+// The buffer's length follows the plant, the listing or the spare.
 fn call_lent(call: u8, s: &[u8], at: usize, from: usize) -> usize {
     let n = input::number(s, from) as usize;
     let mut buffer = input::byte_places();
@@ -147,6 +155,30 @@ fn trail(s: &[u8], at: usize) -> usize {
     input::past(s, from, 2)
 }
 
+fn show_sheet(t: Sheet) {
+    show::number(t.switches as u64);
+    show::next(t.total as u64);
+    show::next(t.quantity as u64);
+    let rules = t.rules;
+    show::word(b" ");
+    show::list(rules.len() as u64, checksum::with_labels(0, &rules));
+    let links = t.links;
+    show::word(b" ");
+    show::list(links.len() as u64, checksum::with_labels(0, &links));
+}
+
+fn page_read(page: &[u8]) {
+    let r = planner::read_buying_page(page);
+    let v = r.verdict;
+    match v {
+        Verdict::Accepted => {
+            let sheet = r.sheet;
+            show_sheet(sheet);
+        }
+        Verdict::Refused(k) => show::refusal(k),
+    }
+}
+
 // Prints the answer of one of these calls with its arguments at a place; the place after them.
 pub fn answer(call: u8, s: &[u8], at: usize) -> usize {
     if call == 2 || call == 19 {
@@ -158,6 +190,9 @@ pub fn answer(call: u8, s: &[u8], at: usize) -> usize {
     if call == 18 {
         return call_lent(call, s, at, input::past_string(s, at));
     }
+    if call == 23 {
+        return call_lent(call, s, at, input::past(s, input::past_string(s, at), 1));
+    }
     let listing = input::string(s, at);
     match call {
         1 => show_decoded(planner::read(listing)),
@@ -165,6 +200,7 @@ pub fn answer(call: u8, s: &[u8], at: usize) -> usize {
         4 => bridges(listing),
         5 => rules(listing),
         22 => by_switch(listing),
+        24 => page_read(listing),
         _ => return s.len(),
     }
     input::past_string(s, at)

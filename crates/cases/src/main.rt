@@ -26,6 +26,9 @@
 // 21 long run        listing, switch, labels, times (two      as of run, with the labels so many times over and then
 //                    bytes), more labels, states              those of the second list
 // 22 by switch       listing                                  total, checksum of a number for each switch place
+// 23 page written    listing, spare, buffer length            length
+// 24 page read       page                                     switches, total, quantity, checksums of a number for each
+//                                                             switch place: rules, and links
 //
 // A plant is its switches, links (two bytes) and start, a two-byte number of link places, and first end, second end and tag (two bytes) of each; the other link
 // places are zero. A refusal is the word `refused` and its number. The line of a call that is lent a buffer ends with the buffer's checksum after the call.
@@ -41,7 +44,7 @@ ghost use Prim.Native.Nat.{_≤_};
 ghost use lib.ListN.{length};
 
 // The most bytes of input that are read.
-const INPUT: usize = 1400000;
+const INPUT: usize = 1700000;
 
 // Prints the answer of the case at a place; the place after it. A byte that is no call ends the input.
 fn answer(s: &[u8], at: usize) -> usize {
@@ -53,7 +56,7 @@ fn answer(s: &[u8], at: usize) -> usize {
     if call < 13 || call == 21 {
         return packets::answer(call, s, from);
     }
-    if call == 18 || call == 19 || call == 22 {
+    if call == 18 || call == 19 || 22 <= call {
         return caseplans::answer(call, s, from);
     }
     searches::answer(call, s, from)

@@ -8,7 +8,7 @@ use Rattle.answers.specs.Checks.{Checked, answer, leaves, AnswersInto}
 use Rattle.answers.proofs.Checks.{answers, left-kept}
 use Rattle.listing.specs.Writing.{writing}
 use Rattle.listing.proofs.WriteRoundTrip.{buffer-refused}
-use Rattle.planner.specs.Calls.{rewriting, rewritten, rereading, trailing, laidOut}
+use Rattle.planner.specs.Calls.{rewriting, rewritten, rereading, trailing, laidOut, buying, boughtOut}
 use Rattle.demands.specs.Demands.{Demand1}
 
 into : {A : Type 0} (c : Checked A) (f : A → List ℕ) (b : List ℕ) → AnswersInto c b (leaves f b (answer c))
@@ -20,7 +20,7 @@ unfolding rereading
 reread-refused p b n e = answers (writing p b) .refusals n .1 (answers (rereading p b) .refusals n .0 e)
 
 pub demand-1 : Demand1
-unfolding rewritten laidOut
+unfolding rewritten laidOut boughtOut
 demand-1 = record {
   read = λ s. answers _;
   write = λ p b. record { answers = answers _; kept = buffer-refused p b };
@@ -31,6 +31,8 @@ demand-1 = record {
   forwarding-table = λ s. answers _;
   rules-by-switch = λ s. answers _;
   lay-trail = λ s b. into (trailing s b) _ b;
+  write-buying-page = λ s spare b. into (buying s spare b) _ b;
+  read-buying-page = λ page. answers _;
   order-quantity = λ rules spare. answers _;
   allowance = λ n. answers _;
   run = λ s x labels states. answers _;

@@ -20,7 +20,7 @@ use Rattle.codec.specs.Field.{Bytes}
 use Rattle.listing.specs.Listing.{encode, reading}
 use Rattle.listing.specs.Writing.{writing, bufferAfter}
 use Rattle.walks.specs.Arcs.{tail, head}
-use Rattle.walks.specs.Graph.{Crosses, ClosedWalk, ClosedWalks, Bridge, bridge, liveLinks, bridges}
+use Rattle.walks.specs.Graph.{Crosses, ClosedWalk, ClosedWalks, Bridge, bridge, liveLinks, bridges, linksAt}
 use Rattle.walks.specs.ByLinks.{visitLinks}
 use Rattle.routes.specs.Meaning.{Fewest}
 use Rattle.rings.specs.Packet.{End, leadsTo, run}
@@ -47,8 +47,13 @@ use Rattle.search.specs.declared.Progress.{Progress}
 use Rattle.search.specs.Search.{newSearch, ended, wanted, ask, give}
 use Rattle.search.specs.Calls.{Call, perform, begun, TrueCalls}
 use Rattle.search.specs.Limit.{limit}
+use Rattle.sheet.specs.declared.Sheet.{Sheet}
+use Rattle.sheet.specs.Columns.{lineColumns}
+use Rattle.sheet.specs.Page.{switchLine, totalLine, buyingPage}
+use Rattle.sheet.specs.Form.{formed, readingPage}
+use Rattle.sheet.specs.Shown.{ThreeDigits, Shown}
 use Rattle.planning.specs.Planning.{planning, planningAt}
-use Rattle.planner.specs.Calls.{rewriting, rewritten, rereading, summing, bridging, tabling, counting, trailing, laidOut}
+use Rattle.planner.specs.Calls.{rewriting, rewritten, rereading, summing, bridging, tabling, counting, trailing, laidOut, buying, boughtOut}
 use Rattle.probing.specs.Calls.{running, checking, ordering, outLabels, outgoing, probing, naming, beginning, performing}
 
 -- ---- demand 1: each call answers its result, or a refusal exactly under its condition, and a refusal leaves a lent buffer as it was
@@ -65,6 +70,8 @@ pub record Demand1 : Type 0 where
   pub forwarding-table : (s : List ℕ) → Answers (tabling s)
   pub rules-by-switch : (s : List ℕ) → Answers (counting s)
   pub lay-trail : (s b : List ℕ) → AnswersInto (trailing s b) b (laidOut s b)
+  pub write-buying-page : (s : List ℕ) (spare : ℕ) (b : List ℕ) → AnswersInto (buying s spare b) b (boughtOut s spare b)
+  pub read-buying-page : (page : List ℕ) → Answers (readingPage page)
   pub order-quantity : (rules spare : ℕ) → Answers (orderQuantity rules spare)
   pub allowance : (n : ℕ) → Answers (check [] (allowance (clipped n)))
   -- calls that are given a listing s and a switch x, with labels, link states, a lent trail w or a search q
@@ -287,3 +294,37 @@ pub record BySwitches (s : List ℕ) (p : Plant) : Type 0 where
   -- "the spare is still laid on the total, since rounding per switch can give more": it never gives less
   pub spare-on-total : (spare : ℕ)
       → orderQuantity (bySwitch (tableOf p) .total) spare .result ≤ sum (p .switches) (λ x. orderQuantity (at (bySwitch (tableOf p) .counts) x) spare .result)
+
+-- ---- document 02, order 3: the buying page
+
+-- for every listing s that is read as a connected plant p, and every spare that is not refused: what the page of the counts c is
+pub record WritesPage (s : List ℕ) (p : Plant) (spare : ℕ) (c : Sheet) : Type 0 where
+  -- the rules of each switch are order 2's, and the links at it the plant's own; each link is at two switches
+  pub switches : c .switches ≡ p .switches
+  pub rules : (x : ℕ) → x < p .switches → at (c .rules) x ≡ sentBy (rulesOf p) x
+  pub links : (x : ℕ) → x < p .switches → at (c .links) x ≡ linksAt p x
+  pub links-twice : sum (p .switches) (at (c .links)) ≡ 2 * liveLinks p
+  -- "then all rules and the order quantity"
+  pub total : c .total ≡ liveLinks p + bridges p
+  pub quantity : c .quantity ≡ orderQuantity (liveLinks p + bridges p) spare .result
+  -- three digits suffice for each number, so "each line is 32 bytes"
+  pub digits : ThreeDigits c
+  pub lines : (x : ℕ) → x < p .switches → length (switchLine c x) ≡ lineColumns
+  pub last-line : length (totalLine c) ≡ lineColumns
+  -- "the page is S + 1 lines, and bytes after it stay untouched"; 18 "if the lent page is too short"
+  pub size : length (buyingPage c) ≡ lineColumns * (p .switches + 1)
+  pub written : (b : List ℕ) → lineColumns * (p .switches + 1) ≤ length b
+      → (answer (buying s spare b) ≡ given (length (buyingPage c))) × (boughtOut s spare b ≡ buyingPage c ++ drop (length (buyingPage c)) b)
+  pub too-short : (b : List ℕ) → length b < lineColumns * (p .switches + 1) → answer (buying s spare b) ≡ refused 18
+  -- "a reader gets the counts back exactly"
+  pub read-back : answer (readingPage (buyingPage c)) ≡ given c
+
+-- for any bytes b: what the reader accepts
+pub record ReadsPage (b : List ℕ) : Type 0 where
+  -- 18 exactly outside the form, whose parts are those of `formed`
+  pub refused-outside : (answer (readingPage b) ≡ refused 18) ↔ (formed b ≡ false)
+  -- the form is that of the pages of the counts that a page can hold, and of nothing else
+  pub such-pages : (formed b ≡ true) ↔ ((c : Sheet) × Shown c × (buyingPage c ≡ b))
+  -- what is accepted is written back as the same bytes, so that it is the only page with its counts
+  pub written-back : (c : Sheet) → answer (readingPage b) ≡ given c → buyingPage c ≡ b
+  pub only-one : (b′ : List ℕ) (c : Sheet) → answer (readingPage b) ≡ given c → answer (readingPage b′) ≡ given c → b ≡ b′

@@ -1,5 +1,5 @@
--- Laws of arrays as lists: their length as ownership tells it, members laid one after the other, one member more, flags. Assumes nothing.
-use mathlib.Core.Path.{_≡_, sym, ap, _∙_}
+-- Laws of arrays as lists: their length as ownership tells it, members laid one after the other, one member more, flags, counts that grow. Assumes nothing.
+use mathlib.Core.Path.{_≡_, refl, sym, ap, _∙_}
 use mathlib.Core.Logic.{_⊎_, inl, inr}
 use mathlib.Core.Bool.{Bool, true, false, _||_, or-true}
 use mathlib.Core.List.{List, [], _∷_, _++_, map}
@@ -10,6 +10,8 @@ use borrow.Author.Tests.{eq-eqb, ne-eqb}
 use lib.Dec.{eqb}
 use lib.ListN.{length, getD, set, take, drop, length-map}
 use lib.Seq.{sets, sets-eq, length-sets, take-suc, getD-set-same, getD-set-other}
+use Rattle.lists.specs.Arrays.{at}
+use Rattle.lists.specs.Count.{bit}
 use Rattle.lists.proofs.Tests.{eq?}
 
 -- the length of an array of structs, as ownership tells it
@@ -52,3 +54,12 @@ flag-set l i x h = go (eq? x i)
 -- what is set stays set
 pub set-keeps : (l : List Bool) (i x : ℕ) → i < length l → getD l x false ≡ true → getD (set l i true) x false ≡ true
 set-keeps l i x h e = flag-set l i x h ∙ rw e (or-true (eqb x i))
+
+-- ---- a count at a place that grows by one
+
+pub at-more : (l : List ℕ) (i x : ℕ) → i < length l → at (set l i (at l i + 1)) x ≡ at l x + bit (eqb i x)
+at-more l i x h = go (eq? x i)
+  where
+    go : (x ≡ i) ⊎ (x ≡ i → ⊥) → at (set l i (at l i + 1)) x ≡ at l x + bit (eqb i x)
+    go (inl e) = rw e (getD-set-same l i (at l i + 1) 0 h ∙ ap (λ (b : ℕ). at l i + b) (sym (ap bit (eq-eqb i i refl))))
+    go (inr n) = getD-set-other l i x (at l i + 1) 0 n ∙ omega (arith, ap bit (ne-eqb i x (λ e. n (sym e))))

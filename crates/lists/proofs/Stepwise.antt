@@ -1,5 +1,5 @@
 -- One number more: what holds of all numbers below i + 1, a test at each of them, how many pass, and the first that passes. Assumes nothing.
-use mathlib.Core.Path.{_≡_, sym, ap, _∙_}
+use mathlib.Core.Path.{_≡_, refl, sym, ap, _∙_}
 use mathlib.Core.Logic.{_⊎_, inl, inr}
 use mathlib.Core.Bool.{Bool, true, false}
 use Prim.Native.Nat.{ℕ, zero, suc, _+_, _≤_, _<_}
@@ -9,7 +9,7 @@ use lib.Dec.{T}
 use borrow.Author.Count.{below-more}
 use Rattle.lists.specs.Tests.{choose}
 use Rattle.lists.proofs.Tests.{choose-true, choose-false, if-true, if-false, T-or, T-true, true-T, false-T, not-true-false}
-use Rattle.lists.specs.Count.{count}
+use Rattle.lists.specs.Count.{bit, count}
 use Rattle.lists.specs.Numbers.{every}
 use Rattle.lists.proofs.Numbers.{every-at, at-every}
 use Rattle.lists.specs.Least.{leastFrom}
@@ -27,6 +27,10 @@ every-false n f k l e = not-true-false (every n f) (λ q. false-T (f k) e (every
 -- ---- counting
 
 module _ (f : ℕ → Bool) where
+  pub count-next : (i : ℕ) → count (i + 1) f ≡ bit (f i) + count i f
+  unfolding count
+  count-next i = rw (add-one i) refl
+
   pub count-yes : (i : ℕ) → f i ≡ true → count (i + 1) f ≡ count i f + 1
   unfolding count
   count-yes i e = rw (add-one i, e) (omega arith)

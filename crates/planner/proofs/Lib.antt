@@ -1,3 +1,4 @@
 pub mod Again
 pub mod Owned
 pub mod Trailing
+pub mod Buying

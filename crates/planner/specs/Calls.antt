@@ -17,6 +17,9 @@ use Rattle.trail.specs.Filled.{filledWith}
 use Rattle.table.specs.declared.Table.{Table}
 use Rattle.senders.specs.declared.BySwitch.{BySwitch}
 use Rattle.senders.specs.Senders.{bySwitch}
+use Rattle.sheet.specs.declared.Sheet.{Sheet}
+use Rattle.sheet.specs.Page.{pageLeft}
+use Rattle.quoting.specs.Quotes.{pricing, quoting}
 use Rattle.planning.specs.declared.Numbers.{Numbers}
 use Rattle.planning.specs.Planning.{planning}
 use Rattle.planning.specs.Numbers.{numbersOf}
@@ -79,3 +82,17 @@ trailLeft p b = leaves (λ n. filledWith (trailOf p) b) b
 
 unfoldable pub laidOut : List ℕ → List ℕ → List ℕ
 laidOut s b = trailLeft (planning s .result) b (answer (trailing s b))
+
+-- ---- the buying page: 1 to 9, then 17, then 18
+
+-- its counts: 1 to 9, then 17
+unfoldable pub quotingFor : List ℕ → ℕ → Checked Sheet
+quotingFor s spare = planning s then λ p. pricing p spare
+
+-- the length of the page
+unfoldable pub buying : List ℕ → ℕ → List ℕ → Checked ℕ
+buying s spare b = planning s then λ p. quoting p spare b
+
+-- the page, then the bytes that stood past it; at a refusal the buffer as it was
+unfoldable pub boughtOut : List ℕ → ℕ → List ℕ → List ℕ
+boughtOut s spare b = pageLeft (quotingFor s spare .result) b (answer (buying s spare b))

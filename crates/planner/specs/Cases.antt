@@ -19,7 +19,7 @@ use Rattle.lists.specs.Padded.{padded}
 use Rattle.lists.specs.Sum.{sum}
 use Rattle.walks.specs.Visit.{scan, visit}
 use Rattle.walks.specs.Arcs.{tail, head}
-use Rattle.walks.specs.Graph.{arcs, others, visitFrom, bridge, usedFrom}
+use Rattle.walks.specs.Graph.{arcs, others, visitFrom, bridge, linksAt, usedFrom}
 use Rattle.routes.specs.Distance.{sources, within, dist, hop, hops, route}
 use Rattle.routes.specs.Trail.{near, nearest, legs, trail}
 use Rattle.table.specs.Rules.{tableWith, rulesIn}
@@ -29,8 +29,10 @@ use Rattle.search.specs.Calls.{begun}
 use Rattle.search.specs.Cases.{rows as searches}
 use Rattle.quantity.specs.Quantity.{orderQuantity}
 use Rattle.quantity.specs.Cases.{rows as quantities}
+use Rattle.sheet.specs.Page.{writingPage}
 use Rattle.planning.specs.Planning.{notConnected, planning}
-use Rattle.planner.specs.Calls.{tabling, counting, placesShort, laying, laidOut, trailing}
+use Rattle.quoting.specs.Quotes.{pricing, quoting}
+use Rattle.planner.specs.Calls.{tabling, counting, placesShort, laying, laidOut, trailing, quotingFor, buying}
 
 pub record Row : Type 0 where
   pub got : Answer (List ℕ)
@@ -122,6 +124,27 @@ bySwitches =
     ∷ orders twoSwitches 10 (given (3 ∷ 4 ∷ []))
     ∷ []
 
+-- ---- the buying page: its counts (the rules of the switches, the links at them, all rules, the quantity), and its length in a buffer of so many places
+
+abbrev quotes : List ℕ → ℕ → Answer (List ℕ) → Row
+quotes s spare a = record { got = answer (quotingFor s spare) >>= λ c. given (take (c .switches) (c .rules) ++ take (c .switches) (c .links) ++ (c .total ∷ c .quantity ∷ [])); said = a }
+
+abbrev buys : List ℕ → ℕ → ℕ → Answer (List ℕ) → Row
+buys s spare places a = record { got = answer (buying s spare (replicate places 0)) >>= λ n. given (n ∷ []); said = a }
+
+abbrev boughtPages : List Row
+boughtPages =
+    quotes (0 ∷ []) 100 (given (0 ∷ 0 ∷ 0 ∷ 0 ∷ []))
+    ∷ quotes twoSwitches 10 (given (1 ∷ 1 ∷ 1 ∷ 1 ∷ 2 ∷ 3 ∷ []))
+    ∷ quotes threeParallel 100 (given (1 ∷ 2 ∷ 3 ∷ 3 ∷ 3 ∷ 6 ∷ []))
+    ∷ quotes ringAndTail 10 (given (2 ∷ 1 ∷ 1 ∷ 1 ∷ 3 ∷ 2 ∷ 2 ∷ 1 ∷ 5 ∷ 6 ∷ []))
+    ∷ quotes ringAndTail 101 (refused 17)
+    ∷ buys (1 ∷ maxSwitches ∷ []) 101 0 (refused 9)
+    ∷ buys ringAndTail 101 0 (refused 17)
+    ∷ buys ringAndTail 10 159 (refused 18)
+    ∷ buys ringAndTail 10 160 (given (160 ∷ []))
+    ∷ []
+
 -- ---- the search and the order quantity
 
 abbrev as-row : Answer (List ℕ) × Answer (List ℕ) → Row
@@ -130,8 +153,8 @@ as-row r = record { got = r .0; said = r .1 }
 -- ---- the table, and the test
 
 abbrev table : List Row
-table = readings ++ planned ++ bySwitches ++ map as-row searches ++ map as-row quantities
+table = readings ++ planned ++ bySwitches ++ boughtPages ++ map as-row searches ++ map as-row quantities
 
 as-said : map (λ r. r .got) table ≡ map (λ r. r .said) table
-unfolding plantWith taken valueOf redundant mapMissing mapUndefined fieldMissing fieldRedundant fieldValues afterPart part valueOutOfRange endOutOfRange selfLink bytesRemain soundLink header link links withLinks linked ended reading trail legs nearest near route hops hop dist within sources leastFrom count usedFrom bridge visitFrom arcs others visit scan tail head live every notConnected planning rulesIn tableWith tabling sentBy sum bySwitch counting placesShort laying laidOut trailing begun newSearch give orderQuantity
+unfolding plantWith taken valueOf redundant mapMissing mapUndefined fieldMissing fieldRedundant fieldValues afterPart part valueOutOfRange endOutOfRange selfLink bytesRemain soundLink header link links withLinks linked ended reading trail legs nearest near route hops hop dist within sources leastFrom count usedFrom bridge visitFrom arcs others visit scan tail head live every notConnected planning rulesIn tableWith tabling sentBy sum bySwitch counting placesShort laying laidOut trailing linksAt pricing quoting quotingFor writingPage buying begun newSearch give orderQuantity
 as-said = refl

@@ -9,6 +9,7 @@ use planning::Parts;
 use plant::Plant;
 use quantity::Quantity;
 use senders::BySwitch;
+use sheet::PageRead;
 use table::Table;
 ghost use mathlib.Core.Path.{_≡_};
 ghost use Rattle.answers.specs.Checks.{answer};
@@ -19,7 +20,8 @@ ghost use Rattle.listing.specs.Answers.{Reads, writeAnswer};
 ghost use Rattle.quantity.specs.Quantity.{orderQuantity, quantityOf};
 ghost use Rattle.allowance.specs.Allowance.{allowance, clipped};
 ghost use Rattle.planning.specs.Planning.{planning};
-ghost use Rattle.planner.specs.Calls.{rewriting, rewritten, rereading, tabling, counting, bridging, summing, laying, trailing, trailLeft, laidOut};
+ghost use Rattle.sheet.specs.Form.{readingPage, ReadsPage};
+ghost use Rattle.planner.specs.Calls.{rewriting, rewritten, rereading, tabling, counting, bridging, summing, laying, trailing, trailLeft, laidOut, buying, boughtOut};
 ghost use Rattle.planner.specs.Answers.{Tables, Counts, AddsUp, Bridges, summaryAnswer, trailAnswer};
 
 // The forwarding table of a listing. At a refusal it has no rule.
@@ -210,6 +212,27 @@ pub fn lay_trail(listing: &[u8], buffer: &mut [u16]) -> Trailed
         Verdict::Accepted => put_trail(d.parts, &t, buffer),
         Verdict::Refused(k) => Trailed::Refused(k),
     }
+}
+
+// The buying page of a listing with a spare in percent into the front of the lent buffer, and its length: refusals 1 to 9, then 17, then 18.
+pub fn write_buying_page(listing: &[u8], spare: u8, buffer: &mut [u8]) -> Written
+    ensures { λ r. ⌜ writeAnswer r ≡ answer (buying (now (listing .entry)) spare (now (buffer .entry))) ⌝ }
+    ensures { λ _. ⌜ now (buffer .exit) ≡ boughtOut (now (listing .entry)) spare (now (buffer .entry)) ⌝ }
+{
+    let mut t = planning::blank();
+    let d = planning::plan(listing, &mut t);
+    let v = d.verdict;
+    match v {
+        Verdict::Accepted => quoting::put_page(d.parts, spare, buffer),
+        Verdict::Refused(k) => Written::Refused(k),
+    }
+}
+
+// The counts of a buying page: refusal 18.
+pub fn read_buying_page(page: &[u8]) -> PageRead
+    ensures { λ r. ⌜ ReadsPage (answer (readingPage (now (page .entry)))) r ⌝ }
+{
+    readback::read(page)
 }
 
 // The order quantity for so many rules and a spare in percent: refusal 17.

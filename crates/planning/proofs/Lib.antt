@@ -1,3 +1,4 @@
 pub mod Networks
 pub mod Plans
 pub mod Counted
+pub mod Front

@@ -1,24 +1,23 @@
 -- Laws of the rules by sending switch: the total over switches is the number of rules, whatever the rules are; and the counts after one rule more. Assumes nothing.
-use mathlib.Core.Path.{_≡_, refl, sym, ap, _∙_, subst}
-use mathlib.Core.Logic.{_⊎_, inl, inr}
+use mathlib.Core.Path.{_≡_, refl, ap, _∙_, subst}
+use mathlib.Core.Logic.{inl, inr}
 use mathlib.Core.Bool.{Bool}
 use mathlib.Core.List.{List, [], _∷_, _++_, map}
 use Prim.Native.Nat.{ℕ, zero, suc, _+_, _≤_, _<_}
 use native.Mathlib.Omega.{arith}
-use borrow.Author.Tests.{eq-eqb, ne-eqb}
+use borrow.Author.Tests.{ne-eqb}
 use lib.Dec.{T, eqb}
 use lib.ListN.{length, getD, set, take, replicate, length-set, length-replicate}
-use lib.Seq.{length-take-le, getD-take, getD-set-same, getD-set-other, take-append-seam}
+use lib.Seq.{length-take-le, getD-take, take-append-seam}
 use Rattle.lists.specs.Arrays.{at}
 use Rattle.lists.specs.Count.{bit}
 use Rattle.lists.specs.Members.{In}
 use Rattle.lists.specs.Numbers.{range, keep}
 use Rattle.lists.specs.Sum.{sum}
-use Rattle.lists.proofs.Tests.{eq?}
 use Rattle.lists.proofs.Count.{bit-le-one}
 use Rattle.lists.proofs.Members.{getD-same}
 use Rattle.lists.proofs.Numbers.{keep-in, values-are, values-at}
-use Rattle.lists.proofs.Arrays.{take-next}
+use Rattle.lists.proofs.Arrays.{take-next, at-more}
 use Rattle.lists.proofs.Sum.{sum-same, sum-plus, sum-none, sum-one}
 use Rattle.limits.specs.Limits.{maxSwitches}
 use Rattle.table.specs.declared.Rule.{Rule}
@@ -87,14 +86,10 @@ unfolding sentBy
 counts-none = record { places = length-replicate {A = ℕ} maxSwitches 0; tells = λ x h. getD-same maxSwitches x 0 }
 
 counts-next : (rs : List Rule) (r : Rule) (l : List ℕ) → r .from < maxSwitches → CountsOf rs l → CountsOf (rs ++ (r ∷ [])) (set l (r .from) (at l (r .from) + 1))
-counts-next rs r l h c = record { places = length-set l (r .from) (at l (r .from) + 1) ∙ c .places; tells = λ x i. tell x i (eq? x (r .from)) }
-  where
-    tell : (x : ℕ) → x < maxSwitches → (x ≡ r .from) ⊎ (x ≡ r .from → ⊥) → at (set l (r .from) (at l (r .from) + 1)) x ≡ sentBy (rs ++ (r ∷ [])) x
-    tell x i (inl e) =
-        rw e
-        (getD-set-same l (r .from) (at l (r .from) + 1) 0 (omega (arith, c .places)) ∙ omega (arith, c .tells (r .from) h, sent-next rs r (r .from), ap bit (eq-eqb (r .from) (r .from) refl)))
-    tell x i (inr n) =
-        getD-set-other l (r .from) x (at l (r .from) + 1) 0 n ∙ omega (arith, c .tells x i, sent-next rs r x, ap bit (ne-eqb (r .from) x (λ e. n (sym e))))
+counts-next rs r l h c = record {
+  places = length-set l (r .from) (at l (r .from) + 1) ∙ c .places;
+  tells = λ x i. at-more l (r .from) x (omega (arith, c .places)) ∙ omega (arith, c .tells x i, sent-next rs r x);
+}
 
 pub counts-are : (rs : List Rule) (l : List ℕ) → CountsOf rs l → l ≡ map (sentBy rs) (range 0 maxSwitches)
 counts-are rs l c = values-are (sentBy rs) 0 maxSwitches l (c .places) (c .tells)

@@ -123,7 +123,7 @@ decimal-least = by-digits (λ n l. (k : ℕ) → 10 ^ k ≤ n → k < length l) 
 digit-is : (d : ℕ) → d < 10 → isDigit (digit d) ≡ true
 digit-is d h = rw (le-leb (digit 0) (digit d) (omega arith), le-leb (digit d) (digit 9) (omega arith))
 
-is-digit : (b : ℕ) → isDigit b ≡ true → (digit 0 ≤ b) × (b ≤ digit 9)
+pub is-digit : (b : ℕ) → isDigit b ≡ true → (digit 0 ≤ b) × (b ≤ digit 9)
 is-digit b e = let t = and-true _ _ e in (leb-true (digit 0) b (t .0), leb-true b (digit 9) (t .1))
 
 pub decimal-digits : (n : ℕ) → all isDigit (decimal n) ≡ true

@@ -9,7 +9,7 @@ ghost use Rattle.text.specs.Sizes.{summaryMost, refusalMost};
 ghost use Rattle.text.specs.Laid.{Room, Laid};
 
 // The most digits of a number below 1000, and of a number of 16 bits.
-const DIGITS_SHORT: usize = 3;
+pub const DIGITS_SHORT: usize = 3;
 
 const DIGITS_16: usize = 5;
 
@@ -26,7 +26,7 @@ pub const LABEL: usize = 1 + DIGITS_SHORT;
 pub const REFUSAL: usize = 7 + (1 + DIGITS_SHORT) + 1;
 
 // The bytes of a word.
-fn put_word(buf: &mut [u8], at: usize, word: &[u8]) -> usize
+pub fn put_word(buf: &mut [u8], at: usize, word: &[u8]) -> usize
     requires { ⌜ Room (now buf) at (now word) ⌝ }
     ensures { λ r. ⌜ Laid (now (buf .entry)) at (now (word .entry)) (now (buf .exit)) r ⌝ }
 {
@@ -41,7 +41,7 @@ fn put_word(buf: &mut [u8], at: usize, word: &[u8]) -> usize
 }
 
 // A number below 1000 in decimal: one, two or three digits.
-fn put_short(buf: &mut [u8], at: usize, n: u32) -> usize
+pub fn put_short(buf: &mut [u8], at: usize, n: u32) -> usize
     requires { ⌜ (n < 1000) × Room (now buf) at (decimal n) ⌝ }
     ensures { λ r. ⌜ Laid (now (buf .entry)) at (decimal n) (now (buf .exit)) r ⌝ }
 {
@@ -86,7 +86,7 @@ fn put_number(buf: &mut [u8], at: usize, n: u32) -> usize
 }
 
 // The end of a line.
-fn end_line(buf: &mut [u8], at: usize) -> usize
+pub fn end_line(buf: &mut [u8], at: usize) -> usize
     requires { ⌜ Room (now buf) at (newline ∷ []) ⌝ }
     ensures { λ r. ⌜ Laid (now (buf .entry)) at (newline ∷ []) (now (buf .exit)) r ⌝ }
 {

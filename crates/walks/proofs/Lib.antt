@@ -14,3 +14,4 @@ pub mod ByLinks
 pub mod Valid
 pub mod Limits
 pub mod Rising
+pub mod LinksAt

@@ -65,6 +65,14 @@ module _ (p : Plant) where
   unfoldable pub bridges : ℕ
   bridges = count (p .count) bridge
 
+  -- link l is at switch x: it takes part, and x is one of its ends
+  abbrev pub isAt : ℕ → ℕ → Bool
+  isAt x l = live p l && (eqb (first p l) x || eqb (second p l) x)
+
+  -- how many links are at switch x
+  unfoldable pub linksAt : ℕ → ℕ
+  linksAt x = count (p .count) (isAt x)
+
   -- ---- the part of the plant that is reached from the switch r, its root
 
   module _ (r : ℕ) where

@@ -2,6 +2,7 @@
 use answers::Refusal;
 use answers::Verdict;
 use answers::first_of;
+use answers::judge_room;
 use codec::Layout;
 use encoder::part_size;
 use encoder::put_part;
@@ -15,13 +16,12 @@ use plant::Plant;
 ghost use mathlib.Core.Path.{_≡_};
 ghost use mathlib.Core.List.{[], _∷_};
 ghost use Prim.Native.Nat.{_+_, _≤_};
-ghost use lib.Dec.{ltb};
 ghost use lib.ListN.{length, drop};
 ghost use lib.Seq.{sets};
 ghost use Rattle.lists.specs.Members.{all};
 ghost use Rattle.plant.specs.Links.{zeroLink};
 ghost use Rattle.answers.specs.Answers.{refused, numberOf, verdictAnswer};
-ghost use Rattle.answers.specs.Checks.{Judges, answer};
+ghost use Rattle.answers.specs.Checks.{answer};
 ghost use Rattle.limits.specs.Limits.{maxLinks};
 ghost use Rattle.listing.specs.Listing.{linksOf, linksBytes, encode};
 ghost use Rattle.listing.specs.Writing.{isZero, soundLinks, soundPlant, writing, bufferAfter};
@@ -120,16 +120,6 @@ fn judge_plant(p: Plant) -> Verdict
     judge_links(p)
 }
 
-// Refusal 16 of a lent buffer with this length, for a listing of so many bytes.
-fn judge_room(size: usize, room: usize) -> Verdict
-    ensures { λ r. ⌜ Judges ((16, ltb room size) ∷ []) r ⌝ }
-{
-    if room < size {
-        return Verdict::Refused(Refusal::ListingBufferShort);
-    }
-    Verdict::Accepted
-}
-
 // The length of a plant's listing.
 fn listing_size(p: Plant) -> usize
     ensures { λ r. ⌜ r ≡ length (encode p) ⌝ }
@@ -188,7 +178,7 @@ pub fn write(p: Plant, buffer: &mut [u8]) -> Written
 {
     let sound = judge_plant(p);
     let n = listing_size(p);
-    let room = judge_room(n, buffer.len());
+    let room = judge_room(n, buffer.len(), Refusal::ListingBufferShort);
     match first_of(sound, room) {
         Verdict::Accepted => {
             put_listing(p, buffer);

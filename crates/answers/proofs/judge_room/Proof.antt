@@ -1,8 +1,8 @@
--- `writing::judge_room` meets its contract. Assumes nothing.
+-- `answers::judge_room` meets its contract. Assumes nothing.
 use mathlib.Core.Path.{refl}
 use borrow.Author.Tests.{lt-ltb, le-ltb}
-use Rattle.writing.proofs.judge_room.Statement.{statement}
-use Rattle.writing.proofs.judge_room.Tie as tie
+use Rattle.answers.proofs.judge_room.Statement.{statement}
+use Rattle.answers.proofs.judge_room.Tie as tie
 
 returns : tie.Need-returns
 returns c = record { first = rw (lt-ltb _ _ (c .if1 .taken)) refl }

@@ -1,0 +1,93 @@
+-- What document 02's order 3 promises holds: of every page that is written, and of all bytes that are read. Assumes nothing.
+use mathlib.Core.Path.{_≡_, refl, sym, ap, _∙_}
+use mathlib.Core.Logic.{_⊎_, inl, inr}
+use mathlib.Core.Bool.{true, false}
+use mathlib.Core.List.{List, _++_}
+use Prim.Native.Nat.{ℕ, _+_, _≤_, _<_}
+use native.Mathlib.Omega.{arith}
+use lib.ListN.{length, drop}
+use Rattle.lists.specs.Arrays.{at}
+use Rattle.lists.proofs.Numbers.{values-at}
+use Rattle.lists.proofs.Sum.{sum-same}
+use Rattle.lists.proofs.Tests.{bool?}
+use Rattle.plant.specs.declared.Plant.{Plant}
+use Rattle.answers.specs.Answers.{given, refused}
+use Rattle.answers.specs.Checks.{answer}
+use Rattle.answers.proofs.Checks.{given-refused, result-given, goes-on, was-given}
+use Rattle.codec.specs.Field.{Bytes}
+use Rattle.limits.specs.Limits.{maxSwitches}
+use Rattle.walks.specs.Graph.{linksAt}
+use Rattle.walks.proofs.LinksAt.{links-twice}
+use Rattle.senders.specs.Senders.{bySwitch}
+use Rattle.quantity.specs.Quantity.{orderQuantity}
+use Rattle.plan.specs.Plan.{tableOf}
+use Rattle.plan.proofs.Totals.{totals}
+use Rattle.sheet.specs.declared.Sheet.{Sheet}
+use Rattle.sheet.specs.Page.{buyingPage, pageLength}
+use Rattle.sheet.specs.Form.{formed, countsIn, readingPage}
+use Rattle.sheet.specs.Shown.{Shown}
+use Rattle.sheet.proofs.Page.{switch-size, total-size, page-size}
+use Rattle.sheet.proofs.RoundTrip.{written-formed, read-of-written, read-shown, written-again, written-of-read}
+use Rattle.planning.specs.Planning.{planning}
+use Rattle.planning.proofs.Plans.{plan-ready}
+use Rattle.quoting.specs.Quotes.{sheetWith, pricing}
+use Rattle.planner.specs.Calls.{quotingFor}
+use Rattle.planner.proofs.Buying.{quoted-shown, buying-short, buying-given, buying-left}
+use Rattle.demands.specs.Demands.{WritesPage, ReadsPage}
+
+module _ (s : List ℕ) (bytes : Bytes s) (p : Plant) (e : answer (planning s) ≡ given p) (spare : ℕ) (c : Sheet) (q : answer (quotingFor s spare) ≡ given c) where
+  shown : Shown c
+  shown = quoted-shown s spare c bytes q
+
+  -- the counts are those of the plant
+  counts-are : c ≡ sheetWith p (bySwitch (tableOf p)) (orderQuantity (bySwitch (tableOf p) .total) spare .result)
+  unfolding quotingFor pricing
+  counts-are =
+      let g = was-given (orderQuantity (bySwitch (tableOf p) .total) spare) (sheetWith p (bySwitch (tableOf p))) c (sym (goes-on (planning s) (λ r. pricing r spare) p e) ∙ q) in
+      sym (g .2) ∙ ap (sheetWith p (bySwitch (tableOf p))) (sym (result-given (orderQuantity (bySwitch (tableOf p) .total) spare) (g .0) (g .1)))
+
+  pub writes-page : WritesPage s p spare c
+  writes-page =
+      let r = plan-ready s p bytes e in
+      let t = totals p (r .0) (r .1) in
+      let n : c .switches ≡ p .switches = ap (λ (d : Sheet). d .switches) counts-are in
+      let k = page-size c (shown .digits) (shown .few) in
+      let l : pageLength c ≡ length (buyingPage c) = sym k in
+      let at-switch : (x : ℕ) → x < p .switches → at (c .links) x ≡ linksAt p x = λ x h. ap (λ (d : Sheet). at (d .links) x) counts-are ∙ values-at (linksAt p) 0 maxSwitches x (omega (arith, r .0 .few-switches)) in
+      record {
+        switches = n;
+        rules = λ x h. ap (λ (d : Sheet). at (d .rules) x) counts-are ∙ t .each x h;
+        links = at-switch;
+        links-twice = sum-same (p .switches) (at (c .links)) (linksAt p) at-switch ∙ links-twice p (r .0);
+        total = ap (λ (d : Sheet). d .total) counts-are ∙ t .number;
+        quantity = ap (λ (d : Sheet). d .quantity) counts-are ∙ ap (λ (a : ℕ). orderQuantity a spare .result) (t .number);
+        digits = shown .digits;
+        lines = λ x h. switch-size c (shown .digits) (shown .few) x (omega (arith, n));
+        last-line = total-size c (shown .digits);
+        size = omega (arith, k, n);
+        written = λ b h. let m : pageLength c ≤ length b = omega (arith, n) in
+            (buying-given s spare b c q m ∙ ap given l, buying-left s spare b c q m ∙ ap (λ (j : ℕ). buyingPage c ++ drop j b) l);
+        too-short = λ b h. buying-short s spare b c q (omega (arith, n));
+        read-back = read-of-written c shown;
+      }
+
+module _ (b : List ℕ) where
+  outside : formed b ≡ false → answer (readingPage b) ≡ refused 18
+  unfolding readingPage
+  outside e = rw e refl
+
+  inside : formed b ≡ true → answer (readingPage b) ≡ given (countsIn b)
+  unfolding readingPage
+  inside e = rw e refl
+
+  refused-only : answer (readingPage b) ≡ refused 18 → (formed b ≡ true) ⊎ (formed b ≡ false) → formed b ≡ false
+  refused-only r (inl e) = absurd (given-refused (countsIn b) 18 (sym (inside e) ∙ r))
+  refused-only r (inr e) = e
+
+  pub reads-page : ReadsPage b
+  reads-page = record {
+    refused-outside = (λ r. refused-only r (bool? (formed b)), outside);
+    such-pages = (λ e. (countsIn b, read-shown b e, written-again b e), λ w. ap formed (sym (w .2)) ∙ written-formed (w .0) (w .1));
+    written-back = written-of-read b;
+    only-one = λ b′ c g h. sym (written-of-read b c g) ∙ written-of-read b′ c h;
+  }

@@ -1,0 +1,86 @@
+-- The buying page of a listing in a lent buffer, by the answer of planning, and by its counts. Assumes nothing.
+use mathlib.Core.Path.{_≡_, refl, sym, ap, ap₂, _∙_}
+use mathlib.Core.List.{List, _++_}
+use Prim.Native.Nat.{ℕ, _≤_, _<_}
+use borrow.Author.Tests.{lt-ltb, le-ltb}
+use lib.ListN.{length, drop}
+use Rattle.plant.specs.declared.Plant.{Plant}
+use Rattle.answers.specs.Answers.{Answer, given, refused, _>>=_}
+use Rattle.answers.specs.Checks.{answer}
+use Rattle.answers.proofs.Checks.{then-assoc, then-is, goes-on, stops, came-from, result-given}
+use Rattle.codec.specs.Field.{Bytes}
+use Rattle.sheet.specs.declared.Sheet.{Sheet}
+use Rattle.sheet.specs.Page.{buyingPage, pageLength, writingPage, pageLeft}
+use Rattle.sheet.specs.Shown.{Shown}
+use Rattle.planning.specs.Planning.{planning}
+use Rattle.planning.proofs.Plans.{plan-ready}
+use Rattle.quoting.specs.Quotes.{pricing, quoting}
+use Rattle.quoting.proofs.Counts.{priced-shown}
+use Rattle.planner.specs.Calls.{quotingFor, buying, boughtOut}
+
+module _ (s : List ℕ) (spare : ℕ) (b : List ℕ) where
+  module _ (p : Plant) (e : answer (planning s) ≡ given p) where
+    pub page-given : answer (quoting p spare b) ≡ answer (buying s spare b)
+    unfolding buying
+    page-given = sym (goes-on (planning s) (λ q. quoting q spare b) p e)
+
+    pub page-left : pageLeft (pricing p spare .result) b (answer (quoting p spare b)) ≡ boughtOut s spare b
+    unfolding quotingFor boughtOut
+    page-left = ap₂ (λ (q : Plant) (a : Answer ℕ). pageLeft (pricing q spare .result) b a) (sym (result-given (planning s) p e)) page-given
+
+  module _ (n : ℕ) (e : answer (planning s) ≡ refused n) where
+    pub page-refused : refused n ≡ answer (buying s spare b)
+    unfolding buying
+    page-refused = sym (stops (planning s) (λ q. quoting q spare b) n e)
+
+    pub page-kept : b ≡ boughtOut s spare b
+    unfolding boughtOut
+    page-kept = ap (pageLeft (quotingFor s spare .result) b) page-refused
+
+-- ---- the counts, and then the page of these
+
+then-same : {A B : Type 0} (a : Answer A) (f g : A → Answer B) → ((x : A) → f x ≡ g x) → (a >>= f) ≡ (a >>= g)
+then-same (given x) f g h = h x
+then-same (refused n) f g h = refl
+
+-- spares that are refused alike, or give the same order quantity
+pub same-spare : (s : List ℕ) (j k : ℕ) → ((p : Plant) → answer (pricing p j) ≡ answer (pricing p k)) → answer (quotingFor s j) ≡ answer (quotingFor s k)
+unfolding quotingFor
+same-spare s j k h =
+    then-is (planning s) (λ p. pricing p j) ∙ then-same (answer (planning s)) (λ p. answer (pricing p j)) (λ p. answer (pricing p k)) h ∙ sym (then-is (planning s) (λ p. pricing p k))
+
+-- the counts of a listing are such as a page can hold
+pub quoted-shown : (s : List ℕ) (spare : ℕ) (c : Sheet) → Bytes s → answer (quotingFor s spare) ≡ given c → Shown c
+unfolding quotingFor
+quoted-shown s spare c bytes e =
+    let g = came-from (planning s) (λ p. pricing p spare) c e in
+    let r = plan-ready s (g .0) bytes (g .1) in
+    priced-shown (g .0) (r .0) (r .1) spare c (g .2)
+
+module _ (s : List ℕ) (spare : ℕ) (b : List ℕ) where
+  buying-is : answer (buying s spare b) ≡ (answer (quotingFor s spare) >>= λ c. answer (writingPage c b))
+  unfolding buying quotingFor quoting
+  buying-is =
+      then-is (planning s) (λ p. quoting p spare b)
+      ∙ then-same (answer (planning s)) (λ p. answer (quoting p spare b)) (λ p. answer (pricing p spare) >>= λ c. answer (writingPage c b)) (λ p. then-is (pricing p spare) (λ c. writingPage c b))
+      ∙ sym (then-assoc (answer (planning s)) (λ p. answer (pricing p spare)) (λ c. answer (writingPage c b)))
+      ∙ ap (λ (a : Answer Sheet). a >>= λ c. answer (writingPage c b)) (sym (then-is (planning s) (λ p. pricing p spare)))
+
+  -- a refusal of the counts is that of the call
+  pub buying-refused : (n : ℕ) → answer (quotingFor s spare) ≡ refused n → answer (buying s spare b) ≡ refused n
+  buying-refused n e = buying-is ∙ rw e refl
+
+  module _ (c : Sheet) (e : answer (quotingFor s spare) ≡ given c) where
+    -- 18
+    pub buying-short : length b < pageLength c → answer (buying s spare b) ≡ refused 18
+    unfolding writingPage
+    buying-short h = buying-is ∙ rw e (rw (lt-ltb (length b) (pageLength c) h) refl)
+
+    module _ (h : pageLength c ≤ length b) where
+      pub buying-given : answer (buying s spare b) ≡ given (pageLength c)
+      unfolding writingPage
+      buying-given = buying-is ∙ rw e (rw (le-ltb (length b) (pageLength c) h) refl)
+
+      pub buying-left : boughtOut s spare b ≡ buyingPage c ++ drop (pageLength c) b
+      unfolding boughtOut
+      buying-left = ap₂ (λ (d : Sheet) (a : Answer ℕ). pageLeft d b a) (result-given (quotingFor s spare) c e) buying-given

@@ -1,0 +1,4 @@
+pub mod Page
+pub mod Form
+pub mod Fields
+pub mod RoundTrip
