@@ -33,7 +33,7 @@ use Rattle.planning.proofs.Plans.{plan-ready}
 use Rattle.quoting.specs.Quotes.{sheetWith, pricing}
 use Rattle.planner.specs.Calls.{quotingFor}
 use Rattle.planner.proofs.Buying.{quoted-shown, buying-short, buying-given, buying-left}
-use Rattle.demands.specs.Demands.{WritesPage, ReadsPage}
+use Rattle.demands.specs.Demands.{PageWritten, PageForm}
 
 module _ (s : List ℕ) (bytes : Bytes s) (p : Plant) (e : answer (planning s) ≡ given p) (spare : ℕ) (c : Sheet) (q : answer (quotingFor s spare) ≡ given c) where
   shown : Shown c
@@ -46,8 +46,8 @@ module _ (s : List ℕ) (bytes : Bytes s) (p : Plant) (e : answer (planning s) �
       let g = was-given (orderQuantity (bySwitch (tableOf p) .total) spare) (sheetWith p (bySwitch (tableOf p))) c (sym (goes-on (planning s) (λ r. pricing r spare) p e) ∙ q) in
       sym (g .2) ∙ ap (sheetWith p (bySwitch (tableOf p))) (sym (result-given (orderQuantity (bySwitch (tableOf p) .total) spare) (g .0) (g .1)))
 
-  pub writes-page : WritesPage s p spare c
-  writes-page =
+  pub page-written : PageWritten s p spare c
+  page-written =
       let r = plan-ready s p bytes e in
       let t = totals p (r .0) (r .1) in
       let n : c .switches ≡ p .switches = ap (λ (d : Sheet). d .switches) counts-are in
@@ -84,8 +84,8 @@ module _ (b : List ℕ) where
   refused-only r (inl e) = absurd (given-refused (countsIn b) 18 (sym (inside e) ∙ r))
   refused-only r (inr e) = e
 
-  pub reads-page : ReadsPage b
-  reads-page = record {
+  pub page-form : PageForm b
+  page-form = record {
     refused-outside = (λ r. refused-only r (bool? (formed b)), outside);
     such-pages = (λ e. (countsIn b, read-shown b e, written-again b e), λ w. ap formed (sym (w .2)) ∙ written-formed (w .0) (w .1));
     written-back = written-of-read b;

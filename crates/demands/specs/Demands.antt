@@ -298,7 +298,7 @@ pub record BySwitches (s : List ℕ) (p : Plant) : Type 0 where
 -- ---- document 02, order 3: the buying page
 
 -- for every listing s that is read as a connected plant p, and every spare that is not refused: what the page of the counts c is
-pub record WritesPage (s : List ℕ) (p : Plant) (spare : ℕ) (c : Sheet) : Type 0 where
+pub record PageWritten (s : List ℕ) (p : Plant) (spare : ℕ) (c : Sheet) : Type 0 where
   -- the rules of each switch are order 2's, and the links at it the plant's own; each link is at two switches
   pub switches : c .switches ≡ p .switches
   pub rules : (x : ℕ) → x < p .switches → at (c .rules) x ≡ sentBy (rulesOf p) x
@@ -320,7 +320,7 @@ pub record WritesPage (s : List ℕ) (p : Plant) (spare : ℕ) (c : Sheet) : Typ
   pub read-back : answer (readingPage (buyingPage c)) ≡ given c
 
 -- for any bytes b: what the reader accepts
-pub record ReadsPage (b : List ℕ) : Type 0 where
+pub record PageForm (b : List ℕ) : Type 0 where
   -- 18 exactly outside the form, whose parts are those of `formed`
   pub refused-outside : (answer (readingPage b) ≡ refused 18) ↔ (formed b ≡ false)
   -- the form is that of the pages of the counts that a page can hold, and of nothing else

@@ -32,7 +32,11 @@ module _ (s argument b : List ℕ) (k : ℕ) (bytes : Bytes s) (room : lineColum
   refusal-is : (m : ℕ) → answer (buying s k b) ≡ refused m → refusalOf m ≡ printed argument s
   refusal-is m g = output-refusal s k b bytes room m g ∙ same
 
--- the listing is bytes, and the buffer has room for the longest page
+-- the buffer has room for the longest page
+abbrev longest : List ℕ
+longest = replicate (lineColumns * (maxSwitches + 1)) 0
+
+-- the listing is bytes
 known : (c : tie.After-write-buying-page) → Bytes (c .before .before .before .before .before .args .listing .now)
 known c = bytes-known (c .before .before .before .before .before .args .listing .now) (λ i. c .before .before .before .shared-slice-known2 .given i .fits)
 
@@ -44,7 +48,7 @@ written c =
     let w = c .before .before .before in
     let q = w .before .before in
     let s = q .before .before .before in
-    let p = page-is (s .args .listing .now) (s .args .argument .now) (replicate 2080 0) (q .spare-of .result) (known w) (simp length-replicate (omega arith)) (q .spare-of .ensures) (c .n .given .0 .0) (sym (w .write-buying-page .ensures .0) ∙ ap writeAnswer (c .n .given .1)) in
+    let p = page-is (s .args .listing .now) (s .args .argument .now) longest (q .spare-of .result) (known w) (simp length-replicate (omega arith)) (q .spare-of .ensures) (c .n .given .0 .0) (sym (w .write-buying-page .ensures .0) ∙ ap writeAnswer (c .n .given .1)) in
     let l = w .write-buying-page .ensures .1 in
     (omega (arith, ap length l, p .0), ap (take (c .n .given .0 .0)) l ∙ p .1)
 
@@ -57,7 +61,7 @@ print-refusal-requires c κs =
     let w = k .before .before .before in
     let q = w .before .before in
     let s = q .before .before .before in
-    refusal-is (s .args .listing .now) (s .args .argument .now) (replicate 2080 0) (q .spare-of .result) (known w) (simp length-replicate (omega arith)) (q .spare-of .ensures) _ (sym (w .write-buying-page .ensures .0) ∙ ap writeAnswer (k .k .given .1))
+    refusal-is (s .args .listing .now) (s .args .argument .now) longest (q .spare-of .result) (known w) (simp length-replicate (omega arith)) (q .spare-of .ensures) _ (sym (w .write-buying-page .ensures .0) ∙ ap writeAnswer (k .k .given .1))
 
 pub print-page-spec : {M : Type 1} → statement M
 print-page-spec =
