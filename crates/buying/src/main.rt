@@ -61,7 +61,7 @@ fn print_page(argument: &[u8], listing: &[u8])
 fn tell_usage() {
     io::write_all(
         STDERR_FILENO,
-        b"usage: buying SPARE < LISTING, with SPARE in percent, a number of one to three digits\n",
+        b"usage: buying SPARE < LISTING, with SPARE in percent: one to three digits, no leading zero\n",
     );
 }
 
