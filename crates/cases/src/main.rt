@@ -33,7 +33,6 @@
 // A plant is its switches, links (two bytes) and start, a two-byte number of link places, and first end, second end and tag (two bytes) of each; the other link
 // places are zero. A refusal is the word `refused` and its number. The line of a call that is lent a buffer ends with the buffer's checksum after the call.
 // A list prints as its count, a colon and its checksum.
-mod packets;
 mod searches;
 
 use caseform::input;
@@ -44,7 +43,7 @@ ghost use Prim.Native.Nat.{_≤_};
 ghost use lib.ListN.{length};
 
 // The most bytes of input that are read.
-const INPUT: usize = 1700000;
+const INPUT: usize = 1600000;
 
 // Prints the answer of the case at a place; the place after it. A byte that is no call ends the input.
 fn answer(s: &[u8], at: usize) -> usize {
@@ -54,7 +53,7 @@ fn answer(s: &[u8], at: usize) -> usize {
         return caseplans::answer(call, s, from);
     }
     if call < 13 || call == 21 {
-        return packets::answer(call, s, from);
+        return casepackets::answer(call, s, from);
     }
     if call == 18 || call == 19 || 22 <= call {
         return caseplans::answer(call, s, from);

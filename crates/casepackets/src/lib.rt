@@ -1,4 +1,5 @@
-// Calls 7 to 12 and 21: packets and probes. Each is given a listing, a switch and labels, and then arguments of its own.
+// Calls 7 to 12 and 21 of the program `cases`: packets and probes. Each is given a listing, a switch and labels, and then arguments of its own. Its main file has the
+// table of cases.
 use answers::Verdict;
 use caseform::checksum;
 use caseform::input;
