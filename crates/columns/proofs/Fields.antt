@@ -32,7 +32,7 @@ spaces-are (b ∷ f) (suc i) h s n =
     rw (eq-eqb b space (s 0 (omega arith))) (ap suc (spaces-are f i (omega arith) (λ j k. s (suc j) (omega arith)) (λ k. n (omega arith))))
 
 -- a field is its spaces and what comes after them
-pub field-split : (f : List ℕ) → spaces (spacesBefore f) ++ afterSpaces f ≡ f
+field-split : (f : List ℕ) → spaces (spacesBefore f) ++ afterSpaces f ≡ f
 unfolding spacesBefore
 field-split [] = refl
 field-split (b ∷ f) = go (eq? b space) (field-split f)
@@ -91,11 +91,11 @@ module _ (columns n : ℕ) (h : n < 1000) where
   right-reads = ap readDecimal number-text ∙ read-decimal n
 
 module _ (bs : List ℕ) (e : isShort bs ≡ true) where
-  pub short-is : isDecimal bs ≡ true
+  short-is : isDecimal bs ≡ true
   unfolding isShort
   short-is = and-true _ _ e .0
 
-  pub short-few : length bs ≤ mostDigits
+  short-few : length bs ≤ mostDigits
   unfolding isShort
   short-few = leb-true (length bs) mostDigits (and-true (isDecimal bs) (leb (length bs) mostDigits) e .1)
 

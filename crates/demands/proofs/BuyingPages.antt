@@ -27,7 +27,7 @@ use Rattle.sheet.specs.Page.{buyingPage, pageLength}
 use Rattle.sheet.specs.Form.{formed, countsIn, readingPage}
 use Rattle.sheet.specs.Shown.{Shown}
 use Rattle.sheet.proofs.Page.{switch-size, total-size, page-size}
-use Rattle.sheet.proofs.RoundTrip.{written-formed, read-of-written, read-shown, written-again, written-of-read}
+use Rattle.sheet.proofs.RoundTrip.{written-formed, read-of-written, read-shown, written-again, accepted-shown, written-of-read}
 use Rattle.planning.specs.Planning.{planning}
 use Rattle.planning.proofs.Plans.{plan-ready}
 use Rattle.quoting.specs.Quotes.{sheetWith, pricing}
@@ -88,6 +88,7 @@ module _ (b : List ℕ) where
   page-form = record {
     refused-outside = (λ r. refused-only r (bool? (formed b)), outside);
     such-pages = (λ e. (countsIn b, read-shown b e, written-again b e), λ w. ap formed (sym (w .2)) ∙ written-formed (w .0) (w .1));
+    counts-shown = accepted-shown b;
     written-back = written-of-read b;
     only-one = λ b′ c g h. sym (written-of-read b c g) ∙ written-of-read b′ c h;
   }

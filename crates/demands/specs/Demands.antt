@@ -325,6 +325,8 @@ pub record PageForm (b : List ℕ) : Type 0 where
   pub refused-outside : (answer (readingPage b) ≡ refused 18) ↔ (formed b ≡ false)
   -- the form is that of the pages of the counts that a page can hold, and of nothing else
   pub such-pages : (formed b ≡ true) ↔ ((c : Sheet) × Shown c × (buyingPage c ≡ b))
+  -- the counts that are read are such: of at most three digits each, with rules that add up
+  pub counts-shown : (c : Sheet) → answer (readingPage b) ≡ given c → Shown c
   -- what is accepted is written back as the same bytes, so that it is the only page with its counts
   pub written-back : (c : Sheet) → answer (readingPage b) ≡ given c → buyingPage c ≡ b
   pub only-one : (b′ : List ℕ) (c : Sheet) → answer (readingPage b) ≡ given c → answer (readingPage b′) ≡ given c → b ≡ b′

@@ -5,22 +5,18 @@ use mathlib.Core.Bool.{Bool, true, false, _&&_}
 use mathlib.Core.List.{List, [], _∷_}
 use Prim.Native.Nat.{ℕ, _+_, _-_, _*_, _≤_, _<_}
 use native.Mathlib.Omega.{arith}
-use borrow.Author.Tests.{eq-eqb, ne-eqb, lt-ltb, le-ltb}
-use lib.Dec.{eqb, ltb}
+use borrow.Author.Tests.{eq-eqb, ne-eqb}
+use lib.Dec.{eqb}
 use lib.ListN.{length, take, drop, length-drop}
 use lib.Seq.{length-take-le}
 use Rattle.lists.specs.Members.{all}
 use Rattle.lists.specs.Arrays.{at}
-use Rattle.lists.specs.Tests.{choose}
-use Rattle.lists.proofs.Laid.{Laid}
-use Rattle.lists.proofs.Numbers.{values-are}
-use Rattle.lists.proofs.Tests.{eq?, below?}
-use Rattle.limits.specs.Limits.{maxSwitches}
+use Rattle.lists.proofs.Tests.{eq?}
 use Rattle.text.specs.Lines.{space}
 use Rattle.columns.specs.Fields.{spacesBefore}
 use Rattle.sheet.specs.Columns.{lineColumns, switchEnd, rulesEnd, linksEnd, lastColumn, columnsOf}
-use Rattle.sheet.specs.Form.{linesIn, lineAt, columnOf}
-use Rattle.sheet.proofs.Form.{Plain}
+use Rattle.sheet.specs.Form.{linesIn, lineAt}
+use Rattle.sheet.proofs.Form.{Plain, line-length}
 use Rattle.readback.specs.Held.{Line, Lines, Held}
 
 -- ---- one test and then others
@@ -33,11 +29,12 @@ goes-on a b c e f = rw e f
 
 -- ---- a line of a page
 
-pub line-length : (b : List ℕ) (x : ℕ) → Lines b (x + 1) → Line (lineAt b x)
-line-length b x h = length-take-le lineColumns (drop (lineColumns * x) b) (omega (arith, length-drop (lineColumns * x) b))
-
 pub lines-fewer : (b : List ℕ) (n x : ℕ) → Lines b n → x < n → Lines b (x + 1)
 lines-fewer b n x h i = omega arith
+
+-- so a line of the page has its columns
+pub line-there : (b : List ℕ) (n x : ℕ) (l : List ℕ) → Lines b n → x < n → l ≡ lineAt b x → Line l
+line-there b n x l h i e = ap length e ∙ line-length b x (lines-fewer b n x h i)
 
 -- the bytes of a line, as a part of the page
 pub line-part : (b : List ℕ) (x : ℕ) → take (lineColumns * x + lineColumns - lineColumns * x) (drop (lineColumns * x) b) ≡ lineAt b x
@@ -66,17 +63,6 @@ spaces-not (b ∷ f) h = go (eq? b space) h (spaces-not f)
     go : (b ≡ space) ⊎ (b ≡ space → ⊥) → spacesBefore (b ∷ f) < length (b ∷ f) → (spacesBefore f < length f → all (eqb space) f ≡ false) → all (eqb space) (b ∷ f) ≡ false
     go (inl e) i rec = rw (eq-eqb space b (sym e)) (rec (omega (arith, rw (eq-eqb b space e) at i)))
     go (inr n) i rec = rw (ne-eqb space b (λ e. n (sym e))) refl
-
--- ---- a column
-
--- an array with the numbers of n lines at its first places, and zeros past them
-pub column-is : (n : ℕ) (on : ℕ → ℕ) (l : List ℕ) → Laid 0 maxSwitches on n l → l ≡ columnOf n on
-unfolding columnOf
-column-is n on l d = values-are (λ x. choose (ltb x n) (on x) 0) 0 maxSwitches l (d .places) (λ x h. go x (below? x n))
-  where
-    go : (x : ℕ) → (x < n) ⊎ (n ≤ x) → at l x ≡ choose (ltb x n) (on x) 0
-    go x (inl i) = d .tells x i ∙ rw (lt-ltb x n i) refl
-    go x (inr i) = d .clear x i ∙ rw (le-ltb x n i) refl
 
 -- ---- the numbers of plain lines
 

@@ -55,6 +55,17 @@ fn spaces_else(line: &[u8]) -> bool
     line[LAST] == b'\n'
 }
 
+// Are there numbers in its number fields, and is all else past its first field as it should be?
+fn is_plain(line: &[u8]) -> bool
+    requires { ⌜ Line (now line) ⌝ }
+    ensures { λ r. ⌜ r ≡ numbersHeld (now (line .entry)) && spacesElse (now (line .entry)) ⌝ }
+{
+    if !numbers_held(line) {
+        return false;
+    }
+    spaces_else(line)
+}
+
 // Does its first field hold switch x?
 fn of_switch(line: &[u8], x: usize) -> bool
     requires { ⌜ Line (now line) ⌝ }
@@ -91,10 +102,7 @@ fn plain_lines(page: &[u8], n: usize) -> bool
 {
     let mut x: usize = 0;
     while x < n {
-        if !numbers_held(line_at(page, x)) {
-            return false;
-        }
-        if !spaces_else(line_at(page, x)) {
+        if !is_plain(line_at(page, x)) {
             return false;
         }
         x += 1;

@@ -20,7 +20,7 @@ use Rattle.columns.proofs.Fields.{right-is, right-reads, number-below, number-r
 use Rattle.sheet.specs.Columns.{switchColumns, rulesColumns, linksColumns, lineColumns, switchEnd, rulesEnd, linksEnd, lastColumn, columnsOf}
 use Rattle.sheet.specs.Page.{totalWord, lineOf}
 use Rattle.sheet.specs.Form.{switchField, rulesField, linksField, ofSwitch, ofTotal}
-use Rattle.sheet.specs.Inner.{numbersOf}
+use Rattle.sheet.specs.Numbers.{numbersOf}
 use Rattle.sheet.proofs.Page.{field-size, line-is}
 use Rattle.sheet.proofs.Form.{Plain}
 
@@ -54,7 +54,7 @@ module _ (field : List ℕ) (f : length field ≡ switchColumns) (a b : ℕ) (h 
   past-links =
       sym (drop-drop linksColumns rulesEnd line) ∙ ap (drop linksColumns) past-rules ∙ drop-at links-text end-text linksColumns (field-size linksColumns b (omega arith) k)
 
-  pub first-field : switchField line ≡ field
+  first-field : switchField line ≡ field
   first-field = ap (take switchEnd) (line-is a b h k field f) ∙ take-at field (numbersOf a b) switchEnd f
 
   second-field : rulesField line ≡ rules-text

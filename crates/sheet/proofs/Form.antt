@@ -6,7 +6,8 @@ use Prim.Native.Nat.{ℕ, _+_, _*_, _%_, _≤_, _<_}
 use native.Mathlib.Omega.{arith}
 use borrow.Author.Tests.{eq-eqb, eqb-true, le-leb, leb-true}
 use lib.Dec.{eqb, leb}
-use lib.ListN.{length}
+use lib.ListN.{length, drop, length-drop}
+use lib.Seq.{length-take-le}
 use Rattle.lists.specs.Arrays.{at}
 use Rattle.lists.specs.Members.{all}
 use Rattle.lists.specs.Sum.{sum}
@@ -29,7 +30,7 @@ pub record Plain (line : List ℕ) : Type 0 where
   pub end : at line lastColumn ≡ newline
 
 module _ (line : List ℕ) where
-  pub line-plain : numbersHeld line && spacesElse line ≡ true → Plain line
+  line-plain : numbersHeld line && spacesElse line ≡ true → Plain line
   unfolding numbersHeld spacesElse
   line-plain e =
       let t = and-true (numbersHeld line) (spacesElse line) e in
@@ -37,11 +38,15 @@ module _ (line : List ℕ) where
       let s = and-true (all (eqb space) (columnsOf linksEnd lastColumn line)) (eqb (at line lastColumn) newline) (t .1) in
       record { rules = n .0; links = n .1; spaces = s .0; end = eqb-true (at line lastColumn) newline (s .1) }
 
-  pub plain-line : Plain line → numbersHeld line && spacesElse line ≡ true
+  plain-line : Plain line → numbersHeld line && spacesElse line ≡ true
   unfolding numbersHeld spacesElse
   plain-line p = rw (p .rules, p .links, p .spaces, eq-eqb (at line lastColumn) newline (p .end)) refl
 
 -- ---- a page
+
+-- where there are so many lines, each has its columns
+pub line-length : (b : List ℕ) (x : ℕ) → lineColumns * (x + 1) ≤ length b → length (lineAt b x) ≡ lineColumns
+line-length b x h = length-take-le lineColumns (drop (lineColumns * x) b) (omega (arith, length-drop (lineColumns * x) b))
 
 module _ (b : List ℕ) where
   pub record Formed : Type 0 where
@@ -73,7 +78,7 @@ module _ (b : List ℕ) where
     pub total : totalLast b ≡ true
     pub adds-up : rulesAddUp b ≡ true
 
-  pub formed-passes : formed b ≡ true → Passes
+  formed-passes : formed b ≡ true → Passes
   unfolding formed
   formed-passes e =
       let t = and-true (wholeLines b && plainLines b && rising b && totalLast b) (rulesAddUp b) e in
@@ -82,7 +87,7 @@ module _ (b : List ℕ) where
       let w = and-true (wholeLines b) (plainLines b) (v .0) in
       record { whole = w .0; plain = w .1; rise = v .1; total = u .1; adds-up = t .1 }
 
-  pub passes-formed : Passes → formed b ≡ true
+  passes-formed : Passes → formed b ≡ true
   unfolding formed
   passes-formed p = rw (p .whole, p .plain, p .rise, p .total, p .adds-up) refl
 

@@ -17,7 +17,7 @@ use Rattle.columns.specs.Fields.{mostDigits, spaces, rightIn, leftIn}
 use Rattle.columns.proofs.Fields.{right-size, spaces-size, short-decimal}
 use Rattle.sheet.specs.Columns.{switchColumns, rulesColumns, linksColumns, lineColumns, linksEnd, lastColumn}
 use Rattle.sheet.specs.Page.{totalWord, lineOf, switchLine, totalLine, buyingPage, pageLength}
-use Rattle.sheet.specs.Inner.{numbersOf}
+use Rattle.sheet.specs.Numbers.{numbersOf}
 use Rattle.sheet.specs.Shown.{ThreeDigits}
 use Rattle.sheet.specs.declared.Sheet.{Sheet}
 

@@ -8,8 +8,8 @@ use Prim.Native.Nat.{ℕ, zero, suc, _+_, _*_, _≤_, _<_}
 use native.Mathlib.Omega.{arith}
 use borrow.Author.Tests.{lt-ltb, le-ltb}
 use lib.Dec.{ltb}
-use lib.ListN.{length, take, drop, length-drop, take-append-drop, drop-of-length-le, List·getD-eq-default}
-use lib.Seq.{take-all, take-at, drop-at, drop-drop, length-take-le}
+use lib.ListN.{length, take, drop, take-append-drop, drop-of-length-le, List·getD-eq-default}
+use lib.Seq.{take-all, take-at, drop-at, drop-drop}
 use Rattle.lists.specs.Arrays.{at}
 use Rattle.lists.specs.Numbers.{range}
 use Rattle.lists.specs.Sum.{sum}
@@ -31,7 +31,7 @@ use Rattle.sheet.specs.Form.{rulesField, linksField, ofSwitch, ofTotal, 
 use Rattle.sheet.specs.Shown.{ThreeDigits, Shown}
 use Rattle.sheet.specs.declared.Sheet.{Sheet}
 use Rattle.sheet.proofs.Page.{lines-after, lines-size, switch-field, switch-size, total-size, page-size}
-use Rattle.sheet.proofs.Form.{Plain, Formed, formed-is, is-formed}
+use Rattle.sheet.proofs.Form.{Plain, Formed, line-length, formed-is, is-formed}
 use Rattle.sheet.proofs.Fields.{reads-rules, reads-links, is-plain, is-of-switch, is-of-total, from-fields, switch-laid, total-laid}
 
 -- ---- lines in a row
@@ -90,7 +90,8 @@ column-past n on x h = go (below? x maxSwitches)
     go (inl i) = values-at (λ y. choose (ltb y n) (on y) 0) 0 maxSwitches x i ∙ rw (le-ltb x n h) refl
     go (inr i) = List·getD-eq-default (columnOf n on) 0 {n = x} (omega (arith, column-length n on))
 
-column-are : (n : ℕ) (on : ℕ → ℕ) (l : List ℕ) → length l ≡ maxSwitches → ((x : ℕ) → x < n → at l x ≡ on x) → ((x : ℕ) → n ≤ x → at l x ≡ 0) → columnOf n on ≡ l
+-- an array with the numbers of the first n places, and zeros past them, is the column
+pub column-are : (n : ℕ) (on : ℕ → ℕ) (l : List ℕ) → length l ≡ maxSwitches → ((x : ℕ) → x < n → at l x ≡ on x) → ((x : ℕ) → n ≤ x → at l x ≡ 0) → columnOf n on ≡ l
 unfolding columnOf
 column-are n on l e h z = sym (values-are (λ y. choose (ltb y n) (on y) 0) 0 maxSwitches l e (λ x i. go x (below? x n)))
   where
@@ -169,7 +170,7 @@ module _ (s : Sheet) (w : Shown s) where
       })
 
   -- with these counts in it
-  pub written-counts : countsIn b ≡ s
+  written-counts : countsIn b ≡ s
   unfolding countsIn
   written-counts =
       rw (
@@ -191,7 +192,7 @@ module _ (b : List ℕ) (e : formed b ≡ true) where
   f = formed-is b e
 
   long : (x : ℕ) → x < linesIn b → length (lineAt b x) ≡ lineColumns
-  long x h = length-take-le lineColumns (drop (lineColumns * x) b) (omega (arith, length-drop (lineColumns * x) b, f .bytes))
+  long x h = line-length b x (omega (arith, f .bytes))
 
   inside : (x : ℕ) → x < switchesIn b → x < linesIn b
   inside x h = omega arith

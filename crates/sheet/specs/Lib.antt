@@ -2,5 +2,5 @@ pub mod Columns
 pub mod Page
 pub mod Form
 pub mod Shown
-pub mod Inner
+pub mod Numbers
 pub mod Cases

@@ -18,7 +18,7 @@ ghost use Rattle.text.specs.Laid.{Room, Laid};
 ghost use Rattle.sheet.specs.Columns.{lineColumns};
 ghost use Rattle.sheet.specs.Page.{switchLine, totalLine, buyingPage, pageLength, noCounts};
 ghost use Rattle.sheet.specs.Shown.{ThreeDigits};
-ghost use Rattle.sheet.specs.Inner.{numbersOf};
+ghost use Rattle.sheet.specs.Numbers.{numbersOf};
 
 // The counts of a buying page: the rules of each switch and the links at it, at the place of the switch, all rules, and the order quantity.
 pub struct Sheet {

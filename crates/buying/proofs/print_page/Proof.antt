@@ -3,7 +3,7 @@ use mathlib.Core.Path.{_≡_, sym, ap, _∙_}
 use mathlib.Core.List.{List}
 use Prim.Native.Nat.{ℕ, _+_, _*_, _≤_, min}
 use native.Mathlib.Omega.{arith}
-use lib.ListN.{length, take, replicate, length-replicate}
+use lib.ListN.{length, take, length-replicate}
 use lib.Seq.{length-take-le}
 use Rattle.answers.specs.Answers.{given, refused}
 use Rattle.answers.specs.Checks.{answer}
@@ -21,20 +21,16 @@ use borrow.Author.Needs.{needs}
 use Rattle.buying.proofs.print_page.Statement.{statement}
 use Rattle.buying.proofs.print_page.Tie as tie
 
--- what was written, for the spare as the argument says it
-module _ (s argument b : List ℕ) (k : ℕ) (bytes : Bytes s) (room : lineColumns * (maxSwitches + 1) ≤ length b) (e : k ≡ min (readDecimal argument) 255) where
+-- what was written, for the spare as the argument says it, where the buffer has room for the longest page
+module _ (s argument : List ℕ) (k : ℕ) (bytes : Bytes s) (e : k ≡ min (readDecimal argument) 255) where
   same : bought k s ≡ printed argument s
   same = ap (λ (j : ℕ). bought j s) e ∙ spare-same (readDecimal argument) s
 
-  page-is : (n : ℕ) → answer (buying s k b) ≡ given n → (n ≤ length (boughtOut s k b)) × (take n (boughtOut s k b) ≡ printed argument s)
-  page-is n g = let o = output-page s k b bytes room n g in (o .0, o .1 ∙ same)
+  page-is : (b : List ℕ) (n : ℕ) → answer (buying s k b) ≡ given n → {c : List ℕ} → c ≡ boughtOut s k b → lineColumns * (maxSwitches + 1) ≤ length b → (n ≤ length c) × (take n c ≡ printed argument s)
+  page-is b n g l room = let o = output-page s k b bytes room n g in (omega (arith, ap length l, o .0), ap (take n) l ∙ o .1 ∙ same)
 
-  refusal-is : (m : ℕ) → answer (buying s k b) ≡ refused m → refusalOf m ≡ printed argument s
-  refusal-is m g = output-refusal s k b bytes room m g ∙ same
-
--- the buffer has room for the longest page
-abbrev longest : List ℕ
-longest = replicate (lineColumns * (maxSwitches + 1)) 0
+  refusal-is : (b : List ℕ) (m : ℕ) → answer (buying s k b) ≡ refused m → lineColumns * (maxSwitches + 1) ≤ length b → refusalOf m ≡ printed argument s
+  refusal-is b m g room = output-refusal s k b bytes room m g ∙ same
 
 -- the listing is bytes
 known : (c : tie.After-write-buying-page) → Bytes (c .before .before .before .before .before .args .listing .now)
@@ -48,9 +44,8 @@ written c =
     let w = c .before .before .before in
     let q = w .before .before in
     let s = q .before .before .before in
-    let p = page-is (s .args .listing .now) (s .args .argument .now) longest (q .spare-of .result) (known w) (simp length-replicate (omega arith)) (q .spare-of .ensures) (c .n .given .0 .0) (sym (w .write-buying-page .ensures .0) ∙ ap writeAnswer (c .n .given .1)) in
-    let l = w .write-buying-page .ensures .1 in
-    (omega (arith, ap length l, p .0), ap (take (c .n .given .0 .0)) l ∙ p .1)
+    page-is (s .args .listing .now) (s .args .argument .now) (q .spare-of .result) (known w) (q .spare-of .ensures) _ (c .n .given .0 .0) (sym (w .write-buying-page .ensures .0) ∙ ap writeAnswer (c .n .given .1)) (w .write-buying-page .ensures .1)
+    (simp length-replicate (omega arith))
 
 slice-aggregate-write-output : tie.Need-slice-aggregate-write-output
 slice-aggregate-write-output c = sym (length-take-le (c .before .before .n .given .0 .0) _ (written (c .before .before) .0))
@@ -61,7 +56,7 @@ print-refusal-requires c κs =
     let w = k .before .before .before in
     let q = w .before .before in
     let s = q .before .before .before in
-    refusal-is (s .args .listing .now) (s .args .argument .now) longest (q .spare-of .result) (known w) (simp length-replicate (omega arith)) (q .spare-of .ensures) _ (sym (w .write-buying-page .ensures .0) ∙ ap writeAnswer (k .k .given .1))
+    refusal-is (s .args .listing .now) (s .args .argument .now) (q .spare-of .result) (known w) (q .spare-of .ensures) _ _ (sym (w .write-buying-page .ensures .0) ∙ ap writeAnswer (k .k .given .1)) (simp length-replicate (omega arith))
 
 pub print-page-spec : {M : Type 1} → statement M
 print-page-spec =

@@ -1,5 +1,5 @@
 -- `readback::column` meets its contract: before each turn the numbers of the first x lines are at their places. Assumes nothing.
-use mathlib.Core.Path.{_≡_}
+use mathlib.Core.Path.{_≡_, sym}
 use Prim.Native.Nat.{_-_, _≤_}
 use native.Mathlib.Omega.{arith}
 use Rattle.lists.proofs.Laid.{Laid, laid-none, laid-put}
@@ -7,7 +7,8 @@ use Rattle.limits.specs.Limits.{maxSwitches}
 use Rattle.columns.specs.Fields.{numberIn}
 use Rattle.sheet.specs.Columns.{columnsOf}
 use Rattle.sheet.specs.Form.{lineAt}
-use Rattle.readback.proofs.Lines.{lines-fewer, column-is}
+use Rattle.sheet.proofs.RoundTrip.{column-are}
+use Rattle.readback.proofs.Lines.{lines-fewer}
 use Rattle.readback.proofs.column.Statement.{statement}
 use Rattle.readback.proofs.column.Tie as tie
 
@@ -35,7 +36,8 @@ returns c =
     let l = c .before in
     let s = l .before .before in
     let e : l .loop .x ≡ s .args .n = omega (arith, c .loop-test .left, l .loop .inv .0) in
-    column-is (s .args .n) _ (l .loop .numbers) (rw e at (l .loop .inv .1))
+    let d = rw e at (l .loop .inv .1) in
+    sym (column-are (s .args .n) _ (l .loop .numbers) (d .places) (d .tells) (d .clear))
 
 pub column-spec : {M : Type 1} → statement M
 column-spec =

@@ -11,9 +11,9 @@ use lib.ListN.{length}
 use Rattle.lists.specs.Sum.{sum}
 use Rattle.lists.proofs.Tests.{not-both}
 use Rattle.sheet.specs.Form.{ofTotal, linesIn, switchesIn, wholeLines, plainLines, rising, totalLast, rulesAddUp}
-use Rattle.sheet.proofs.Form.{whole-is, lines-plain, formed-rest, not-formed}
+use Rattle.sheet.proofs.Form.{line-length, whole-is, lines-plain, formed-rest, not-formed}
 use Rattle.readback.specs.Held.{Lines}
-use Rattle.readback.proofs.Lines.{line-length, held-rules}
+use Rattle.readback.proofs.Lines.{held-rules}
 use Rattle.readback.proofs.is_formed.Statement.{statement}
 use Rattle.readback.proofs.is_formed.Tie as tie
 

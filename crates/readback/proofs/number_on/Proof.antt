@@ -7,7 +7,7 @@ use borrow.Author.Needs.{needs}
 use lib.ListN.{length}
 use Rattle.columns.specs.Fields.{isNumber, numberIn}
 use Rattle.sheet.specs.Columns.{columnsOf}
-use Rattle.readback.proofs.Lines.{line-length}
+use Rattle.sheet.proofs.Form.{line-length}
 use Rattle.readback.proofs.number_on.Statement.{statement}
 use Rattle.readback.proofs.number_on.Tie as tie
 

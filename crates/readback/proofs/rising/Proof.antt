@@ -6,9 +6,8 @@ use Prim.Native.Nat.{ℕ, _-_, _≤_, _<_}
 use native.Mathlib.Omega.{arith}
 use borrow.Author.Tests.{not-true, not-false}
 use Rattle.lists.proofs.Stepwise.{upto, every-true, every-false}
-use lib.ListN.{length}
 use Rattle.sheet.specs.Form.{lineAt, ofSwitch}
-use Rattle.readback.proofs.Lines.{line-length, lines-fewer}
+use Rattle.readback.proofs.Lines.{lines-fewer, line-there}
 use Rattle.readback.proofs.rising.Statement.{statement}
 use Rattle.readback.proofs.rising.Tie as tie
 
@@ -17,20 +16,6 @@ Inv-loop page n x₀ x = (x ≤ n) × ((k : ℕ) → k < x → ofSwitch (lineAt 
 
 abbrev μ-loop : tie.MeasureT-loop
 μ-loop page n x₀ x = n - x
-
-loop-holds : tie.Need-loop-holds Inv-loop μ-loop
-loop-holds c = (omega arith, λ k h. absurd (omega arith))
-
-line-at-requires : tie.Need-line-at-requires Inv-loop μ-loop
-line-at-requires c κs =
-    let s = c .before .before .before in
-    lines-fewer (s .args .page .now) (s .args .n) (c .before .loop .x) (s .pre) (c .loop-test .taken)
-
-of-switch-requires : tie.Need-of-switch-requires Inv-loop μ-loop
-of-switch-requires c κs =
-    let l = c .before .before in
-    let s = l .before .before in
-    ap length (c .line-at .ensures) ∙ line-length (s .args .page .now) (l .loop .x) (lines-fewer (s .args .page .now) (s .args .n) (l .loop .x) (s .pre) (c .before .loop-test .taken))
 
 -- what the test of the next line comes to
 told : (c : tie.After-of-switch Inv-loop μ-loop) → ofSwitch (lineAt (c .before .before .before .before .before .args .page .now) (c .before .before .before .loop .x)) (c .before .before .before .loop .x) ≡ c .of-switch .result
@@ -47,11 +32,10 @@ loop-again c =
     let page = i .before .before .before .args .page .now in
     (omega (arith, i .loop-test .taken), upto {P = λ k. ofSwitch (lineAt page k) k ≡ true} (i .before .loop .inv .1) (told (c .before) ∙ not-false _ (c .if1 .left)))
 
-returns-2 : tie.Need-returns-2 Inv-loop μ-loop
-returns-2 c =
-    let l = c .before in
-    sym (every-true _ _ (λ k h. l .loop .inv .1 k (omega (arith, c .loop-test .left))))
-
 pub rising-spec : {M : Type 1} → statement M
 rising-spec =
-    tie.close (tie.spec Inv-loop μ-loop loop-holds line-at-requires of-switch-requires returns (λ c. omega arith) (λ c. omega arith) loop-again returns-2)
+    tie.close (tie.spec Inv-loop μ-loop (λ c. (omega arith, λ k h. absurd (omega arith)))
+    (λ c κs. let s = c .before .before .before in lines-fewer (s .args .page .now) (s .args .n) (c .before .loop .x) (s .pre) (c .loop-test .taken))
+    (λ c κs. let i = c .before in line-there _ _ (i .before .loop .x) _ (i .before .before .before .pre) (i .loop-test .taken) (c .line-at .ensures))
+    returns (λ c. omega arith) (λ c. omega arith) loop-again
+    (λ c. sym (every-true _ _ (λ k h. c .before .loop .inv .1 k (omega (arith, c .loop-test .left))))))

@@ -6,7 +6,7 @@ use borrow.Author.Needs.{needs}
 use lib.ListN.{length}
 use Rattle.text.proofs.LaidLaws.{laid-same, laid-then}
 use Rattle.sheet.specs.Columns.{switchColumns, rulesColumns, linksColumns, lineColumns}
-use Rattle.sheet.specs.Inner.{numbersOf}
+use Rattle.sheet.specs.Numbers.{numbersOf}
 use Rattle.sheet.proofs.Page.{field-size, numbers-size}
 use Rattle.sheet.proofs.put_numbers.Statement.{statement}
 use Rattle.sheet.proofs.put_numbers.Tie as tie

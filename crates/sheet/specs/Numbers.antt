@@ -1,4 +1,4 @@
--- Inner: what the functions of a line promise each other. Assumes nothing.
+-- Inner: the two numbers of a line and what comes after them, as the writer lays them. Assumes nothing.
 use mathlib.Core.List.{List, [], _∷_, _++_}
 use Prim.Native.Nat.{ℕ, _-_}
 use Rattle.text.specs.Decimal.{decimal}
