@@ -198,7 +198,7 @@ pub fn link_named(listing: &[u8], switch: u8, trail: &[u16], search: Search) -> 
             Named::Link(order.link[usize::from(place) - 1])
         }
         Search::AllUp => Named::None,
-        Search::Checking(_) | Search::Halving(..) => Named::Open,
+        Search::Checking(..) | Search::Halving(..) => Named::Open,
     })
 }
 
@@ -209,21 +209,24 @@ pub fn new_search(listing: &[u8], switch: u8) -> Answer<Search> {
     Ok(Search::new(net.plant.links))
 }
 
-/// Performs a list of calls from a new search: 0 asks, 1 gives home, any
-/// other byte gives lost. Returns the last state and the number of probes,
-/// that of the accepted fates; refusals 1 to 9, 11.
-pub fn perform(listing: &[u8], switch: u8, calls: &[u8]) -> Answer<(Search, usize)> {
+/// Performs a list of calls from a new search: 0 asks, 1 gives returned, any
+/// other byte gives lost. Returns the last state, the number of probes, that
+/// of those counted as home or lost, and the number of packets, that of the
+/// accepted outcomes; refusals 1 to 9, 11.
+pub fn perform(listing: &[u8], switch: u8, calls: &[u8]) -> Answer<(Search, usize, usize)> {
     let mut state = new_search(listing, switch)?;
-    let mut probes = 0;
+    let (mut probes, mut packets) = (0, 0);
     for call in calls {
         if *call != 0 {
             if let Ok(next) = state.give(*call == 1) {
                 state = next;
-                probes += 1;
+                packets += 1;
+                // A loss that counts no probe yet stays in the state.
+                probes += usize::from(next.lost() == 0);
             }
         }
     }
-    Ok((state, probes))
+    Ok((state, probes, packets))
 }
 
 /// Reads a listing and writes its plant's listing to the front of the buffer;

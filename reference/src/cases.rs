@@ -95,8 +95,8 @@ impl std::fmt::Display for Sum {
 impl std::fmt::Display for Search {
     fn fmt(&self, f: &mut std::fmt::Formatter) -> std::fmt::Result {
         match self {
-            Search::Checking(count) => write!(f, "Checking {count}"),
-            Search::Halving(low, high) => write!(f, "Halving {low} {high}"),
+            Search::Checking(count, lost) => write!(f, "Checking {count} {lost}"),
+            Search::Halving(low, high, lost) => write!(f, "Halving {low} {high} {lost}"),
             Search::AllUp => write!(f, "AllUp"),
             Search::Down(place) => write!(f, "Down {place}"),
         }
@@ -187,11 +187,11 @@ impl<'a> Input<'a> {
     fn search(&mut self) -> Result<Search, Malformed> {
         let at = self.at;
         let (kind, a, b) = (self.byte()?, self.word()?, self.word()?);
-        match (kind, a, b) {
-            (0, count, 0) => Ok(Search::Checking(count)),
-            (1, low, high) => Ok(Search::Halving(low, high)),
-            (2, 0, 0) => Ok(Search::AllUp),
-            (3, place, 0) => Ok(Search::Down(place)),
+        match (kind, a, b, self.byte()?) {
+            (0, count, 0, lost) => Ok(Search::Checking(count, lost)),
+            (1, low, high, lost) => Ok(Search::Halving(low, high, lost)),
+            (2, 0, 0, 0) => Ok(Search::AllUp),
+            (3, place, 0, 0) => Ok(Search::Down(place)),
             _ => Err(Malformed(at)),
         }
     }
@@ -375,8 +375,9 @@ impl Answerer {
             }
             16 => {
                 let (listing, switch) = (input.string()?, input.byte()?);
-                calls::perform(listing, switch, input.string()?)
-                    .map(|(search, probes)| put(format_args!("{search} {probes}")))
+                calls::perform(listing, switch, input.string()?).map(|(search, probes, packets)| {
+                    put(format_args!("{search} {probes} {packets}"))
+                })
             }
             17 => calls::quantity(input.word()?, input.byte()?)
                 .map(|number| put(format_args!("{number}"))),
@@ -477,12 +478,13 @@ impl Case {
 
     pub fn search(self, search: Search) -> Case {
         let (kind, a, b) = match search {
-            Search::Checking(count) => (0, count, 0),
-            Search::Halving(low, high) => (1, low, high),
+            Search::Checking(count, _) => (0, count, 0),
+            Search::Halving(low, high, _) => (1, low, high),
             Search::AllUp => (2, 0, 0),
             Search::Down(place) => (3, place, 0),
         };
-        self.byte(kind).word(usize::from(a)).word(usize::from(b))
+        let numbers = self.byte(kind).word(usize::from(a)).word(usize::from(b));
+        numbers.byte(search.lost())
     }
 
     /// A plant value of which only the first `given` link places are told.

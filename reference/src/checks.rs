@@ -9,7 +9,7 @@ use crate::net::{BySwitch, Net};
 use crate::packet::{self, Fate, Order, Run};
 use crate::page::{self, Counts};
 use crate::plant::{Link, Plant, Refusal};
-use crate::search::{quantity, Search, ALLOWANCE};
+use crate::search::{quantity, Search, ALLOWANCE, SENDINGS};
 use crate::trail::{distances, Trail};
 
 fn number<T>(answer: Result<T, Refusal>) -> u8 {
@@ -115,17 +115,20 @@ fn marked_rules_by_switch() {
 #[test]
 fn marked_probes() {
     // One link takes one probe, three take at most three.
-    for calls in [[0, 1], [1, 0], [2, 0]] {
-        assert_eq!(calls::perform(ONE_LINK, 0, &calls).unwrap().1, 1);
+    for calls in [&[0, 1][..], &[1, 0], &[2, 2, 2, 0], &[2, 2, 1]] {
+        assert_eq!(calls::perform(ONE_LINK, 0, calls).unwrap().1, 1);
     }
-    assert_eq!(calls::perform(ONE_LINK, 0, &[2]), Ok((Search::Down(1), 1)));
+    let lost = &[2; 9];
+    let performed = |listing, calls| calls::perform(listing, 0, calls);
+    assert_eq!(performed(ONE_LINK, &lost[..3]), Ok((Search::Down(1), 1, 3)));
+    assert_eq!(performed(PARALLEL, lost), Ok((Search::Down(1), 3, 9)));
     for first in [1, 2] {
         for second in [1, 2] {
             for third in [1, 2] {
-                let list = [first, second, third, 1, 2];
-                let (state, probes) = calls::perform(PARALLEL, 1, &list).unwrap();
+                let list = [first, second, third].map(|call| [call; 3]).concat();
+                let (state, probes, packets) = calls::perform(PARALLEL, 1, &list).unwrap();
                 assert!(matches!(state, Search::AllUp | Search::Down(_)));
-                assert!(probes <= 3);
+                assert!(probes <= 3 && packets <= 9);
             }
         }
     }
@@ -691,15 +694,15 @@ fn runs_by_hand() {
     assert_eq!(check(1, &[1, 1, 0]), Ok(lost(1, 2)));
     assert_eq!(check(1, &[0, 1, 1]), Ok(lost(2, 0)));
     // From switch 1, probe 1 goes 2 3, probe 2 goes 2 4 5 3.
-    let (one, two) = (Search::Halving(1, 2), Search::Halving(1, 3));
+    let (one, two) = (Search::Halving(1, 2, 0), Search::Halving(1, 3, 0));
     let probe = |states: &[u8], state| calls::run_probe(TRIANGLE, 1, &trail, states, state);
     assert_eq!(probe(&[0, 1, 0], one), Ok(ended(2, 1)));
     assert_eq!(probe(&[1, 0, 1], one), Ok(lost(0, 1)));
     assert_eq!(probe(&[0, 1, 1], two), Ok(ended(4, 1)));
     assert_eq!(probe(&[1, 1, 0], two), Ok(lost(1, 2)));
     assert_eq!(probe(&[1, 0, 0], two), Ok(lost(0, 1)));
-    assert_eq!(probe(up, Search::Checking(3)), Ok(ended(3, 1)));
-    assert_eq!(probe(&[0, 1, 1], Search::Checking(3)), Ok(lost(2, 0)));
+    assert_eq!(probe(up, Search::Checking(3, 0)), Ok(ended(3, 1)));
+    assert_eq!(probe(&[0, 1, 1], Search::Checking(3, 0)), Ok(lost(2, 0)));
     // The two-way fate.
     assert_eq!(ended(0, 2).fate(), Fate::Home);
     assert_eq!(lost(0, 2).fate(), Fate::Lost);
@@ -845,10 +848,12 @@ fn runs_from_every_switch() {
             assert!(!run.ended || run.last == switch);
 
             for m in 1..=links {
+                // Whatever is lost so far.
+                let lost = chance.below(3) as u8;
                 let state = if m == links {
-                    Search::Checking(links as u16)
+                    Search::Checking(links as u16, lost)
                 } else {
-                    Search::Halving(m as u16, m as u16 + 1)
+                    Search::Halving(m as u16, m as u16 + 1, lost)
                 };
                 let probe =
                     calls::run_probe(&listing, switch as u8, &trail, &states, state).unwrap();
@@ -927,9 +932,12 @@ fn probes_and_first_broken_link() {
                 assert_eq!(run.fate(), fate(first.is_none_or(|first| first >= m)));
             }
 
-            // A search with true fates names the first broken link.
+            // A search names the first broken link, though packets vanish that
+            // the packet rule brings back: at most two in a row.
             let mut state = calls::new_search(&listing, switch as u8).unwrap();
+            let vanish = chance.of(&[0, 30, 60, 100]);
             let mut list = Vec::new();
+            let (mut probes, mut row) = (0, 0);
             while let Ok(m) = state.ask() {
                 assert!((1..=links).contains(&usize::from(m)));
                 assert_eq!(
@@ -941,8 +949,11 @@ fn probes_and_first_broken_link() {
                 assert_eq!((one, two), wanted);
                 let run = calls::run_probe(&listing, switch as u8, &trail, &states, state).unwrap();
                 let home = run.fate() == Fate::Home;
-                state = state.give(home).unwrap();
-                list.extend([0, if home { 1 } else { 2 }]);
+                let returned = home && (row == 2 || !chance.percent(vanish));
+                row = if returned { 0 } else { (row + 1) % 3 };
+                probes += usize::from(row == 0);
+                state = state.give(returned).unwrap();
+                list.extend([0, if returned { 1 } else { 2 }]);
             }
             let named = calls::link_named(&listing, switch as u8, &trail, state).unwrap();
             match first {
@@ -955,30 +966,43 @@ fn probes_and_first_broken_link() {
                     assert_eq!(named, Named::Link(order[first] as u16));
                 }
             }
-            let probes = list.len() / 2;
+            let packets = list.len() / 2;
             assert!(probes <= 1 + usize::from(ALLOWANCE[links]));
+            assert!(packets <= 3 * probes);
             // Calls after its end are refused and change nothing.
             list.extend([0, 1, 2]);
             assert_eq!(
                 calls::perform(&listing, switch as u8, &list),
-                Ok((state, probes))
+                Ok((state, probes, packets))
             );
         }
     }
 }
 
+/// Every first broken link of every number of links, with none, one and two
+/// losses before each return.
 #[test]
 fn every_search_ends_in_time() {
     for (links, allowance) in ALLOWANCE.iter().enumerate().skip(1) {
         for first in 0..=links {
+            let before = (links + first) % 3;
             let mut state = Search::new(links as u16);
-            let mut probes = 0;
+            let (mut probes, mut packets) = (0, 0);
             while let Ok(m) = state.ask() {
-                state = state.give(usize::from(m) <= first).unwrap();
+                let home = usize::from(m) <= first;
+                let lost = if home { before } else { 2 };
+                for number in 1..=lost {
+                    state = state.give(false).unwrap();
+                    assert_eq!((state.ask(), usize::from(state.lost())), (Ok(m), number));
+                }
+                state = state.give(home).unwrap();
                 assert!(state.check_for(links as u16).is_ok());
+                assert_eq!(state.lost(), 0);
                 probes += 1;
+                packets += lost + 1;
             }
             assert!(probes <= 1 + allowance);
+            assert!(packets <= 3 * (1 + usize::from(*allowance)));
             let end = if first == links {
                 Search::AllUp
             } else {
@@ -992,38 +1016,346 @@ fn every_search_ends_in_time() {
 #[test]
 fn search_states() {
     let bad = [
-        Search::Checking(0),
-        Search::Checking(257),
+        Search::Checking(0, 0),
+        Search::Checking(257, 0),
         Search::Down(0),
         Search::Down(257),
-        Search::Halving(0, 2),
-        Search::Halving(2, 2),
-        Search::Halving(3, 2),
-        Search::Halving(1, 257),
-        Search::Halving(65535, 65535),
+        Search::Halving(0, 2, 0),
+        Search::Halving(2, 2, 0),
+        Search::Halving(3, 2, 0),
+        Search::Halving(1, 257, 0),
+        Search::Halving(65535, 65535, 0),
     ];
     for state in bad {
-        assert_eq!(state.ask(), Err(Refusal::SearchUnsound));
-        assert_eq!(state.give(true), Err(Refusal::SearchUnsound));
-        assert_eq!(state.check_for(256), Err(Refusal::SearchUnsound));
+        for lost in [0, 1, 2, 3, 255] {
+            let state = state.having_lost(lost);
+            assert_eq!(state.ask(), Err(Refusal::SearchUnsound));
+            assert_eq!(state.give(true), Err(Refusal::SearchUnsound));
+            assert_eq!(state.give(false), Err(Refusal::SearchUnsound));
+            assert_eq!(state.check_for(256), Err(Refusal::SearchUnsound));
+        }
     }
     for state in [Search::AllUp, Search::Down(1), Search::Down(256)] {
         assert_eq!(state.ask(), Err(Refusal::SearchEnded));
+        assert_eq!(state.give(true), Err(Refusal::SearchEnded));
         assert_eq!(state.give(false), Err(Refusal::SearchEnded));
+        assert_eq!((state.lost(), state.having_lost(255)), (0, state));
     }
     for state in [
-        Search::Checking(3),
-        Search::Checking(5),
-        Search::Halving(1, 5),
+        Search::Checking(3, 0),
+        Search::Checking(5, 0),
+        Search::Halving(1, 5, 0),
         Search::Down(5),
     ] {
         assert_eq!(state.check_for(4), Err(Refusal::SearchUnsound));
     }
-    assert_eq!(Search::Checking(1).give(false), Ok(Search::Down(1)));
-    assert_eq!(Search::Checking(3).give(false), Ok(Search::Halving(1, 3)));
-    assert_eq!(Search::Halving(1, 3).ask(), Ok(2));
-    assert_eq!(Search::Halving(1, 3).give(true), Ok(Search::Down(3)));
-    assert_eq!(Search::Halving(1, 3).give(false), Ok(Search::Halving(1, 2)));
+    for lost in 0..SENDINGS {
+        let (checking, halving) = (Search::Checking(3, lost), Search::Halving(1, 3, lost));
+        assert_eq!((checking.ask(), halving.ask()), (Ok(3), Ok(2)));
+        assert_eq!(checking.give(true), Ok(Search::AllUp));
+        assert_eq!(halving.give(true), Ok(Search::Down(3)));
+        assert_eq!(
+            Search::Halving(1, 9, lost).give(true),
+            Ok(Search::Halving(6, 9, 0))
+        );
+    }
+    assert_eq!(Search::new(0), Search::AllUp);
+    assert_eq!(Search::new(256), Search::Checking(256, 0));
+}
+
+/// The states that losses alone lead to.
+#[test]
+fn rows_of_losses() {
+    let rows: [&[Search]; 3] = [
+        &[
+            Search::Checking(1, 0),
+            Search::Checking(1, 1),
+            Search::Checking(1, 2),
+            Search::Down(1),
+        ],
+        &[
+            Search::Checking(3, 0),
+            Search::Checking(3, 1),
+            Search::Checking(3, 2),
+            Search::Halving(1, 3, 0),
+            Search::Halving(1, 3, 1),
+            Search::Halving(1, 3, 2),
+            Search::Halving(1, 2, 0),
+            Search::Halving(1, 2, 1),
+            Search::Halving(1, 2, 2),
+            Search::Down(1),
+        ],
+        &[
+            Search::Halving(255, 256, 0),
+            Search::Halving(255, 256, 1),
+            Search::Halving(255, 256, 2),
+            Search::Down(255),
+        ],
+    ];
+    for row in rows {
+        for pair in row.windows(2) {
+            assert_eq!(pair[0].give(false), Ok(pair[1]), "{:?}", pair[0]);
+        }
+    }
+    // Every state that is sound but for the number of sendings.
+    for (high, lost) in (1..=256).flat_map(|high| [0, 1, 2, 3, 255].map(|lost| (high, lost))) {
+        let next = |checking: Search, counted: Search| match lost {
+            0 | 1 => Ok(checking.having_lost(lost + 1)),
+            2 => Ok(counted),
+            _ => Err(Refusal::SearchUnsound),
+        };
+        let down = |low, high| match low == high {
+            true => Search::Down(low),
+            false => Search::Halving(low, high, 0),
+        };
+        let state = Search::Checking(high, lost);
+        assert_eq!(state.give(false), next(state, down(1, high)));
+        for low in 1..high {
+            let state = Search::Halving(low, high, lost);
+            assert_eq!(state.give(false), next(state, down(low, (low + high) / 2)));
+        }
+    }
+}
+
+/// A search restated over the list of its accepted outcomes: the m that each
+/// was given for, and whether it is returned.
+struct History {
+    links: u16,
+    accepted: Vec<(u16, bool)>,
+}
+
+impl History {
+    /// The outcomes given for m.
+    fn of(&self, m: u16) -> Vec<bool> {
+        let given = self.accepted.iter().filter(|(of, _)| *of == m);
+        given.map(|(_, returned)| *returned).collect()
+    }
+
+    /// The probes counted as home, or as lost.
+    fn counted(&self, home: bool) -> Vec<u16> {
+        (1..=self.links)
+            .filter(|m| {
+                let given = self.of(*m);
+                if home {
+                    given.contains(&true)
+                } else {
+                    given == [false; 3]
+                }
+            })
+            .collect()
+    }
+
+    /// How many probes are counted.
+    fn probes(&self) -> usize {
+        self.counted(true).len() + self.counted(false).len()
+    }
+
+    /// The links between which the first broken one is, if not all are up: from
+    /// past the last probe home to the first one lost. None if no probe is
+    /// counted or the full check is home.
+    fn bounds(&self) -> Option<(u16, u16)> {
+        let low = self.counted(true).last().map_or(1, |m| m + 1);
+        let high = *self.counted(false).first()?;
+        Some((low, high))
+    }
+
+    /// The probe wanted next, if the search has not ended.
+    fn wanted(&self) -> Option<u16> {
+        match self.bounds() {
+            Some((low, high)) => (low < high).then_some((low + high) / 2),
+            None => (self.probes() == 0).then_some(self.links),
+        }
+    }
+
+    /// The state that the search is in.
+    fn state(&self) -> Search {
+        let lost = |m: u16| self.of(m).len() as u8;
+        match (self.bounds(), self.wanted()) {
+            (Some((low, high)), Some(m)) => Search::Halving(low, high, lost(m)),
+            (Some((low, _)), None) => Search::Down(low),
+            (None, Some(m)) => Search::Checking(m, lost(m)),
+            (None, None) => Search::AllUp,
+        }
+    }
+
+    /// The first premise, for a first broken link at a place, past the last
+    /// one if none is broken: what is returned is what the packet rule brings
+    /// back.
+    fn is_true(&self, first: u16) -> bool {
+        self.accepted
+            .iter()
+            .all(|(m, returned)| !returned || *m < first)
+    }
+
+    /// The second premise: of three outcomes in a row for one probe that the
+    /// packet rule brings back, one is returned.
+    fn one_of_three(&self, first: u16) -> bool {
+        self.accepted.windows(3).all(|three| {
+            let m = three[0].0;
+            let one_probe = three.iter().all(|(of, _)| *of == m);
+            !one_probe || m >= first || three.iter().any(|(_, returned)| *returned)
+        })
+    }
+
+    /// What holds of any list, and what a list says of the links.
+    fn check(&self) {
+        let end = self.state();
+        let has_ended = self.wanted().is_none();
+        // The least k with 2^k at least E, and the full check.
+        let limit = 1 + (0..).find(|k| 1 << k >= self.links).unwrap();
+        assert!(self.probes() <= limit);
+        assert!(self.accepted.len() <= 3 * limit);
+        assert!(has_ended || self.probes() < limit);
+        assert!(self.accepted.len() <= 3 * self.probes() + 2);
+        assert!((1..=self.links).all(|m| self.of(m).len() <= 3));
+        for first in 1..=self.links + 1 {
+            let verdict = if first > self.links {
+                Search::AllUp
+            } else {
+                Search::Down(first)
+            };
+            if self.is_true(first) && end == Search::AllUp {
+                assert_eq!(end, verdict);
+            }
+            if has_ended && self.is_true(first) && self.one_of_three(first) {
+                assert_eq!(end, verdict);
+            }
+        }
+    }
+}
+
+/// Gives every list of so many more outcomes, and holds each front of it to the
+/// restatement.
+fn every_list(history: &mut History, state: Search, list: &mut Vec<u8>, more: usize) {
+    assert_eq!(state, history.state());
+    assert_eq!(state.ask().ok(), history.wanted());
+    history.check();
+    let listing = make::listing_of(&make::bundle(usize::from(history.links)).plain());
+    let performed = calls::perform(&listing, 0, list);
+    let packets = history.accepted.len();
+    assert_eq!(performed, Ok((state, history.probes(), packets)));
+    if more == 0 {
+        return;
+    }
+    for returned in [false, true] {
+        // A call for the probe now and then; losses by several bytes.
+        let asks = usize::from((list.len() + more) % 3 == 1);
+        let loss = [2, 3, 128, 255][list.len() % 4];
+        let length = list.len();
+        list.extend(vec![0; asks]);
+        list.push(if returned { 1 } else { loss });
+        let given = state.give(returned);
+        assert_eq!(given.is_ok(), history.wanted().is_some());
+        if let (Ok(next), Some(m)) = (given, history.wanted()) {
+            history.accepted.push((m, returned));
+            every_list(history, next, list, more - 1);
+            history.accepted.pop();
+        } else {
+            // Refused: the state stays as it is.
+            every_list(history, state, list, (more - 1).min(1));
+        }
+        list.truncate(length);
+    }
+}
+
+#[test]
+fn every_list_of_outcomes() {
+    for links in 1..=9 {
+        let mut history = History {
+            links,
+            accepted: Vec::new(),
+        };
+        // Two more than any search takes.
+        let longest = 3 * (1 + usize::from(ALLOWANCE[usize::from(links)])) + 2;
+        every_list(&mut history, Search::new(links), &mut Vec::new(), longest);
+    }
+}
+
+/// Lists drawn by chance, for any number of links.
+#[test]
+fn some_lists_of_outcomes() {
+    let mut chance = Chance::new(16);
+    for _ in 0..400 {
+        let links = chance.within(1, Plant::MAX_LINKS) as u16;
+        let mut history = History {
+            links,
+            accepted: Vec::new(),
+        };
+        let mut state = Search::new(links);
+        let returns = chance.of(&[10, 30, 50]);
+        while let Some(m) = history.wanted() {
+            assert_eq!(state, history.state());
+            let returned = state.ask() != Ok(links) && chance.percent(returns);
+            history.accepted.push((m, returned));
+            state = state.give(returned).unwrap();
+        }
+        assert_eq!(state, history.state());
+        history.check();
+    }
+}
+
+/// Three losses in a row of one probe over sound links, and true fates else:
+/// the search names a link that comes before the first broken one.
+#[test]
+fn second_premise_broken() {
+    for links in 1..=20 {
+        for first in 1..=links + 1 {
+            for spoilt in 1..first {
+                let mut history = History {
+                    links,
+                    accepted: Vec::new(),
+                };
+                let mut state = Search::new(links);
+                while let Ok(m) = state.ask() {
+                    let returned = m < first && m != spoilt;
+                    history.accepted.push((m, returned));
+                    state = state.give(returned).unwrap();
+                }
+                assert!(history.is_true(first));
+                let is_sent = !history.of(spoilt).is_empty();
+                assert_eq!(history.one_of_three(first), !is_sent);
+                match state {
+                    Search::Down(place) if is_sent => assert!(place <= spoilt),
+                    Search::Down(place) => assert_eq!(place, first),
+                    _ => assert!(first > links && !is_sent),
+                }
+            }
+        }
+    }
+}
+
+#[test]
+fn sendings_refused() {
+    let trail = trail_vec(TRIANGLE);
+    let (few, enough) = ([1, 1], [1, 1, 1]);
+    for state in [Search::Checking(3, 0), Search::Halving(1, 3, 0)] {
+        for lost in 0..=255 {
+            let state = state.having_lost(lost);
+            let refusal = if lost > 2 { 14 } else { 0 };
+            assert_eq!(number(state.check()), refusal);
+            assert_eq!(number(state.check_for(3)), refusal);
+            assert_eq!(number(state.ask()), refusal);
+            assert_eq!(number(state.give(true)), refusal);
+            assert_eq!(number(state.give(false)), refusal);
+            let outward = |switch, trail| calls::outward(TRIANGLE, switch, trail, state);
+            let probe =
+                |switch, trail, states| calls::run_probe(TRIANGLE, switch, trail, states, state);
+            let named = |switch, trail| calls::link_named(TRIANGLE, switch, trail, state);
+            assert_eq!(number(outward(1, &trail)), refusal);
+            assert_eq!(number(probe(1, &trail, &enough)), refusal);
+            assert_eq!(number(named(1, &trail)), refusal);
+            // Earlier refusals go first.
+            for (switch, hops, refusal) in [(3, 2, 11), (1, 2, 12)] {
+                let trail = &trail[..hops];
+                assert_eq!(number(outward(switch, trail)), refusal);
+                assert_eq!(number(probe(switch, trail, &few)), refusal);
+                assert_eq!(number(named(switch, trail)), refusal);
+            }
+            assert_eq!(number(probe(1, &trail, &few)), 13);
+            let apart = calls::link_named(&[1, 64], 64, &trail, state);
+            assert_eq!(number(apart), 9);
+        }
+    }
 }
 
 #[test]
@@ -1031,7 +1363,7 @@ fn refusals_in_order() {
     let trail = trail_vec(TRIANGLE);
     let wrong = [0, 2, 5];
     let (few, enough) = ([1, 1], [1, 1, 1]);
-    let (bad, over) = (Search::Checking(2), Search::Down(1));
+    let (bad, over) = (Search::Checking(2, 0), Search::Down(1));
     let probe = |listing: &[u8], switch, trail: &[u16], states: &[u8], state| {
         number(calls::run_probe(listing, switch, trail, states, state))
     };
@@ -1041,7 +1373,7 @@ fn refusals_in_order() {
     assert_eq!(probe(TRIANGLE, 2, &trail, &few, bad), 13);
     assert_eq!(probe(TRIANGLE, 2, &trail, &enough, bad), 14);
     assert_eq!(probe(TRIANGLE, 2, &trail, &enough, over), 15);
-    let go = Search::Checking(3);
+    let go = Search::Checking(3, 0);
     assert_eq!(probe(TRIANGLE, 2, &trail, &enough, go), 0);
     assert_eq!(number(calls::run(TRIANGLE, 3, &[], &few)), 11);
     assert_eq!(number(calls::run(TRIANGLE, 0, &[], &few)), 13);
@@ -1060,7 +1392,7 @@ fn refusals_in_order() {
     assert_eq!(calls::new_search(&[0], 0), Ok(Search::AllUp));
     assert_eq!(calls::full_check(&[0], 0, &[], &[]), Ok(ended(0, 0)));
     assert_eq!(probe(&[0], 0, &[], &[], Search::AllUp), 15);
-    assert_eq!(probe(&[0], 0, &[], &[], Search::Checking(0)), 14);
+    assert_eq!(probe(&[0], 0, &[], &[], Search::Checking(0, 0)), 14);
 }
 
 /// The reader restated: of each part, the set of refusals that hold.
@@ -1802,33 +2134,66 @@ fn case_lines() {
         (at(8).string(&[1, 2, 255]), "returned 3 1".into()),
         (at(8).string(&[0, 1, 1]), "lost 2 0".into()),
         (at(9), sum(&[1, 2, 0])),
-        (at(10).search(Search::Checking(3)), sum(&[2, 4, 0])),
-        (at(10).search(Search::Halving(1, 3)), sum(&[2, 4])),
+        (at(10).search(Search::Checking(3, 2)), sum(&[2, 4, 0])),
+        (at(10).search(Search::Halving(1, 3, 0)), sum(&[2, 4])),
+        (at(10).search(Search::Halving(1, 3, 3)), "refused 14".into()),
         (
-            at(11).string(&[0, 1, 1]).search(Search::Halving(1, 3)),
+            at(11).string(&[0, 1, 1]).search(Search::Halving(1, 3, 0)),
             "returned 4 1".into(),
         ),
         (
-            at(11).string(&[1, 1, 0]).search(Search::Halving(1, 3)),
+            at(11).string(&[1, 1, 0]).search(Search::Halving(1, 3, 1)),
             "lost 1 2".into(),
+        ),
+        (
+            at(11).string(&[1; 3]).search(Search::Checking(3, 255)),
+            "refused 14".into(),
         ),
         (at(12).search(Search::Down(3)), "link 0".into()),
         (at(12).search(Search::AllUp), "none".into()),
-        (at(12).search(Search::Halving(2, 3)), "open".into()),
+        (at(12).search(Search::Halving(2, 3, 2)), "open".into()),
+        (at(12).search(Search::Halving(2, 3, 3)), "refused 14".into()),
         (at(12).search(Search::Down(4)), "refused 14".into()),
-        (on(13).byte(2), "Checking 3".into()),
+        (on(13).byte(2), "Checking 3 0".into()),
         (Case::new(13).string(&[0]).byte(0), "AllUp".into()),
-        (Case::new(14).search(Search::Halving(1, 4)), "2".into()),
+        (Case::new(14).search(Search::Halving(1, 4, 1)), "2".into()),
         (
-            Case::new(15).search(Search::Checking(9)).byte(0),
-            "Halving 1 9".into(),
+            Case::new(14).search(Search::Halving(1, 4, 3)),
+            "refused 14".into(),
         ),
         (
-            Case::new(15).search(Search::Checking(9)).byte(7),
+            Case::new(15).search(Search::Checking(9, 0)).byte(0),
+            "Checking 9 1".into(),
+        ),
+        (
+            Case::new(15).search(Search::Checking(9, 2)).byte(0),
+            "Halving 1 9 0".into(),
+        ),
+        (
+            Case::new(15).search(Search::Halving(1, 9, 1)).byte(0),
+            "Halving 1 9 2".into(),
+        ),
+        (
+            Case::new(15).search(Search::Checking(9, 2)).byte(7),
             "AllUp".into(),
         ),
-        (on(16).byte(0).string(&[0, 2, 1, 1]), "Down 3 2".into()),
-        (on(16).byte(0).string(&[]), "Checking 3 0".into()),
+        (
+            Case::new(15).search(Search::Checking(9, 3)).byte(7),
+            "refused 14".into(),
+        ),
+        (
+            on(16).byte(0).string(&[0, 2, 2, 2, 1, 1]),
+            "Down 3 2 4".into(),
+        ),
+        (on(16).byte(0).string(&[]), "Checking 3 0 0 0".into()),
+        (
+            on(16).byte(0).string(&[2, 3, 0, 255, 2, 2]),
+            "Halving 1 3 2 1 5".into(),
+        ),
+        (
+            Case::new(16).string(ONE_LINK).byte(1).string(&[2; 4]),
+            "Down 1 1 3".into(),
+        ),
         (Case::new(17).word(5).byte(10), "6".into()),
         (Case::new(17).word(5).byte(101), "refused 17".into()),
         (on(18).word(14), format!("12 {}", sum(&written))),
@@ -1900,6 +2265,33 @@ fn case_lines() {
     ];
     for (case, answer) in cases {
         assert_eq!(line(&case), answer + "\n", "{:?}", case.bytes);
+    }
+}
+
+/// A search takes six bytes, of which those that it does not use are 0.
+#[test]
+fn search_bytes() {
+    let bytes = |search| Case::new(14).search(search).bytes;
+    assert_eq!(bytes(Search::Checking(256, 2)), [14, 0, 0, 1, 0, 0, 2]);
+    assert_eq!(bytes(Search::Halving(3, 258, 9)), [14, 1, 3, 0, 2, 1, 9]);
+    assert_eq!(bytes(Search::AllUp), [14, 2, 0, 0, 0, 0, 0]);
+    assert_eq!(bytes(Search::Down(7)), [14, 3, 7, 0, 0, 0, 0]);
+    let answered = |bytes: &[u8]| {
+        Answerer::default()
+            .answer(bytes, 0, &mut Vec::new())
+            .is_ok()
+    };
+    assert!(answered(&[14, 0, 0, 1, 0, 0, 255]));
+    for malformed in [
+        &[14, 0, 1, 0, 1, 0, 0][..],
+        &[14, 2, 0, 0, 0, 0, 1],
+        &[14, 2, 1, 0, 0, 0, 0],
+        &[14, 3, 1, 0, 0, 0, 1],
+        &[14, 3, 1, 0, 1, 0, 0],
+        &[14, 4, 1, 0, 0, 0, 0],
+        &[14, 0, 1, 0, 0, 0],
+    ] {
+        assert!(!answered(malformed), "{malformed:?}");
     }
 }
 

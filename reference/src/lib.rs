@@ -1,5 +1,5 @@
 //! Second implementation of the network planner, made from document 01, orders
-//! 1 to 3 of document 02 and a list of calls.
+//! 1 to 4 of document 02 and a list of calls.
 //!
 //! - [`plant`]: plant values, their limits and the refusals;
 //! - [`listing`]: the listing's reader and writer;

@@ -7,10 +7,10 @@ use reference::calls;
 use reference::cases::{Answerer, Case, NAMES};
 use reference::make::{self, Chance, Draft, Sketch};
 use reference::net::Net;
-use reference::packet::{self, Order};
+use reference::packet::{self, Fate, Order};
 use reference::page::{self, Counts};
 use reference::plant::Plant;
-use reference::search::Search;
+use reference::search::{Search, SENDINGS};
 use reference::trail::Trail;
 use std::fs::File;
 use std::io::{self, BufWriter, Write};
@@ -20,14 +20,15 @@ use std::process::ExitCode;
 const SEED: u64 = 1;
 /// The first cases are of every call but the long run, the rules by switch and
 /// the pages, those after them of packet runs alone, the next of rules by
-/// switch alone, of pages written alone and of pages read alone, and any more
-/// are of all five kinds.
+/// switch alone, of pages written alone, of pages read alone and of searches
+/// alone, and any more are of all six kinds.
 const FIRST: usize = 18_000;
 const RUNS: usize = 1_000;
 const BY_SWITCH: usize = 1_000;
 const WRITTEN: usize = 500;
 const READ: usize = 1_000;
-const COUNT: usize = FIRST + RUNS + BY_SWITCH + WRITTEN + READ;
+const SEARCHES: usize = 1_000;
+const COUNT: usize = FIRST + RUNS + BY_SWITCH + WRITTEN + READ + SEARCHES;
 
 /// The highest number of a refusal.
 const REFUSALS: usize = 18;
@@ -247,13 +248,13 @@ fn right(chance: &mut Chance, links: usize, ended: usize) -> Search {
         };
     }
     if links == 1 || chance.percent(20) {
-        return Search::Checking(links);
+        return Search::Checking(links, 0);
     }
     if chance.percent(50) {
         // By the search's own steps.
-        let mut state = Search::Halving(1, links);
+        let mut state = Search::Halving(1, links, 0);
         for _ in 0..chance.below(8) {
-            match state.give(chance.percent(50)) {
+            match state.count(chance.percent(50)) {
                 Ok(next @ Search::Halving(..)) => state = next,
                 _ => break,
             }
@@ -262,7 +263,7 @@ fn right(chance: &mut Chance, links: usize, ended: usize) -> Search {
     }
     let high = chance.within(2, usize::from(links));
     let low = chance.within(1, high - 1);
-    Search::Halving(low as u16, high as u16)
+    Search::Halving(low as u16, high as u16, 0)
 }
 
 /// A search state that no plant, or not this plant, can have.
@@ -271,20 +272,20 @@ fn wrong(chance: &mut Chance, links: usize) -> Search {
     let any = chance.below(LINKS + 1) as u16;
     let links = links as u16;
     match chance.below(14) {
-        0 => Search::Checking(0),
-        1 => Search::Checking(past),
-        2 => Search::Checking(links + 1),
-        3 => Search::Checking(links.saturating_sub(1)),
-        4 => Search::Checking(any),
+        0 => Search::Checking(0, 0),
+        1 => Search::Checking(past, 0),
+        2 => Search::Checking(links + 1, 0),
+        3 => Search::Checking(links.saturating_sub(1), 0),
+        4 => Search::Checking(any, 0),
         5 => Search::Down(0),
         6 => Search::Down(past),
         7 => Search::Down(links + 1),
-        8 => Search::Halving(0, links),
-        9 => Search::Halving(links, links),
-        10 => Search::Halving(links, links.saturating_sub(1)),
-        11 => Search::Halving(1, links + 1),
-        12 => Search::Halving(chance.of(&[1, any, past]), past),
-        _ => Search::Halving(past, any),
+        8 => Search::Halving(0, links, 0),
+        9 => Search::Halving(links, links, 0),
+        10 => Search::Halving(links, links.saturating_sub(1), 0),
+        11 => Search::Halving(1, links + 1, 0),
+        12 => Search::Halving(chance.of(&[1, any, past]), past, 0),
+        _ => Search::Halving(past, any, 0),
     }
 }
 
@@ -392,7 +393,7 @@ fn written(chance: &mut Chance, call: u8) -> Case {
     Case::new(call).plant(&plant, given).word(places)
 }
 
-/// A list of calls: 0 asks, 1 gives home, any other gives lost.
+/// A list of calls: 0 asks, 1 gives returned, any other gives lost.
 fn call_list(chance: &mut Chance) -> Vec<u8> {
     let most = chance.of(&[0, 2, 6, 12, 12, 30]);
     let home = chance.of(&[0, 30, 50, 80]);
@@ -417,7 +418,8 @@ fn call_list(chance: &mut Chance) -> Vec<u8> {
     list
 }
 
-/// A list of calls with true fates, for a search that comes to its end.
+/// A list of calls with one true fate for each probe, for a search that comes
+/// to its end if each loss is given three times.
 fn true_list(chance: &mut Chance, subject: &Subject) -> Vec<u8> {
     let links = subject.links();
     let mut list = Vec::new();
@@ -430,7 +432,7 @@ fn true_list(chance: &mut Chance, subject: &Subject) -> Vec<u8> {
         // The first broken link is at place first + 1; none is, if first is E.
         let home = usize::from(m) <= first;
         list.push(if home { 1 } else { chance.of(&[2, 255]) });
-        match state.give(home) {
+        match state.count(home) {
             Ok(next) => state = next,
             Err(_) => break,
         }
@@ -439,6 +441,22 @@ fn true_list(chance: &mut Chance, subject: &Subject) -> Vec<u8> {
         list.push(chance.of(&[0, 1, 2]));
     }
     list
+}
+
+/// The list with each loss given three times, so that it counts its probe.
+fn thrice(list: &[u8]) -> Vec<u8> {
+    let each = list.iter().map(|call| match call {
+        0 | 1 => vec![*call],
+        _ => vec![*call; usize::from(SENDINGS)],
+    });
+    each.flatten().collect()
+}
+
+/// A case of an outcome given: a loss as the last of its row, so that it
+/// counts its probe.
+fn counted(state: Search, outcome: u8) -> Case {
+    let lost = if outcome == 0 { SENDINGS - 1 } else { 0 };
+    given(state.having_lost(lost), outcome)
 }
 
 fn trail_places(chance: &mut Chance, hops: usize) -> usize {
@@ -456,6 +474,25 @@ fn trail_places(chance: &mut Chance, hops: usize) -> usize {
         0,
     ]);
     places.min(Plant::MAX_HOPS)
+}
+
+/// One case of a call that is lent a trail, 8 to 12, with so many sendings
+/// lost so far, drawn by chance.
+fn drawn_lent(chance: &mut Chance, call: u8, lost: u8) -> Case {
+    let subject = lending(chance, 85);
+    let begin = switch(chance, &subject.plant);
+    let trail = lent(chance, &subject);
+    let head = Case::new(call).string(&subject.listing).byte(begin);
+    let mut case = head.labels(&trail);
+    if call == 8 || call == 11 {
+        case = case.string(&states(chance, subject.links()));
+    }
+    if call >= 10 {
+        let ended = if call == 12 { 65 } else { 10 };
+        let state = search(chance, subject.links(), ended);
+        case = case.search(state.having_lost(lost));
+    }
+    case
 }
 
 /// One case of a call, drawn by chance.
@@ -482,20 +519,7 @@ fn drawn(chance: &mut Chance, call: u8) -> Case {
                 .labels(&labels)
                 .string(&states)
         }
-        8..=12 => {
-            let subject = lending(chance, 85);
-            let begin = switch(chance, &subject.plant);
-            let trail = lent(chance, &subject);
-            let mut case = case.string(&subject.listing).byte(begin).labels(&trail);
-            if call == 8 || call == 11 {
-                case = case.string(&states(chance, subject.links()));
-            }
-            if call >= 10 {
-                let ended = if call == 12 { 65 } else { 10 };
-                case = case.search(search(chance, subject.links(), ended));
-            }
-            case
-        }
+        8..=12 => drawn_lent(chance, call, 0),
         13 => {
             let subject = subject(chance, 80);
             let begin = switch(chance, &subject.plant);
@@ -508,11 +532,10 @@ fn drawn(chance: &mut Chance, call: u8) -> Case {
             } else {
                 wrong(chance, links)
             };
-            let case = case.search(state);
             if call == 14 {
-                case
+                case.search(state)
             } else {
-                case.byte(chance.of(&[0, 0, 0, 1, 1, 2, 255]))
+                counted(state, chance.of(&[0, 0, 0, 1, 1, 2, 255]))
             }
         }
         16 => {
@@ -523,7 +546,7 @@ fn drawn(chance: &mut Chance, call: u8) -> Case {
             } else {
                 call_list(chance)
             };
-            case.string(&subject.listing).byte(begin).string(&list)
+            performed(&subject.listing, begin, &thrice(&list))
         }
         17 => {
             let rules = if chance.percent(50) {
@@ -703,7 +726,7 @@ fn fixed(chance: &mut Chance, out: &mut Out) -> io::Result<()> {
             .byte(40)
             .labels(&long.trail)
             .string(&[1; LINKS])
-            .search(Search::Halving(1, LINKS as u16)),
+            .search(Search::Halving(1, LINKS as u16, 0)),
     )?;
     out.put(
         Case::new(7)
@@ -729,24 +752,24 @@ fn fixed(chance: &mut Chance, out: &mut Out) -> io::Result<()> {
 
     // Every count and place that a search can have, and some past them.
     for number in (0..=LINKS as u16 + 2).chain([511, 512, 0x8000, 0xff00, 0xffff]) {
-        for state in [Search::Checking(number), Search::Down(number)] {
+        for state in [Search::Checking(number, 0), Search::Down(number)] {
             out.put(Case::new(14).search(state))?;
         }
         for outcome in [0, 1] {
-            out.put(Case::new(15).search(Search::Checking(number)).byte(outcome))?;
+            out.put(counted(Search::Checking(number, 0), outcome))?;
         }
     }
     for outcome in [0, 1, 2, 255] {
-        out.put(Case::new(15).search(Search::AllUp).byte(outcome))?;
-        out.put(Case::new(15).search(Search::Down(9)).byte(outcome))?;
+        out.put(counted(Search::AllUp, outcome))?;
+        out.put(counted(Search::Down(9), outcome))?;
     }
     out.put(Case::new(14).search(Search::AllUp))?;
     for high in 0..=9 {
         for low in 0..=9 {
-            let state = Search::Halving(low, high);
+            let state = Search::Halving(low, high, 0);
             out.put(Case::new(14).search(state))?;
             for outcome in [0, 1] {
-                out.put(Case::new(15).search(state).byte(outcome))?;
+                out.put(counted(state, outcome))?;
             }
         }
     }
@@ -759,15 +782,10 @@ fn fixed(chance: &mut Chance, out: &mut Out) -> io::Result<()> {
             while let Ok(m) = state.ask() {
                 let home = usize::from(m) <= first;
                 list.extend([0, if home { 1 } else { 2 }]);
-                state = state.give(home).unwrap_or(state);
+                state = state.count(home).unwrap_or(state);
             }
             let begin = chance.below(usize::from(subject.plant.switches)) as u8;
-            out.put(
-                Case::new(16)
-                    .string(&subject.listing)
-                    .byte(begin)
-                    .string(&list),
-            )?;
+            out.put(performed(&subject.listing, begin, &thrice(&list)))?;
         }
     }
 
@@ -890,7 +908,10 @@ fn about(chance: &mut Chance, call: u8, subject: &Subject) -> Case {
         19 => Case::new(19)
             .plant(&subject.plant, links)
             .word(subject.listing.len()),
-        _ => case.byte(begin).string(&true_list(chance, subject)),
+        _ => {
+            let list = true_list(chance, subject);
+            performed(&subject.listing, begin, &thrice(&list))
+        }
     }
 }
 
@@ -1061,11 +1082,11 @@ const LOSSES: [Loss; 4] = [Loss::NoRule, Loss::OtherSwitch, Loss::PastLinks, Los
 /// A search state that wants probe m.
 fn wanting(chance: &mut Chance, links: usize, m: usize) -> Search {
     if m == links {
-        return Search::Checking(links as u16);
+        return Search::Checking(links as u16, 0);
     }
     let reach = chance.below(m.min(links - m));
     let more = if reach == 0 { 1 } else { chance.below(2) };
-    Search::Halving((m - reach) as u16, (m + reach + more) as u16)
+    Search::Halving((m - reach) as u16, (m + reach + more) as u16, 0)
 }
 
 /// Small plants of each kind.
@@ -2083,6 +2104,578 @@ fn drawn_page_read(chance: &mut Chance) -> io::Result<Case> {
     })
 }
 
+/// The numbers of the calls of a search.
+const OUTWARD: u8 = 10;
+const PROBE_RUN: u8 = 11;
+const LINK_NAMED: u8 = 12;
+const NEW_SEARCH: u8 = 13;
+const ASK: u8 = 14;
+const GIVE: u8 = 15;
+const PERFORM: u8 = 16;
+
+/// The calls that are given a search with a listing.
+const JUDGING: [u8; 3] = [OUTWARD, PROBE_RUN, LINK_NAMED];
+
+/// How many sendings may be lost so far, and how many may not.
+const FEW: [u8; 3] = [0, 1, 2];
+const MANY: [u8; 2] = [3, 255];
+const LOST: [u8; 5] = [0, 1, 2, 3, 255];
+
+/// A case of the probe asked for.
+fn asked(state: Search) -> Case {
+    Case::new(ASK).search(state)
+}
+
+/// A case of an outcome given.
+fn given(state: Search, outcome: u8) -> Case {
+    Case::new(GIVE).search(state).byte(outcome)
+}
+
+/// A case of a list of calls.
+fn performed(listing: &[u8], begin: u8, list: &[u8]) -> Case {
+    Case::new(PERFORM).string(listing).byte(begin).string(list)
+}
+
+/// A case of a call that is given a search with a listing; only a probe run is
+/// given link states too.
+fn judged(
+    call: u8,
+    listing: &[u8],
+    begin: u8,
+    trail: &[u16],
+    states: &[u8],
+    state: Search,
+) -> Case {
+    let mut case = Case::new(call).string(listing).byte(begin).labels(trail);
+    if call == PROBE_RUN {
+        case = case.string(states);
+    }
+    case.search(state)
+}
+
+/// An outcome that is taken for returned.
+fn some_return(chance: &mut Chance) -> u8 {
+    chance.of(&[1, 1, 1, 2, 3, 128, 255])
+}
+
+/// A call of a list that gives lost.
+fn some_loss(chance: &mut Chance) -> u8 {
+    let any = chance.within(2, 255) as u8;
+    chance.of(&[2, 2, 2, 3, 255, any])
+}
+
+/// How many sendings are lost so far: few more often than many.
+fn some_lost(chance: &mut Chance) -> u8 {
+    let any = chance.byte();
+    chance.of(&[0, 0, 1, 1, 2, 2, 3, 255, any])
+}
+
+/// Links that are down: none, one, two, or more, by the kind from 0 to 3.
+fn some_down(chance: &mut Chance, links: usize, kind: usize) -> Vec<usize> {
+    let mut down: Vec<usize> = (0..links).collect();
+    chance.shuffle(&mut down);
+    let more = chance.within(links.min(3), links);
+    down.truncate([0, 1, 2, more][kind]);
+    down
+}
+
+/// How the sendings of a search fare.
+#[derive(Clone, Copy)]
+struct Fortune {
+    /// How often, of a hundred, a sending vanishes that the packet rule brings
+    /// back: of one probe at most two in a row.
+    vanish: usize,
+    /// Of the probes that the packet rule brings back, the one of which three
+    /// sendings in a row vanish all the same.
+    spoilt: Option<usize>,
+}
+
+/// A list of calls that gives outcomes, with calls for the probe so often of a
+/// hundred before each.
+fn calls_for(chance: &mut Chance, outcomes: &[bool], asks: usize) -> Vec<u8> {
+    let mut list = Vec::new();
+    for returned in outcomes {
+        while chance.percent(asks) {
+            list.push(0);
+        }
+        list.push(if *returned { 1 } else { some_loss(chance) });
+    }
+    list
+}
+
+/// Adds calls to a list, which are refused where the search has ended.
+fn go_on(chance: &mut Chance, list: &mut Vec<u8>) {
+    for _ in 0..chance.within(1, 5) {
+        let loss = some_loss(chance);
+        list.push(chance.of(&[0, 1, loss, loss]));
+    }
+}
+
+impl Course {
+    /// The outcomes of a search under link states, up to its end: whether each
+    /// sending returned.
+    fn outcomes(
+        &self,
+        chance: &mut Chance,
+        begin: u8,
+        states: &[u8],
+        fortune: Fortune,
+    ) -> Vec<bool> {
+        let trail = &self.subject.trail;
+        let switch = usize::from(begin);
+        let order = Order::new(&self.net, trail, packet::place(&self.net, trail, switch));
+        let mut outcomes = Vec::new();
+        let mut back = 0;
+        let mut state = Search::new(self.net.plant.links);
+        while let Ok(m) = state.ask() {
+            let m = usize::from(m);
+            let mut home =
+                packet::run_probe(&self.net, trail, switch, &order, m, states).fate() == Fate::Home;
+            if home {
+                home = fortune.spoilt != Some(back);
+                back += 1;
+            }
+            let lost = if home {
+                (1..SENDINGS)
+                    .take_while(|_| chance.percent(fortune.vanish))
+                    .count()
+            } else {
+                usize::from(SENDINGS)
+            };
+            outcomes.extend(vec![false; lost]);
+            if home {
+                outcomes.push(true);
+            }
+            state = state.count(home).unwrap_or(Search::AllUp);
+        }
+        outcomes
+    }
+
+    /// One of the probes of a search that the packet rule brings back, if it
+    /// brings any back.
+    fn some_back(&self, chance: &mut Chance, begin: u8, states: &[u8]) -> Option<usize> {
+        let calm = Fortune {
+            vanish: 0,
+            spoilt: None,
+        };
+        let outcomes = self.outcomes(chance, begin, states, calm);
+        let back = outcomes.iter().filter(|returned| **returned).count();
+        (back > 0).then(|| chance.below(back))
+    }
+
+    fn performed(&self, begin: u8, list: &[u8]) -> Case {
+        performed(&self.subject.listing, begin, list)
+    }
+}
+
+/// The cases of searches that do not wait for chance.
+fn fixed_searches(chance: &mut Chance, out: &mut Out) -> io::Result<()> {
+    fixed_asked_and_given(chance, out)?;
+    fixed_judged(chance, out)?;
+    fixed_judged_refused(chance, out)?;
+    fixed_new_searches(chance, out)?;
+    fixed_lists(chance, out)?;
+    fixed_losses_alone(chance, out)?;
+    fixed_searched(chance, out)
+}
+
+/// Probes asked for and outcomes given, with each number of sendings lost.
+fn fixed_asked_and_given(chance: &mut Chance, out: &mut Out) -> io::Result<()> {
+    let most = LINKS as u16;
+    // The edges of each kind of state.
+    for state in [
+        Search::Checking(1, 0),
+        Search::Checking(2, 0),
+        Search::Checking(3, 0),
+        Search::Checking(most - 1, 0),
+        Search::Checking(most, 0),
+        Search::Halving(1, 2, 0),
+        Search::Halving(1, 3, 0),
+        Search::Halving(127, 129, 0),
+        Search::Halving(1, most, 0),
+        Search::Halving(most - 2, most, 0),
+        Search::Halving(most - 1, most, 0),
+    ] {
+        for lost in LOST {
+            for case in each_way(chance, state.having_lost(lost)) {
+                out.put(case)?;
+            }
+        }
+    }
+    // States without a number of sendings.
+    for state in [
+        Search::AllUp,
+        Search::Down(1),
+        Search::Down(most),
+        Search::Down(0),
+        Search::Down(most + 1),
+    ] {
+        for case in each_way(chance, state) {
+            out.put(case)?;
+        }
+    }
+    // Other numbers of sendings, and states that no search has.
+    let mut states = Vec::new();
+    for lost in [4, 127, 128, 254] {
+        let any = chance.within(3, LINKS) as u16;
+        states.extend([Search::Checking(5, lost), Search::Checking(any, lost)]);
+        states.extend([Search::Halving(2, 9, lost), Search::Halving(1, any, lost)]);
+    }
+    for state in [
+        Search::Checking(0, 0),
+        Search::Checking(most + 1, 0),
+        Search::Checking(0xffff, 0),
+        Search::Halving(0, 2, 0),
+        Search::Halving(5, 5, 0),
+        Search::Halving(6, 5, 0),
+        Search::Halving(1, most + 1, 0),
+        Search::Halving(0xffff, 0xffff, 0),
+    ] {
+        states.extend(LOST.map(|lost| state.having_lost(lost)));
+    }
+    // Any counts, lows and highs.
+    for lost in FEW {
+        for _ in 0..6 {
+            let count = chance.within(1, LINKS) as u16;
+            states.push(Search::Checking(count, lost));
+            let high = chance.within(2, LINKS);
+            let low = chance.within(1, high - 1) as u16;
+            states.push(Search::Halving(low, high as u16, lost));
+        }
+    }
+    for (turn, state) in states.into_iter().enumerate() {
+        out.put(each_way(chance, state)[turn % 3].clone())?;
+    }
+    Ok(())
+}
+
+/// Cases of a state asked for the probe, given a loss and given a return.
+fn each_way(chance: &mut Chance, state: Search) -> [Case; 3] {
+    let returned = some_return(chance);
+    [asked(state), given(state, 0), given(state, returned)]
+}
+
+/// Calls that are given a search with a listing, a trail and states that are
+/// right, with each number of sendings lost.
+fn fixed_judged(chance: &mut Chance, out: &mut Out) -> io::Result<()> {
+    let mut put = |chance: &mut Chance, course: &Course, call: u8, state: Search| {
+        let subject = &course.subject;
+        let begin = chance.below(usize::from(course.switches())) as u8;
+        let kind = chance.below(3);
+        let down = some_down(chance, subject.links(), kind);
+        let states = course.down(chance, &down);
+        out.put(judged(
+            call,
+            &subject.listing,
+            begin,
+            &subject.trail,
+            &states,
+            state,
+        ))
+    };
+    for (turn, course) in kinds(chance)?.iter().enumerate() {
+        let links = course.subject.links();
+        for call in JUDGING {
+            // A search that is right but for the number, and one that is wrong.
+            for lost in LOST {
+                let m = chance.within(1, links - 1);
+                let m = if turn % 3 == 0 { links } else { m };
+                let state = wanting(chance, links, m).having_lost(lost);
+                put(chance, course, call, state)?;
+            }
+            let lost = chance.of(&LOST);
+            let state = wrong(chance, links).having_lost(lost);
+            put(chance, course, call, state)?;
+        }
+    }
+    // Wrong in each way that a listing shows.
+    let course = Course::new(make::table_one().mixed(chance))?;
+    for call in JUDGING {
+        for state in [
+            Search::Checking(8, 0),
+            Search::Checking(10, 0),
+            Search::Halving(1, 10, 0),
+        ] {
+            for lost in [chance.of(&FEW), chance.of(&MANY)] {
+                put(chance, &course, call, state.having_lost(lost))?;
+            }
+        }
+        // States without a number of sendings.
+        for state in [
+            Search::AllUp,
+            Search::Down(1),
+            Search::Down(9),
+            Search::Down(10),
+        ] {
+            put(chance, &course, call, state)?;
+        }
+    }
+    // No link, one, and two.
+    for sketch in [make::path(1), make::path(2), make::cycle(2)] {
+        let course = Course::new(sketch.mixed(chance))?;
+        for call in JUDGING {
+            for lost in [1, 2, 3] {
+                let state = Search::Checking(course.net.plant.links, lost);
+                put(chance, &course, call, state)?;
+            }
+            put(chance, &course, call, Search::AllUp)?;
+        }
+    }
+    // As many links as there can be.
+    let course = Course::new(make::bundle(LINKS).plain())?;
+    for call in JUDGING {
+        put(chance, &course, call, Search::Checking(LINKS as u16, 2))?;
+        put(chance, &course, call, Search::Halving(1, LINKS as u16, 3))?;
+    }
+    Ok(())
+}
+
+/// Calls that meet an earlier refusal together with too many sendings lost.
+fn fixed_judged_refused(chance: &mut Chance, out: &mut Out) -> io::Result<()> {
+    let go = Search::Checking(3, 0);
+    let triangle = Course::new(make::cycle(3).plain())?;
+    let Subject { listing, trail, .. } = &triangle.subject;
+    for call in JUDGING {
+        for refusal in 1..=9 {
+            let refused = refused(chance, refusal, (5, 8), 0);
+            let state = go.having_lost(chance.of(&MANY));
+            out.put(judged(call, &refused, 1, trail, &[1; 3], state))?;
+        }
+        // Of 11, 12 and 13, the last of a probe run alone, some at once.
+        for lost in MANY {
+            let state = go.having_lost(lost);
+            for (begin, hops) in [(3, 2), (3, 3), (2, 2), (255, 3)] {
+                out.put(judged(call, listing, begin, &trail[..hops], &[1; 2], state))?;
+            }
+        }
+    }
+    for lost in LOST {
+        let state = go.having_lost(lost);
+        for states in [&[][..], &[1; 2], &[1; 3]] {
+            out.put(judged(PROBE_RUN, listing, 2, trail, states, state))?;
+        }
+    }
+    Ok(())
+}
+
+/// New searches of plants of few and of many links, and those refused.
+fn fixed_new_searches(chance: &mut Chance, out: &mut Out) -> io::Result<()> {
+    let begun = |listing: &[u8], begin| Case::new(NEW_SEARCH).string(listing).byte(begin);
+    for course in of_sizes(chance)? {
+        let begin = chance.below(usize::from(course.switches())) as u8;
+        out.put(begun(&course.subject.listing, begin))?;
+    }
+    for refusal in 1..=9 {
+        out.put(begun(&refused(chance, refusal, (5, 8), 0), 0))?;
+    }
+    for begin in [3, 255] {
+        let triangle = make::listing_of(&make::cycle(3).plain());
+        out.put(begun(&triangle, begin))?;
+    }
+    Ok(())
+}
+
+/// Plants of some numbers of links, from none to as many as there can be.
+fn of_sizes(chance: &mut Chance) -> io::Result<Vec<Course>> {
+    let sketches = [
+        make::path(1),
+        make::path(2),
+        make::cycle(2),
+        make::cycle(3),
+        make::tailed(chance, 3, 4),
+        make::tree(chance, 6),
+        make::table_one(),
+        make::exact(chance, 6, 16),
+        make::exact(chance, 9, 33),
+        make::tailed(chance, 30, SWITCHES),
+        make::bundle(LINKS - 1),
+        make::exact(chance, SWITCHES, LINKS),
+    ];
+    sketches
+        .iter()
+        .map(|sketch| Course::new(sketch.mixed(chance)))
+        .collect()
+}
+
+/// Lists of calls that are written out, lists that stop before a search's end,
+/// long ones, and those that are refused.
+fn fixed_lists(chance: &mut Chance, out: &mut Out) -> io::Result<()> {
+    // Of no link, of one and of three.
+    for sketch in [make::path(1), make::path(2), make::cycle(3)] {
+        let listing = make::listing_of(&sketch.plain());
+        for list in [
+            &[][..],
+            &[0, 0],
+            &[1],
+            &[2],
+            &[2, 2],
+            &[2, 1],
+            &[2, 2, 1],
+            &[2, 2, 2],
+            &[2, 0, 2, 0, 0, 2, 0],
+            &[3, 255, 128],
+            &[2, 2, 2, 2, 2],
+            &[2, 2, 2, 2, 2, 1, 2],
+            &[2, 2, 2, 2, 1, 2, 2, 2],
+        ] {
+            out.put(performed(&listing, 0, list))?;
+        }
+    }
+    // Every front of a search's outcomes, with other calls between.
+    for sketch in [make::cycle(4), make::tree(chance, 6)] {
+        let course = Course::new(sketch.mixed(chance))?;
+        let begin = chance.below(usize::from(course.switches())) as u8;
+        let fortune = Fortune {
+            vanish: 70,
+            spoilt: None,
+        };
+        let states = course.down(chance, &[course.order(begin)[2]]);
+        let outcomes = course.outcomes(chance, begin, &states, fortune);
+        for length in 0..=outcomes.len() {
+            let list = calls_for(chance, &outcomes[..length], 30);
+            out.put(course.performed(begin, &list))?;
+        }
+    }
+    // Refused, and the list is not looked at.
+    for refusal in 1..=9 {
+        for list in [&[][..], &[0, 2, 2, 2, 1]] {
+            let listing = refused(chance, refusal, (5, 8), 0);
+            out.put(performed(&listing, chance.of(&[0, 255]), list))?;
+        }
+    }
+    let triangle = make::listing_of(&make::cycle(3).plain());
+    for begin in [3, 64, 255] {
+        out.put(performed(&triangle, begin, &[2, 2, 2]))?;
+    }
+    // Many calls within a row, and many after the end.
+    let within = [vec![2; 4], vec![0; 300], vec![2], vec![0; 300]].concat();
+    out.put(performed(&triangle, 1, &within))?;
+    out.put(performed(&triangle, 2, &[2; 700]))
+}
+
+/// Lists of losses alone, which take as many packets as there can be: just
+/// enough, one and two too few, and more.
+fn fixed_losses_alone(chance: &mut Chance, out: &mut Out) -> io::Result<()> {
+    for links in (1..=9).chain([15, 16, 17, 32, 33, 64, 65, 128, 129, LINKS - 1, LINKS]) {
+        let listing = make::listing_of(&make::bundle(links).plain());
+        let probes = 1 + usize::from(calls::allowance(links as u16));
+        let packets = usize::from(SENDINGS) * probes;
+        for given in [packets - 2, packets - 1, packets] {
+            let begin = chance.below(2) as u8;
+            let list = calls_for(chance, &vec![false; given], 0);
+            out.put(performed(&listing, begin, &list))?;
+        }
+        let mut list = calls_for(chance, &vec![false; packets], 20);
+        go_on(chance, &mut list);
+        out.put(performed(&listing, 0, &list))?;
+    }
+    Ok(())
+}
+
+/// Searches under link states, to their end: packets vanish, at most two in a
+/// row, or three of one probe that the packet rule brings back.
+fn fixed_searched(chance: &mut Chance, out: &mut Out) -> io::Result<()> {
+    // None, one, two and many links broken.
+    for course in of_sizes(chance)? {
+        let links = course.subject.links();
+        for kind in 0..4.min(links + 1) {
+            let begin = chance.below(usize::from(course.switches())) as u8;
+            let down = some_down(chance, links, kind);
+            let states = course.down(chance, &down);
+            let spoilt = course.some_back(chance, begin, &states);
+            for (vanish, asks, spoilt) in [(60, 0, None), (60, 50, None), (40, 20, spoilt)] {
+                let fortune = Fortune { vanish, spoilt };
+                let outcomes = course.outcomes(chance, begin, &states, fortune);
+                let mut list = calls_for(chance, &outcomes, asks);
+                if asks > 0 && chance.percent(60) {
+                    go_on(chance, &mut list);
+                }
+                out.put(course.performed(begin, &list))?;
+            }
+        }
+    }
+    // Every first broken link, and none: two losses before each return, and
+    // three of one probe.
+    for links in [1, 2, 3, 4, 5, 8] {
+        let sketch = make::exact(chance, links.clamp(2, 4), links);
+        let course = Course::new(sketch.mixed(chance))?;
+        let begin = chance.below(usize::from(course.switches())) as u8;
+        let order = course.order(begin);
+        for first in 0..=links {
+            let states = course.down(chance, &order[first..]);
+            let spoilt = course.some_back(chance, begin, &states);
+            for (vanish, spoilt) in [(100, None), (30, spoilt)] {
+                let fortune = Fortune { vanish, spoilt };
+                let outcomes = course.outcomes(chance, begin, &states, fortune);
+                let list = calls_for(chance, &outcomes, 25);
+                out.put(course.performed(begin, &list))?;
+            }
+        }
+    }
+    Ok(())
+}
+
+/// One case of a search, drawn by chance.
+fn drawn_search(chance: &mut Chance) -> io::Result<Case> {
+    let lost = some_lost(chance);
+    let call = OUTWARD + chance.weighed(&[6, 6, 6, 2, 5, 10, 65]) as u8;
+    Ok(match call {
+        NEW_SEARCH => drawn(chance, NEW_SEARCH),
+        ASK | GIVE => {
+            let links = chance.within(1, LINKS);
+            let state = if chance.percent(85) {
+                right(chance, links, 6)
+            } else {
+                wrong(chance, links)
+            };
+            let state = state.having_lost(lost);
+            if call == ASK {
+                asked(state)
+            } else {
+                let returned = some_return(chance);
+                given(state, chance.of(&[0, 0, returned]))
+            }
+        }
+        PERFORM => drawn_list(chance)?,
+        _ => drawn_lent(chance, call, lost),
+    })
+}
+
+/// One case of a list of calls, drawn by chance.
+fn drawn_list(chance: &mut Chance) -> io::Result<Case> {
+    if chance.percent(15) {
+        // With refusals.
+        let subject = subject(chance, 30);
+        let begin = switch(chance, &subject.plant);
+        return Ok(performed(&subject.listing, begin, &call_list(chance)));
+    }
+    let course = Course::new(any_joined(chance).mixed(chance))?;
+    let begin = chance.below(usize::from(course.switches())) as u8;
+    if chance.percent(30) {
+        // Outcomes that no packet need have.
+        return Ok(course.performed(begin, &call_list(chance)));
+    }
+    let kind = chance.below(4);
+    let down = some_down(chance, course.subject.links(), kind);
+    let states = course.down(chance, &down);
+    let spoilt = course.some_back(chance, begin, &states);
+    let fortune = Fortune {
+        vanish: chance.of(&[10, 30, 60, 100]),
+        spoilt: spoilt.filter(|_| chance.percent(25)),
+    };
+    let mut outcomes = course.outcomes(chance, begin, &states, fortune);
+    let cut = chance.percent(25);
+    if cut {
+        outcomes.truncate(chance.below(outcomes.len() + 1));
+    }
+    let asks = chance.of(&[0, 20, 50]);
+    let mut list = calls_for(chance, &outcomes, asks);
+    if !cut && chance.percent(30) {
+        go_on(chance, &mut list);
+    }
+    Ok(course.performed(begin, &list))
+}
+
 /// How often each call is drawn, from call 1; the long run, the rules by switch
 /// and the pages are drawn apart.
 const WEIGHTS: [usize; NAMES.len() - 1] = [
@@ -2114,7 +2707,7 @@ fn make(folder: &Path, seed: u64, count: usize) -> io::Result<Out> {
         out.put(drawn_any(&mut chance))?;
     }
     // Packet runs are drawn by a chance of their own, and so are the rules by
-    // switch, the pages written and the pages read.
+    // switch, the pages written, the pages read and the searches.
     let mut other = Chance::new(!seed);
     out.most = count.min(FIRST + RUNS);
     fixed_runs(&mut other, &mut out)?;
@@ -2134,19 +2727,26 @@ fn make(folder: &Path, seed: u64, count: usize) -> io::Result<Out> {
         out.put(drawn_page_written(&mut fourth))?;
     }
     let mut fifth = Chance::new(seed ^ u64::from(PAGE_READ) << 32);
-    out.most = count.min(COUNT);
+    out.most = count.min(FIRST + RUNS + BY_SWITCH + WRITTEN + READ);
     fixed_pages_read(&mut fifth, &mut out)?;
     while !out.full() {
         out.put(drawn_page_read(&mut fifth)?)?;
     }
+    let mut sixth = Chance::new(seed ^ u64::from(PERFORM) << 32);
+    out.most = count.min(COUNT);
+    fixed_searches(&mut sixth, &mut out)?;
+    while !out.full() {
+        out.put(drawn_search(&mut sixth)?)?;
+    }
     out.most = count;
     while !out.full() {
-        let case = match fifth.weighed(&[FIRST, RUNS, BY_SWITCH, WRITTEN, READ]) {
+        let case = match sixth.weighed(&[FIRST, RUNS, BY_SWITCH, WRITTEN, READ, SEARCHES]) {
             0 => drawn_any(&mut chance),
             1 => drawn_run(&mut other)?,
             2 => drawn_by_switch(&mut third),
             3 => drawn_page_written(&mut fourth),
-            _ => drawn_page_read(&mut fifth)?,
+            4 => drawn_page_read(&mut fifth)?,
+            _ => drawn_search(&mut sixth)?,
         };
         out.put(case)?;
     }

@@ -2,16 +2,20 @@
 
 use crate::plant::{Answer, Plant, Refusal};
 
-/// The state of a search.
+/// The state of a search. Checking and Halving end with the sendings of the
+/// wanted probe that are lost so far.
 #[derive(Clone, Copy, Debug, PartialEq, Eq)]
 pub enum Search {
-    Checking(u16),
-    Halving(u16, u16),
+    Checking(u16, u8),
+    Halving(u16, u16, u8),
     AllUp,
     Down(u16),
 }
 
 const MAX: u16 = Plant::MAX_LINKS as u16;
+
+/// A probe counts as lost when so many sendings in a row are lost.
+pub const SENDINGS: u8 = 3;
 
 impl Search {
     /// A new search of a plant with so many links.
@@ -19,56 +23,87 @@ impl Search {
         if links == 0 {
             Search::AllUp
         } else {
-            Search::Checking(links)
+            Search::Checking(links, 0)
+        }
+    }
+
+    /// The sendings lost so far; none in a search that has ended.
+    pub fn lost(self) -> u8 {
+        match self {
+            Search::Checking(_, lost) | Search::Halving(_, _, lost) => lost,
+            Search::AllUp | Search::Down(_) => 0,
+        }
+    }
+
+    /// The state with so many sendings lost; a search that has ended as it is.
+    pub fn having_lost(self, lost: u8) -> Search {
+        match self {
+            Search::Checking(count, _) => Search::Checking(count, lost),
+            Search::Halving(low, high, _) => Search::Halving(low, high, lost),
+            Search::AllUp | Search::Down(_) => self,
         }
     }
 
     /// Refusal 14 in a call without a listing.
     pub fn check(self) -> Answer<()> {
         let sound = match self {
-            Search::Checking(number) | Search::Down(number) => (1..=MAX).contains(&number),
-            Search::Halving(low, high) => 1 <= low && low < high && high <= MAX,
+            Search::Checking(number, _) | Search::Down(number) => (1..=MAX).contains(&number),
+            Search::Halving(low, high, _) => 1 <= low && low < high && high <= MAX,
             Search::AllUp => true,
         };
-        sound.then_some(()).ok_or(Refusal::SearchUnsound)
+        (sound && self.lost() < SENDINGS)
+            .then_some(())
+            .ok_or(Refusal::SearchUnsound)
     }
 
     /// Refusal 14 in a call with a listing of so many links.
     pub fn check_for(self, links: u16) -> Answer<()> {
         self.check()?;
         let fits = match self {
-            Search::Checking(count) => count == links,
-            Search::Halving(_, high) => high <= links,
+            Search::Checking(count, _) => count == links,
+            Search::Halving(_, high, _) => high <= links,
             Search::AllUp => true,
             Search::Down(place) => place <= links,
         };
         fits.then_some(()).ok_or(Refusal::SearchUnsound)
     }
 
-    /// The probe wanted; refusals 14 and 15.
+    /// The probe wanted, whatever is lost so far; refusals 14 and 15.
     pub fn ask(self) -> Answer<u16> {
         self.check()?;
         match self {
-            Search::Checking(count) => Ok(count),
-            Search::Halving(low, high) => Ok((low + high) / 2),
+            Search::Checking(count, _) => Ok(count),
+            Search::Halving(low, high, _) => Ok((low + high) / 2),
             Search::AllUp | Search::Down(_) => Err(Refusal::SearchEnded),
         }
     }
 
-    /// The state after the wanted probe's fate; refusals 14 and 15.
-    pub fn give(self, home: bool) -> Answer<Search> {
+    /// The state after the wanted probe counts as home or lost; refusals 14
+    /// and 15.
+    pub fn count(self, home: bool) -> Answer<Search> {
         let m = self.ask()?;
         let (low, high) = match (self, home) {
-            (Search::Halving(_, high), true) => (m + 1, high),
-            (Search::Halving(low, _), false) => (low, m),
+            (Search::Halving(_, high, _), true) => (m + 1, high),
+            (Search::Halving(low, _, _), false) => (low, m),
             (_, true) => return Ok(Search::AllUp),
             (_, false) => (1, m),
         };
         Ok(if low == high {
             Search::Down(low)
         } else {
-            Search::Halving(low, high)
+            Search::Halving(low, high, 0)
         })
+    }
+
+    /// The state after one sending of the wanted probe; refusals 14 and 15.
+    pub fn give(self, returned: bool) -> Answer<Search> {
+        self.ask()?;
+        let lost = self.lost() + 1;
+        if !returned && lost < SENDINGS {
+            Ok(self.having_lost(lost))
+        } else {
+            self.count(returned)
+        }
     }
 }
 

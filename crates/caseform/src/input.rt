@@ -136,16 +136,17 @@ pub fn search(s: &[u8], at: usize) -> Search {
     let kind = byte(s, at);
     let a = number(s, past(s, at, 1));
     let b = number(s, past(s, at, 3));
+    let lost = byte(s, past(s, at, 5));
     match kind {
-        0 => Search::Checking(a),
-        1 => Search::Halving(a, b),
+        0 => Search::Checking(a, lost),
+        1 => Search::Halving(a, b, lost),
         2 => Search::AllUp,
         _ => Search::Down(a),
     }
 }
 
 pub fn past_search(s: &[u8], at: usize) -> usize {
-    past(s, at, 5)
+    past(s, at, 6)
 }
 
 fn link(s: &[u8], at: usize) -> Link {

@@ -31,14 +31,16 @@ pub fn refusal(k: Refusal) {
 
 pub fn search(s: Search) {
     match s {
-        Search::Checking(count) => {
+        Search::Checking(count, lost) => {
             word(b"Checking");
             next(count as u64);
+            next(lost as u64);
         }
-        Search::Halving(low, high) => {
+        Search::Halving(low, high, lost) => {
             word(b"Halving");
             next(low as u64);
             next(high as u64);
+            next(lost as u64);
         }
         Search::AllUp => word(b"AllUp"),
         Search::Down(place) => {

@@ -1,7 +1,8 @@
 // Reads cases from standard input, makes the public call of each, and prints its answer, one line a case.
 //
 // A case is one byte, the call, and then its arguments. A number is one byte or two, low byte first; a byte string is a two-byte length and its bytes; a list
-// of labels is a two-byte count and two bytes each; a search is its kind (0 Checking, 1 Halving, 2 AllUp, 3 Down) and two two-byte numbers.
+// of labels is a two-byte count and two bytes each; a search is its kind (0 Checking, 1 Halving, 2 AllUp, 3 Down), two two-byte numbers, and one byte for the
+// sendings lost so far.
 //
 //  1 read            listing                                  switches, links, start, checksum of the links
 //  2 write           plant, buffer length                     length
@@ -18,7 +19,7 @@
 // 13 new search      listing, switch                          search
 // 14 ask             search                                   m
 // 15 give            search, outcome                          search
-// 16 perform         listing, switch, calls                   search, number of probes
+// 16 perform         listing, switch, calls                   search, numbers of probes and packets
 // 17 order quantity  rules (two bytes), spare                 quantity
 // 18 rewrite         listing, buffer length                   length
 // 19 reread          plant, buffer length                     as of read
@@ -43,7 +44,7 @@ ghost use Prim.Native.Nat.{_≤_};
 ghost use lib.ListN.{length};
 
 // The most bytes of input that are read.
-const INPUT: usize = 1600000;
+const INPUT: usize = 1700000;
 
 // Prints the answer of the case at a place; the place after it. A byte that is no call ends the input.
 fn answer(s: &[u8], at: usize) -> usize {

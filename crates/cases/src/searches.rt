@@ -48,6 +48,7 @@ fn show_progress(p: Progress) {
     let state = p.state;
     show::search(state);
     show::next(p.probes as u64);
+    show::next(p.packets as u64);
 }
 
 fn perform(s: &[u8], at: usize) -> usize {

@@ -16,7 +16,7 @@ use Rattle.planner.specs.Calls.{tabling}
 use Rattle.probing.specs.Calls.{beginning, performedIn, performing}
 use Rattle.demands.specs.Demands.{Demand3}
 use Rattle.demands.proofs.RulePages.{rule-page}
-use Rattle.demands.proofs.Searching.{searches}
+use Rattle.probing.proofs.Searching.{searches}
 
 pub demand-3 : (s : List ℕ) → Bytes s → (p : Plant) → answer (planning s) ≡ given p → Demand3 s p
 unfolding tabling beginning performing performedIn

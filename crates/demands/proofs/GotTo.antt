@@ -33,7 +33,8 @@ use Rattle.planning.specs.Planning.{planning, planningAt}
 use Rattle.planning.proofs.Plans.{plan-ready, given-at}
 use Rattle.probing.specs.Calls.{runIn, running, checkIn, checking, outLabels, probeEnd, probeIn, probing}
 use Rattle.probing.proofs.Injection.{ring-at}
-use Rattle.demands.specs.Demands.{actualOutcome, GotTo, ProbeGotTo, PacketsTell}
+use Rattle.probing.specs.Searches.{actualOutcome}
+use Rattle.demands.specs.Demands.{GotTo, ProbeGotTo, PacketsTell}
 
 -- ---- any run
 

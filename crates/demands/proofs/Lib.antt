@@ -1,5 +1,4 @@
 pub mod RulePages
-pub mod Searching
 pub mod Reached
 pub mod Packets
 pub mod GotTo

@@ -41,12 +41,9 @@ use Rattle.packet.specs.Outcome.{outcomeOf}
 use Rattle.allowance.specs.Allowance.{allowance, clipped}
 use Rattle.quantity.specs.Quantity.{orderQuantity}
 use Rattle.search.specs.declared.Search.{Search}
-use Rattle.search.specs.declared.Search.the-variants.{AllUp, Down}
 use Rattle.search.specs.declared.Outcome.{Outcome}
-use Rattle.search.specs.declared.Progress.{Progress}
-use Rattle.search.specs.Search.{newSearch, ended, wanted, ask, give}
-use Rattle.search.specs.Calls.{Call, perform, begun, TrueCalls}
-use Rattle.search.specs.Limit.{limit}
+use Rattle.search.specs.Search.{newSearch, wanted, ask, give}
+use Rattle.search.specs.Calls.{Call, perform, begun}
 use Rattle.sheet.specs.declared.Sheet.{Sheet}
 use Rattle.sheet.specs.Columns.{lineColumns}
 use Rattle.sheet.specs.Page.{switchLine, totalLine, buyingPage}
@@ -55,6 +52,7 @@ use Rattle.sheet.specs.Shown.{ThreeDigits, Shown}
 use Rattle.planning.specs.Planning.{planning, planningAt}
 use Rattle.planner.specs.Calls.{rewriting, rewritten, rereading, summing, bridging, tabling, counting, trailing, laidOut, buying, boughtOut}
 use Rattle.probing.specs.Calls.{running, checking, ordering, outLabels, outgoing, probing, naming, beginning, performing}
+use Rattle.probing.specs.Searches.{actualOutcome, Searches}
 
 -- ---- demand 1: each call answers its result, or a refusal exactly under its condition, and a refusal leaves a lent buffer as it was
 
@@ -187,54 +185,13 @@ pub record RulePage (p : Plant) : Type 0 where
   -- so do several closed walks that together cross every link
   pub together : (ws : List (List ℕ)) → ClosedWalks p ws → ((l : ℕ) → T (live p l) → Crosses l (flatten ws)) → length (rulesOf p) ≤ arcsCrossed p (flatten ws)
 
--- k is ⌈log2 e⌉: the least number with 2 ^ k at least e
-pub record CeilLog (e k : ℕ) : Type 0 where
-  pub enough : e ≤ 2 ^ k
-  pub least : (j : ℕ) → e ≤ 2 ^ j → k ≤ j
-
--- n is "1 + ⌈log2 E⌉, or none for E = 0"
-pub record MostProbes (e n : ℕ) : Type 0 where
-  pub none : e ≡ 0 → n ≡ 0
-  pub some : 1 ≤ e → (k : ℕ) × CeilLog e k × (n ≡ 1 + k)
-
--- no link is broken, where a link is broken if its state is down: its byte is 0
-abbrev pub NoneBroken : Plant → List ℕ → Type 0
-NoneBroken p states = (l : ℕ) → T (live p l) → upBy states l ≡ false → ⊥
-
--- injection switch x, and the states of the links, a byte for each
-module _ (p : Plant) (x : ℕ) (states : List ℕ) where
-  -- the outcome (fate) that probe m has by the packet rule
-  unfoldable pub actualOutcome : ℕ → Outcome
-  actualOutcome m = outcomeOf (probeRun p (used p) (trailOf p) x (liveLinks p) (upByLink states) m)
-
-  -- every accepted outcome is true: the one that probe m has, the m that a call for a probe answers in the state that the outcome is given to
-  abbrev pub AllTrue : List Call → Type 0
-  AllTrue cs = TrueCalls (λ m o. o ≡ actualOutcome m) (begun (liveLinks p)) cs
-
-  -- "all up exactly when no link is broken, and otherwise names the first broken link in the trail's order from the injection switch"
-  pub record Says (state : Search) : Type 0 where
-    pub all-up : (state ≡ AllUp) ↔ NoneBroken p states
-    pub first-broken : (NoneBroken p states → ⊥) → (k : ℕ) × (state ≡ Down k) × FirstDown (upBy states) (orderOf p (trailOf p) x) k
-
--- what holds of r, where the calls cs led to after a new search over the E links of p from injection switch x; `liveLinks p` is E, and `r .probes` the number of
--- accepted outcomes that settle their probe, which each does (search/specs/Search `settles`)
-pub record Searches (p : Plant) (x : ℕ) (cs : List Call) (r : Progress) : Type 0 where
-  -- "whatever fates are given, the probes number at most 1 + ⌈log2 E⌉, or none for E = 0, and with that many the search has ended"
-  pub limit-is : MostProbes (liveLinks p) (limit (liveLinks p))
-  pub few : r .probes ≤ limit (liveLinks p)
-  pub enough : r .probes ≡ limit (liveLinks p) → ended (r .state) ≡ true
-  -- until it has ended, a call for a probe answers one of 1 .. E, and an outcome is accepted
-  pub goes-on : ended (r .state) ≡ false → (m : ℕ) × (1 ≤ m) × (m ≤ liveLinks p) × (answer (ask (r .state)) ≡ given m)
-  pub accepts : ended (r .state) ≡ false → (o : Outcome) → (s : Search) × (answer (give (r .state) o) ≡ given s)
-  -- "if the links don't change during the list and every accepted fate is true, the search, once ended, says" what is so of the links
-  pub says : (states : List ℕ) → AllTrue p x states cs → ended (r .state) ≡ true → Says p x states (r .state)
-
 -- for every listing that is read as a connected plant
 pub record Demand3 (s : List ℕ) (p : Plant) : Type 0 where
   -- "the rule page is document 01's"
   pub page : answer (tabling s) ≡ given (tableWith (rulesOf p))
   pub rules : RulePage p
-  -- "for every list of calls that ask for a probe or give a fate, refused ones included, after a new search over E links from any injection switch"
+  -- "for every list of calls that ask for a probe or give a fate, refused ones included, after a new search over E links from any injection switch": the search begins, the
+  -- calls lead to r, and what holds of r is one statement, `Searches` of probing/specs/Searches
   pub begins : (x : ℕ) → x < p .switches → answer (beginning s x) ≡ given (newSearch (liveLinks p))
   pub performs : (x : ℕ) → x < p .switches → (cs : List Call) → answer (performing s x cs) ≡ given (perform (begun (liveLinks p)) cs)
   pub searches : (x : ℕ) → x < p .switches → (cs : List Call) → Searches p x cs (perform (begun (liveLinks p)) cs)

@@ -30,7 +30,7 @@ byte-bit true = (refl, omega arith)
 byte-bit false = (refl, omega arith)
 
 pub step-given : (p : Progress) (b : ℕ) (o : Outcome) (d : Bool) (t : Search) → (b ≡ 0 → ⊥) → o ≡ outcomeIn b → d ≡ settles (p .state) o
-    → answer (give (p .state) o) ≡ given t → record { state = t; probes = p .probes + boolByte d } ≡ step p (callIn b)
+    → answer (give (p .state) o) ≡ given t → record { state = t; probes = p .probes + boolByte d; packets = p .packets + 1 } ≡ step p (callIn b)
 unfolding callIn
 step-given p b o d t n e f g = rw (ne-eqb b 0 n, sym e, g, sym f, byte-bit d .0)
 

@@ -21,11 +21,14 @@ fn outcome_in(b: u8) -> Outcome
 // One call, as a byte: 0 asks for a probe, 1 gives returned, any other gives lost.
 fn step(p: Progress, b: u8) -> Progress
     requires { do ⌜ p .probes < (← ⟦usize::MAX⟧) ⌝ }
+    requires { do ⌜ p .packets < (← ⟦usize::MAX⟧) ⌝ }
     ensures { λ r. ⌜ r ≡ step p (callIn b) ⌝ }
     ensures { λ r. ⌜ r .probes ≤ p .probes + 1 ⌝ }
+    ensures { λ r. ⌜ r .packets ≤ p .packets + 1 ⌝ }
 {
     let s = p.state;
     let before = p.probes;
+    let sent = p.packets;
     if b == 0 {
         // The answer is for the caller alone: the state stays as it is.
         s.ask();
@@ -37,10 +40,12 @@ fn step(p: Progress, b: u8) -> Progress
         Told::State(t) => Progress {
             state: t,
             probes: after,
+            packets: sent + 1,
         },
         Told::Refused(_) => Progress {
             state: s,
             probes: before,
+            packets: sent,
         },
     }
 }
@@ -52,6 +57,7 @@ pub fn perform(links: u16, calls: &[u8]) -> Progress
     let mut p = Progress {
         state: Search::new(links),
         probes: 0,
+        packets: 0,
     };
     let mut i: usize = 0;
     while i < calls.len() {

@@ -8,6 +8,7 @@ use Rattle.plant.specs.declared.Link.{Link}
 use Rattle.plant.specs.Links.{plantWith, live}
 use Rattle.answers.specs.Answers.{Answer, given, refused, _>>=_}
 use Rattle.answers.specs.Checks.{answer}
+use Rattle.answers.specs.Tables.{agreed}
 use Rattle.codec.specs.Part.{taken, valueOf, redundant, mapMissing, mapUndefined, fieldMissing, fieldRedundant, fieldValues, afterPart, part}
 use Rattle.listing.specs.Listing.{valueOutOfRange, endOutOfRange, selfLink, bytesRemain, soundLink, header, link, links, withLinks, linked, ended, reading, linksOf}
 use Rattle.limits.specs.Limits.{maxSwitches}
@@ -24,7 +25,7 @@ use Rattle.routes.specs.Distance.{sources, within, dist, hop, hops, route}
 use Rattle.routes.specs.Trail.{near, nearest, legs, trail}
 use Rattle.table.specs.Rules.{tableWith, rulesIn}
 use Rattle.senders.specs.Senders.{sentBy, bySwitch}
-use Rattle.search.specs.Search.{newSearch, give}
+use Rattle.search.specs.Search.{newSearch, ask, give}
 use Rattle.search.specs.Calls.{begun}
 use Rattle.search.specs.Cases.{rows as searches}
 use Rattle.quantity.specs.Quantity.{orderQuantity}
@@ -156,5 +157,5 @@ abbrev table : List Row
 table = readings ++ planned ++ bySwitches ++ boughtPages ++ map as-row searches ++ map as-row quantities
 
 as-said : map (λ r. r .got) table ≡ map (λ r. r .said) table
-unfolding plantWith taken valueOf redundant mapMissing mapUndefined fieldMissing fieldRedundant fieldValues afterPart part valueOutOfRange endOutOfRange selfLink bytesRemain soundLink header link links withLinks linked ended reading trail legs nearest near route hops hop dist within sources leastFrom count usedFrom bridge visitFrom arcs others visit scan tail head live every notConnected planning rulesIn tableWith tabling sentBy sum bySwitch counting placesShort laying laidOut trailing linksAt pricing quoting quotingFor writingPage buying begun newSearch give orderQuantity
-as-said = refl
+unfolding plantWith taken valueOf redundant mapMissing mapUndefined fieldMissing fieldRedundant fieldValues afterPart part valueOutOfRange endOutOfRange selfLink bytesRemain soundLink header link links withLinks linked ended reading trail legs nearest near route hops hop dist within sources leastFrom count usedFrom bridge visitFrom arcs others visit scan tail head live every notConnected planning rulesIn tableWith tabling sentBy sum bySwitch counting placesShort laying laidOut trailing linksAt pricing quoting quotingFor writingPage buying begun newSearch ask give orderQuantity
+as-said = agreed (λ r. r .got) (λ r. r .said) table refl

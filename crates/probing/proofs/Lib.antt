@@ -4,3 +4,4 @@ pub mod Results
 pub mod StateBytes
 pub mod OutwardLabels
 pub mod NamedLinks
+pub mod Searching

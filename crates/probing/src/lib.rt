@@ -31,6 +31,7 @@ ghost use Rattle.search.specs.Search.{ask, give, askedOf, toldOf};
 ghost use Rattle.search.specs.Calls.{callsIn};
 ghost use Rattle.search.specs.Sound.{SaysIn};
 ghost use Rattle.probing.specs.Calls.{runIn, running, checkIn, checking, orderIn, ordering, outSpan, outwardIn, outgoing, OutwardParts, probeOver, probeIn, probing, namedIn, nameIn, naming, beginning, performing};
+ghost use Rattle.probing.specs.Searches.{Performs};
 ghost use Rattle.probing.specs.Answers.{ranAnswer, Orders, outwardAnswer, namedAnswer, begunAnswer, performedAnswer};
 
 // How the run of a packet comes out: where it got to, or a refusal.
@@ -393,10 +394,11 @@ pub fn give(search: Search, outcome: Outcome) -> Told
     search.give(outcome)
 }
 
-// The calls, each a byte, after a new search over the links of a listing from an injection switch: refusals 1 to 9 and 11. What demand 3 says of where they led to is
-// `Searches` of demands/specs/Demands.
+// The calls, each a byte, after a new search over the links of a listing from an injection switch: refusals 1 to 9 and 11. Where they led to, and what demand 3 says of
+// that.
 pub fn perform(listing: &[u8], switch: u8, calls: &[u8]) -> Performed
     ensures { λ r. ⌜ performedAnswer r ≡ answer (performing (now (listing .entry)) switch (callsIn (now (calls .entry)))) ⌝ }
+    ensures { λ r. ⌜ Performs (now (listing .entry)) switch (callsIn (now (calls .entry))) (performedAnswer r) ⌝ }
 {
     let mut t = planning::blank();
     let d = planning::plan_at(listing, switch, &mut t);

@@ -1,7 +1,9 @@
 -- A list of calls to a search, as document 01 tells it for demand 3: each call is handed the state that the last accepted outcome returned, at first the new search;
--- a call for a probe and a refused call leave that state as it is; the number of probes is the number of accepted outcomes that settle theirs. Assumes nothing.
+-- a call for a probe and a refused call leave that state as it is. The number of packets is the number of accepted outcomes, and the number of probes that of those
+-- which settle their probe. What holds of outcomes is said of the sendings of the list: the accepted outcomes in their order, each with its probe. Assumes nothing.
 use mathlib.Core.Path.{_≡_}
-use mathlib.Core.List.{List, [], _∷_}
+use mathlib.Core.Logic.{_⊎_}
+use mathlib.Core.List.{List, [], _∷_, _++_}
 use Prim.Native.Nat.{ℕ, _+_}
 use lib.Dec.{eqb}
 use Rattle.lists.specs.Tests.{choose}
@@ -29,9 +31,9 @@ abbrev pub callsIn : List ℕ → List Call
 callsIn [] = []
 callsIn (b ∷ bs) = callIn b ∷ callsIn bs
 
--- after an outcome: an accepted one is counted if it settles its probe; a refusal changes nothing
+-- after an outcome: an accepted one is a packet, and counts its probe if it settles it; a refusal changes nothing
 abbrev pub counted : Progress → Outcome → Answer Search → Progress
-counted p o (given s) = record { state = s; probes = p .probes + bit (settles (p .state) o) }
+counted p o (given s) = record { state = s; probes = p .probes + bit (settles (p .state) o); packets = p .packets + 1 }
 counted p o (refused n) = p
 
 abbrev pub step : Progress → Call → Progress
@@ -44,15 +46,43 @@ perform p (c ∷ cs) = perform (step p c) cs
 
 -- a new search over e links
 unfoldable pub begun : ℕ → Progress
-begun e = record { state = newSearch e; probes = 0 }
+begun e = record { state = newSearch e; probes = 0; packets = 0 }
 
--- ---- every accepted outcome is true, where `true? m o` is what it is for probe m to have outcome o truly
+-- ---- the sendings of a list of calls
 
-module _ (true? : ℕ → Outcome → Type 0) where
-  abbrev pub TrueCall : Search → Call → Type 0
-  TrueCall s asks = Unit
-  TrueCall s (gives o) = (m : ℕ) → answer (ask s) ≡ given m → true? m o
+-- a probe, by its m, and the outcome of one of its sendings
+pub data Sending : Type 0 where
+  sent : ℕ → Outcome → Sending
 
-  abbrev pub TrueCalls : Progress → List Call → Type 0
-  TrueCalls p [] = Unit
-  TrueCalls p (c ∷ cs) = TrueCall (p .state) c × TrueCalls (step p c) cs
+-- an accepted outcome is of the probe whose m a call for a probe answers in the state that the outcome is given to
+abbrev pub sendingOf : Answer ℕ → Outcome → Answer Search → List Sending
+sendingOf (given m) o (given s) = sent m o ∷ []
+sendingOf (given m) o (refused n) = []
+sendingOf (refused n) o a = []
+
+-- calls for a probe and refused calls are no sendings
+abbrev pub sendingBy : Search → Call → List Sending
+sendingBy s asks = []
+sendingBy s (gives o) = sendingOf (answer (ask s)) o (answer (give s o))
+
+abbrev pub sendings : Progress → List Call → List Sending
+sendings p [] = []
+sendings p (c ∷ cs) = sendingBy (p .state) c ++ sendings (step p c) cs
+
+-- how many are of probe m
+abbrev pub times : ℕ → List Sending → ℕ
+times m [] = 0
+times m (sent k o ∷ l) = bit (eqb m k) + times m l
+
+-- ---- what can be assumed of them, where `home m` is that the packet rule brings probe m home
+
+module _ (home : ℕ → Type 0) where
+  -- "an outcome of returned is true if the packet rule says so", and lost always: a packet vanishes over sound links too
+  abbrev pub TrueSending : Sending → Type 0
+  TrueSending (sent m Returned) = home m
+  TrueSending (sent m Lost) = Unit
+
+  -- "of three sendings in a row of one probe over sound links, one returns": wherever three sendings in a row are of one probe
+  abbrev pub OneReturns : List Sending → Type 0
+  OneReturns l = (before after : List Sending) (m : ℕ) (a b c : Outcome) → l ≡ before ++ (sent m a ∷ sent m b ∷ sent m c ∷ after)
+      → home m → (a ≡ Returned) ⊎ ((b ≡ Returned) ⊎ (c ≡ Returned))

@@ -1,26 +1,76 @@
--- The starred cases of document 01 on the search: each row has what the definitions answer, and what document 01 says. Assumes nothing.
+-- Cases of the search: the starred ones of document 01, with each loss given three times, and those of document 02's order 4. Each row has what the definitions answer, and
+-- what the papers say. Assumes nothing.
 use mathlib.Core.Path.{_≡_, refl}
 use mathlib.Core.List.{List, [], _∷_, _++_, map}
 use Prim.Native.Nat.{ℕ, zero, suc}
-use Rattle.answers.specs.Answers.{Answer, given}
+use Rattle.answers.specs.Answers.{Answer, given, refused, _>>=_}
+use Rattle.answers.specs.Checks.{answer}
+use Rattle.answers.specs.Tables.{agreed}
+use Rattle.search.specs.declared.Search.{Search}
+use Rattle.search.specs.declared.Search.the-variants.{Checking, Halving, AllUp, Down}
+use Rattle.search.specs.declared.Outcome.{Outcome}
 use Rattle.search.specs.declared.Outcome.the-variants.{Returned, Lost}
 use Rattle.search.specs.declared.Progress.{Progress}
-use Rattle.search.specs.Search.{newSearch, give}
-use Rattle.search.specs.Calls.{gives, step, begun}
+use Rattle.search.specs.Search.{newSearch, ask, give}
+use Rattle.search.specs.Calls.{Call, asks, gives, perform, begun}
 
--- the numbers of probes after each list of n outcomes
+-- the calls that count a probe as returned, and as lost
+abbrev returns : List Call
+returns = gives Returned ∷ []
+
+abbrev losses : List Call
+losses = gives Lost ∷ gives Lost ∷ gives Lost ∷ []
+
+-- the numbers of probes after each list of n probes that were counted
 abbrev pub probesAfter : ℕ → Progress → List ℕ
 probesAfter zero p = p .probes ∷ []
-probesAfter (suc n) p = probesAfter n (step p (gives Returned)) ++ probesAfter n (step p (gives Lost))
+probesAfter (suc n) p = probesAfter n (perform p returns) ++ probesAfter n (perform p losses)
 
--- one link takes one probe, however many outcomes are given; three links take at most three
+-- a state as numbers: its kind, 0 Checking, 1 Halving, 2 All up, 3 Down, and then its own
+abbrev numbers : Search → List ℕ
+numbers (Checking count lost) = 0 ∷ count ∷ lost ∷ []
+numbers (Halving low high lost) = 1 ∷ low ∷ high ∷ lost ∷ []
+numbers AllUp = 2 ∷ []
+numbers (Down place) = 3 ∷ place ∷ []
+
+-- where calls lead to after a new search over e links: probes, packets, and the state
+abbrev after : ℕ → List Call → Answer (List ℕ)
+after e cs = let p = perform (begun e) cs in given (p .probes ∷ p .packets ∷ numbers (p .state))
+
+abbrev asking : Search → Answer (List ℕ)
+asking s = answer (ask s) >>= λ m. given (m ∷ [])
+
+abbrev giving : Search → Outcome → Answer (List ℕ)
+giving s o = answer (give s o) >>= λ t. given (numbers t)
+
 abbrev pub rows : List (Answer (List ℕ) × Answer (List ℕ))
 rows =
+    -- one link takes one probe, however many outcomes are given; three links take at most three
     (given (probesAfter 2 (begun 1)), given (1 ∷ 1 ∷ 1 ∷ 1 ∷ []))
     ∷ (given (probesAfter 4 (begun 3)), given (1 ∷ 1 ∷ 1 ∷ 1 ∷ 1 ∷ 1 ∷ 1 ∷ 1 ∷ 2 ∷ 2 ∷ 2 ∷ 2 ∷ 3 ∷ 3 ∷ 3 ∷ 3 ∷ []))
+    -- the most packets: three losses for each of three probes, over three links
+    ∷ (after 3 (losses ++ losses ++ losses), given (3 ∷ 9 ∷ 3 ∷ 1 ∷ []))
+    -- a loss short of the third counts no probe, and calls for a probe do not break the row; the third counts it
+    ∷ (after 3 (gives Lost ∷ []), given (0 ∷ 1 ∷ 0 ∷ 3 ∷ 1 ∷ []))
+    ∷ (after 3 (gives Lost ∷ asks ∷ gives Lost ∷ asks ∷ []), given (0 ∷ 2 ∷ 0 ∷ 3 ∷ 2 ∷ []))
+    ∷ (after 3 (gives Lost ∷ asks ∷ gives Lost ∷ asks ∷ gives Lost ∷ []), given (1 ∷ 3 ∷ 1 ∷ 1 ∷ 3 ∷ 0 ∷ []))
+    -- the first that returns counts it, also after losses, and the losses of one probe are not those of the next
+    ∷ (after 3 (gives Lost ∷ gives Lost ∷ returns), given (1 ∷ 3 ∷ 2 ∷ []))
+    ∷ (after 3 (losses ++ gives Lost ∷ gives Lost ∷ returns), given (2 ∷ 6 ∷ 3 ∷ 3 ∷ []))
+    ∷ (after 4 (losses ++ gives Lost ∷ gives Lost ∷ returns ++ gives Lost ∷ []), given (2 ∷ 7 ∷ 1 ∷ 3 ∷ 4 ∷ 1 ∷ []))
+    -- a refused outcome is no packet
+    ∷ (after 1 (returns ++ losses), given (1 ∷ 1 ∷ 2 ∷ []))
+    ∷ (after 0 losses, given (0 ∷ 0 ∷ 2 ∷ []))
+    -- "the sendings lost so far, 0 to 2, and any other value is refusal 14"; m does not depend on them
+    ∷ (asking (Checking 3 2), given (3 ∷ []))
+    ∷ (asking (Checking 3 3), refused 14)
+    ∷ (asking (Halving 1 3 2), given (2 ∷ []))
+    ∷ (asking (Halving 1 3 3), refused 14)
+    ∷ (giving (Checking 3 255) Returned, refused 14)
+    ∷ (giving (Halving 1 3 255) Lost, refused 14)
     ∷ []
 
 -- one test over the rows
 right : map (λ r. r .0) rows ≡ map (λ r. r .1) rows
-unfolding begun newSearch give
-right = refl
+unfolding begun newSearch ask give
+right = agreed (λ r. r .0) (λ r. r .1) rows refl

@@ -5,10 +5,11 @@ use Rattle.search.specs.declared.Search.{Search}
 use Rattle.search.specs.declared.Search.the-variants.{Checking, Halving, AllUp, Down}
 use Rattle.search.specs.declared.Said.{Said}
 use Rattle.search.specs.declared.Said.the-variants as said
+use Rattle.search.specs.Search.{tries}
 
 abbrev pub Good : ℕ → Search → Type 0
-Good e (Checking count) = (count ≡ e) × (1 ≤ e)
-Good e (Halving low high) = (1 ≤ low) × (low < high) × (high ≤ e)
+Good e (Checking count lost) = (count ≡ e) × (1 ≤ e) × (lost < tries)
+Good e (Halving low high lost) = (1 ≤ low) × (low < high) × (high ≤ e) × (lost < tries)
 Good e AllUp = Unit
 Good e (Down place) = (1 ≤ place) × (place ≤ e)
 

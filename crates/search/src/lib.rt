@@ -2,15 +2,19 @@
 ghost use mathlib.Core.Path.{_≡_};
 ghost use mathlib.Core.Bool.{true};
 ghost use Rattle.answers.specs.Checks.{Judges, answer};
-ghost use Rattle.search.specs.Search.{newSearch, counts, sound, soundFor, says, ended, wanted, narrowed, next, settles, callChecks, ask, give, askedOf, toldOf};
+ghost use Rattle.search.specs.Search.{newSearch, counts, halves, short, sound, soundFor, says, ended, wanted, lostSoFar, settles, narrowed, settled, onceMore, next, callChecks, ask, give, askedOf, toldOf};
 use answers::Refusal;
 use answers::Verdict;
 use plant::Plant;
 
-// Checking a number of links, halving the places from low to high, all links are up, or the link at a place is down. Places count from 1 in the order of links.
+// How often a probe is sent at most: it counts as lost when so many sendings in a row were lost.
+const TRIES: usize = 3;
+
+// Checking a number of links, halving the places from low to high, all links are up, or the link at a place is down. Places count from 1 in the order of links. The
+// last number of Checking and Halving is how many sendings of the probe wanted were lost so far.
 pub enum Search {
-    Checking(u16),
-    Halving(u16, u16),
+    Checking(u16, u8),
+    Halving(u16, u16, u8),
     AllUp,
     Down(u16),
 }
@@ -40,10 +44,12 @@ pub enum Told {
     Refused(Refusal),
 }
 
-// The state that the last accepted outcome returned, and the number of probes: how many accepted outcomes settled theirs.
+// The state that the last accepted outcome returned, the number of probes: how many accepted outcomes settled theirs; and the number of packets: how many outcomes were
+// accepted.
 pub struct Progress {
     pub state: Search,
     pub probes: usize,
+    pub packets: usize,
 }
 
 impl Search {
@@ -54,7 +60,7 @@ impl Search {
         if links == 0 {
             Search::AllUp
         } else {
-            Search::Checking(links)
+            Search::Checking(links, 0)
         }
     }
 
@@ -63,9 +69,8 @@ impl Search {
         ensures { λ r. ⌜ r ≡ sound self ⌝ }
     {
         match self {
-            Search::Checking(count) => counts(count),
-            Search::Halving(low, high) => 0 < low
-                && (low < high && high as usize <= Plant::MAX_LINKS),
+            Search::Checking(count, lost) => counts(count) && short(lost as usize),
+            Search::Halving(low, high, lost) => halves(low, high) && short(lost as usize),
             Search::AllUp => true,
             Search::Down(place) => counts(place),
         }
@@ -76,8 +81,8 @@ impl Search {
         ensures { λ r. ⌜ r ≡ soundFor links self ⌝ }
     {
         match self {
-            Search::Checking(count) => count == links,
-            Search::Halving(_, high) => high <= links,
+            Search::Checking(count, _) => count == links,
+            Search::Halving(_, high, _) => high <= links,
             Search::AllUp => true,
             Search::Down(place) => place <= links,
         }
@@ -88,8 +93,8 @@ impl Search {
         ensures { λ r. ⌜ r ≡ says self ⌝ }
     {
         match self {
-            Search::Checking(_) => Said::Open,
-            Search::Halving(_, _) => Said::Open,
+            Search::Checking(_, _) => Said::Open,
+            Search::Halving(_, _, _) => Said::Open,
             Search::AllUp => Said::AllUp,
             Search::Down(place) => Said::Down(place),
         }
@@ -112,40 +117,77 @@ impl Search {
         ensures { λ r. ⌜ r ≡ wanted self ⌝ }
     {
         match self {
-            Search::Checking(count) => count,
-            Search::Halving(low, high) => (low + high) / 2,
+            Search::Checking(count, _) => count,
+            Search::Halving(low, high, _) => (low + high) / 2,
             Search::AllUp => 0,
             Search::Down(_) => 0,
         }
     }
 
-    // The state after the probe that is wanted had an outcome.
-    fn next(self, o: Outcome) -> Search
+    // The sendings lost so far of the probe that is wanted.
+    fn lost_so_far(self) -> u8
+        ensures { λ r. ⌜ r ≡ lostSoFar self ⌝ }
+    {
+        match self {
+            Search::Checking(_, lost) => lost,
+            Search::Halving(_, _, lost) => lost,
+            Search::AllUp => 0,
+            Search::Down(_) => 0,
+        }
+    }
+
+    // Does an outcome settle the probe that is wanted, so that it counts? One that returns does, and a loss if it is the third in a row.
+    pub fn settles(self, o: Outcome) -> bool
+        ensures { λ r. ⌜ r ≡ settles self o ⌝ }
+    {
+        match o {
+            Outcome::Returned => true,
+            Outcome::Lost => !short(self.lost_so_far() as usize + 1),
+        }
+    }
+
+    // The state after the probe that is wanted counts as returned or lost; no sending of the next one is lost.
+    fn settled(self, o: Outcome) -> Search
         requires { ⌜ sound self ≡ true ⌝ }
-        ensures { λ r. ⌜ r ≡ next self o ⌝ }
+        ensures { λ r. ⌜ r ≡ settled self o ⌝ }
     {
         let m = self.wanted();
         match self {
-            Search::Checking(count) => match o {
+            Search::Checking(count, _) => match o {
                 Outcome::Returned => Search::AllUp,
-                Outcome::Lost => narrowed(1, count),
+                Outcome::Lost => narrowed(1, count, 0),
             },
-            Search::Halving(low, high) => match o {
-                Outcome::Returned => narrowed(m + 1, high),
-                Outcome::Lost => narrowed(low, m),
+            Search::Halving(low, high, _) => match o {
+                Outcome::Returned => narrowed(m + 1, high, 0),
+                Outcome::Lost => narrowed(low, m, 0),
             },
             Search::AllUp => self,
             Search::Down(_) => self,
         }
     }
 
-    // Does an accepted outcome settle its probe, so that the probe is counted? Each does.
-    pub fn settles(self, o: Outcome) -> bool
-        ensures { λ r. ⌜ r ≡ settles self o ⌝ }
+    // The state after one more of its sendings was lost, and the probe does not count yet.
+    fn once_more(self) -> Search
+        requires { ⌜ sound self ≡ true ⌝ }
+        ensures { λ r. ⌜ r ≡ onceMore self ⌝ }
     {
-        match o {
-            Outcome::Returned => true,
-            Outcome::Lost => true,
+        match self {
+            Search::Checking(count, lost) => Search::Checking(count, lost + 1),
+            Search::Halving(low, high, lost) => Search::Halving(low, high, lost + 1),
+            Search::AllUp => self,
+            Search::Down(_) => self,
+        }
+    }
+
+    // The state after a sending of the probe that is wanted had an outcome.
+    fn next(self, o: Outcome) -> Search
+        requires { ⌜ sound self ≡ true ⌝ }
+        ensures { λ r. ⌜ r ≡ next self o ⌝ }
+    {
+        if self.settles(o) {
+            self.settled(o)
+        } else {
+            self.once_more()
         }
     }
 
@@ -192,13 +234,27 @@ fn counts(n: u16) -> bool
     0 < n && n as usize <= Plant::MAX_LINKS
 }
 
-// The first broken link is at one of the places low .. high.
-fn narrowed(low: u16, high: u16) -> Search
-    ensures { λ r. ⌜ r ≡ narrowed low high ⌝ }
+// Can they be the places that are left to halve?
+fn halves(low: u16, high: u16) -> bool
+    ensures { λ r. ⌜ r ≡ halves low high ⌝ }
+{
+    0 < low && (low < high && high as usize <= Plant::MAX_LINKS)
+}
+
+// Are so many sendings lost fewer than settle a probe?
+fn short(lost: usize) -> bool
+    ensures { λ r. ⌜ r ≡ short lost ⌝ }
+{
+    lost < TRIES
+}
+
+// The first broken link is at one of the places low .. high, with so many sendings lost of the next probe.
+fn narrowed(low: u16, high: u16, lost: u8) -> Search
+    ensures { λ r. ⌜ r ≡ narrowed low high lost ⌝ }
 {
     if low == high {
         Search::Down(low)
     } else {
-        Search::Halving(low, high)
+        Search::Halving(low, high, lost)
     }
 }

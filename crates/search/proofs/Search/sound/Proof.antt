@@ -1,25 +1,34 @@
 -- `sound` meets its contract: each state's tests are the definition's. Assumes nothing.
-use borrow.Author.Tests.{lt-ltb, le-ltb}
+use Rattle.search.proofs.Sound.{both-tried, first-fails}
 use borrow.Author.Needs.{needs}
 use Rattle.search.proofs.Search.sound.Statement.{statement}
 use Rattle.search.proofs.Search.sound.Tie as tie
 
 returns : tie.Need-returns
-returns c = simp (c .before .before .self .given .1) (c .counts .ensures)
+returns c =
+    let k = c .before .before in
+    simp (k .before .before .self .given .1) (both-tried _ _ _ _ (k .counts .ensures) (c .before .if1 .taken) (c .short .ensures))
 
 returns-2 : tie.Need-returns-2
-returns-2 c = simp (c .before .before .before .self2 .given .1, lt-ltb _ _ (c .before .if1 .taken), lt-ltb _ _ (c .if2 .taken))
+returns-2 c =
+    let k = c .before in
+    simp (k .before .before .self .given .1) (first-fails _ _ _ (k .counts .ensures) (c .if1 .left))
 
 returns-3 : tie.Need-returns-3
-returns-3 c = simp (c .before .before .before .self2 .given .1, lt-ltb _ _ (c .before .if1 .taken), le-ltb _ _ (c .if2 .left))
+returns-3 c =
+    let k = c .before .before in
+    simp (k .before .before .self2 .given .1) (both-tried _ _ _ _ (k .halves .ensures) (c .before .if2 .taken) (c .short2 .ensures))
 
 returns-4 : tie.Need-returns-4
-returns-4 c = simp (c .before .before .self2 .given .1, le-ltb _ _ (c .if1 .left))
+returns-4 c =
+    let k = c .before in
+    simp (k .before .before .self2 .given .1) (first-fails _ _ _ (k .halves .ensures) (c .if2 .left))
 
 returns-6 : tie.Need-returns-6
 returns-6 c = simp (c .before .before .self3 .given .1) (c .counts2 .ensures)
 
 pub sound-spec : {M : Type 1} → statement M
 sound-spec =
-    tie.close (tie.spec (λ c. search needs) (λ c κs. search needs) (λ c. search needs) (λ c. search needs) (λ c. search needs) (λ c. search needs)
-    (λ c κs. search needs) returns returns-2 returns-3 returns-4 (λ c. search needs) returns-6)
+    tie.close (tie.spec (λ c. search needs) (λ c κs. search needs) (λ c. search needs) (λ c κs. search needs) (λ c. search needs) (λ c κs. search needs)
+    (λ c. search needs) (λ c κs. search needs) (λ c. search needs) (λ c. search needs) (λ c κs. search needs) returns returns-2 returns-3 returns-4
+    (λ c. search needs) returns-6)

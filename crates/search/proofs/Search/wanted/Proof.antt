@@ -10,7 +10,7 @@ use Rattle.search.proofs.Search.wanted.Tie as tie
 add-result : tie.Need-add-result
 add-result c =
     let k = c .before .self2 .given in
-    omega (arith, halving-fits (k .0 .0) (k .0 .1 .0) (sym (ap sound (k .1)) ∙ c .before .before .before .pre))
+    omega (arith, halving-fits (k .0 .0) (k .0 .1 .0) (k .0 .1 .1 .0) (sym (ap sound (k .1)) ∙ c .before .before .before .pre))
 
 returns-2 : tie.Need-returns-2
 returns-2 c = simp (c .before .self2 .given .1)

@@ -1,0 +1,101 @@
+-- What demand 3 says of a list of calls to a search, document 02's order 4 included, as one statement: `Searches`. Demand 3 (demands/specs/Demands) is this for every
+-- list of calls, and the contract of the call `perform` is this of what it answers (`Performs`). Assumes nothing.
+use mathlib.Core.Path.{_≡_}
+use mathlib.Core.Logic.{_↔_}
+use mathlib.Core.Bool.{true, false}
+use mathlib.Core.List.{List}
+use Prim.Native.Nat.{ℕ, _+_, _*_, _^_, _≤_}
+use lib.Dec.{T}
+use lib.ListN.{length}
+use Rattle.lists.specs.Members.{Each}
+use Rattle.plant.specs.declared.Plant.{Plant}
+use Rattle.plant.specs.Links.{live}
+use Rattle.answers.specs.Answers.{Answer, given}
+use Rattle.answers.specs.Checks.{answer}
+use Rattle.walks.specs.Graph.{liveLinks}
+use Rattle.plan.specs.Plan.{trailOf}
+use Rattle.rings.specs.Rules.{upBy}
+use Rattle.rings.specs.Injection.{orderOf}
+use Rattle.rings.specs.FirstDown.{FirstDown}
+use Rattle.packet.specs.Outcome.{outcomeOf}
+use Rattle.search.specs.declared.Search.{Search}
+use Rattle.search.specs.declared.Search.the-variants.{AllUp, Down}
+use Rattle.search.specs.declared.Outcome.{Outcome}
+use Rattle.search.specs.declared.Outcome.the-variants.{Returned}
+use Rattle.search.specs.declared.Progress.{Progress}
+use Rattle.search.specs.Search.{ended, ask, give}
+use Rattle.search.specs.Calls.{Call, begun, Sending, sendings, times, TrueSending, OneReturns}
+use Rattle.search.specs.Limit.{limit}
+use Rattle.planning.specs.Planning.{planningAt}
+use Rattle.probing.specs.Calls.{probeEnd}
+
+-- ---- the most probes
+
+-- k is ⌈log2 e⌉: the least number with 2 ^ k at least e
+pub record CeilLog (e k : ℕ) : Type 0 where
+  pub enough : e ≤ 2 ^ k
+  pub least : (j : ℕ) → e ≤ 2 ^ j → k ≤ j
+
+-- n is "1 + ⌈log2 E⌉, or none for E = 0"
+pub record MostProbes (e n : ℕ) : Type 0 where
+  pub none : e ≡ 0 → n ≡ 0
+  pub some : 1 ≤ e → (k : ℕ) × CeilLog e k × (n ≡ 1 + k)
+
+-- ---- the sendings, and what is assumed of them
+
+-- the accepted outcomes of a list of calls after a new search over the E links of p, each with the m of its probe; `liveLinks p` is E
+abbrev pub sentOver : Plant → List Call → List Sending
+sentOver p cs = sendings (begun (liveLinks p)) cs
+
+-- no link is broken, where a link is broken if its state is down: its byte is 0
+abbrev pub NoneBroken : Plant → List ℕ → Type 0
+NoneBroken p states = (l : ℕ) → T (live p l) → upBy states l ≡ false → ⊥
+
+-- injection switch x, and the states of the links, a byte for each, which do not change during the list
+module _ (p : Plant) (x : ℕ) (states : List ℕ) where
+  -- the outcome (fate) that probe m has by the packet rule
+  unfoldable pub actualOutcome : ℕ → Outcome
+  actualOutcome m = outcomeOf (probeEnd p x states m)
+
+  -- the packet rule brings probe m home: it goes over sound links alone
+  abbrev pub ComesHome : ℕ → Type 0
+  ComesHome m = actualOutcome m ≡ Returned
+
+  -- the first premise: every accepted outcome is true; returned is true if the packet rule says so, and lost always
+  abbrev pub AllTrue : List Call → Type 0
+  AllTrue cs = Each (TrueSending ComesHome) (sentOver p cs)
+
+  -- the second: "of three sendings in a row of one probe over sound links, one returns". It goes by the list of the accepted outcomes, whatever the state holds: a search
+  -- that gave a probe up after two losses would have no three in a row, and its verdict would be wrong
+  abbrev pub OneOfThree : List Call → Type 0
+  OneOfThree cs = OneReturns ComesHome (sentOver p cs)
+
+  -- "all up exactly when no link is broken, and otherwise names the first broken link in the trail's order from the injection switch"
+  pub record Says (state : Search) : Type 0 where
+    pub all-up : (state ≡ AllUp) ↔ NoneBroken p states
+    pub first-broken : (NoneBroken p states → ⊥) → (k : ℕ) × (state ≡ Down k) × FirstDown (upBy states) (orderOf p (trailOf p) x) k
+
+-- ---- the statement
+
+-- what holds of r, where the calls cs led to after a new search over the E links of p from injection switch x. `r .probes` is the number of probes that were counted: of
+-- accepted outcomes that settle theirs (search/specs/Search `settles`); `r .packets` the number of accepted outcomes
+pub record Searches (p : Plant) (x : ℕ) (cs : List Call) (r : Progress) : Type 0 where
+  -- "whatever fates are given, the probes number at most 1 + ⌈log2 E⌉, or none for E = 0, and with that many the search has ended"
+  pub limit-is : MostProbes (liveLinks p) (limit (liveLinks p))
+  pub few : r .probes ≤ limit (liveLinks p)
+  pub enough : r .probes ≡ limit (liveLinks p) → ended (r .state) ≡ true
+  -- "packets are at most three times that": a packet is a sending, and of one m there are three at most, so that m tells which probe a sending is of
+  pub packets-few : r .packets ≤ 3 * limit (liveLinks p)
+  pub packets-are : r .packets ≡ length (sentOver p cs)
+  pub thrice : (m : ℕ) → times m (sentOver p cs) ≤ 3
+  -- until it has ended, a call for a probe answers one of 1 .. E, and an outcome is accepted
+  pub goes-on : ended (r .state) ≡ false → (m : ℕ) × (1 ≤ m) × (m ≤ liveLinks p) × (answer (ask (r .state)) ≡ given m)
+  pub accepts : ended (r .state) ≡ false → (o : Outcome) → (s : Search) × (answer (give (r .state) o) ≡ given s)
+  -- "the search's verdict, all up included, holds provided that, of three sendings in a row of one probe over sound links, one returns"
+  pub says : (states : List ℕ) → AllTrue p x states cs → OneOfThree p x states cs → ended (r .state) ≡ true → Says p x states (r .state)
+  -- All up is right by the first premise alone
+  pub up-right : (states : List ℕ) → AllTrue p x states cs → r .state ≡ AllUp → NoneBroken p states
+
+-- so it is of what `perform` answers, for a listing s
+abbrev pub Performs : List ℕ → ℕ → List Call → Answer Progress → Type 0
+Performs s x cs a = (r : Progress) → a ≡ given r → Searches (planningAt s x .result) x cs r
