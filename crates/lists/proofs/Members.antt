@@ -106,7 +106,3 @@ getD-same (suc n) (suc i) a = getD-same n i a
 pub each-parts : {A : Type 0} (P : A → Type 0) (xs ys : List A) → Each P (xs ++ ys) → Each P xs × Each P ys
 each-parts P [] ys h = (tt, h)
 each-parts P (x ∷ xs) ys h = let r = each-parts P xs ys (h .1) in ((h .0, r .0), r .1)
-
-pub each-append : {A : Type 0} (P : A → Type 0) (xs ys : List A) → Each P xs → Each P ys → Each P (xs ++ ys)
-each-append P [] ys h i = i
-each-append P (x ∷ xs) ys h i = (h .0, each-append P xs ys (h .1) i)

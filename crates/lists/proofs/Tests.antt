@@ -97,6 +97,13 @@ pub and-when : (a : Bool) {b c : Bool} → (a ≡ true → b ≡ c) → a && b �
 and-when true f = f refl
 and-when false f = refl
 
+-- two tests, one after the other, as code tries them: the second where the first holds
+pub and-tried : (r a b c : Bool) → r ≡ a → r ≡ true → c ≡ b → c ≡ a && b
+and-tried r a b c e t f = rw (sym e, t) f
+
+pub and-failed : (r a b : Bool) → r ≡ a → r ≡ false → r ≡ a && b
+and-failed r a b e f = rw (sym e, f) refl
+
 pub or-left : (a b : Bool) → T a → T (a || b)
 or-left true b t = tt
 or-left false b t = absurd t

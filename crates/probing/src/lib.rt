@@ -387,7 +387,7 @@ pub fn ask(search: Search) -> Asked
     search.ask()
 }
 
-// The state after the probe wanted had an outcome: refusals 14 and 15.
+// The state after a sending of the probe wanted had an outcome: refusals 14 and 15.
 pub fn give(search: Search, outcome: Outcome) -> Told
     ensures { λ r. ⌜ toldOf r ≡ answer (give search outcome) ⌝ }
 {

@@ -27,7 +27,7 @@ use Rattle.search.specs.declared.Outcome.{Outcome}
 use Rattle.search.specs.declared.Outcome.the-variants.{Returned, Lost}
 use Rattle.search.specs.declared.Progress.{Progress}
 use Rattle.search.specs.Search.{tries, sound, soundFor, ended, wanted, lostSoFar, settles, next, ask, give}
-use Rattle.search.specs.Calls.{Call, asks, gives, counted, step, perform, begun, Sending, sent, sendingOf, sendingBy, sendings, TrueSending, OneReturns}
+use Rattle.search.specs.Calls.{Call, asks, gives, counted, step, perform, begun, Sending, sent, sendingBy, sendings, TrueSending, OneReturns}
 use Rattle.search.specs.Limit.{limit}
 use Rattle.search.specs.Sound.{Good}
 use Rattle.search.proofs.Sound.{good-sound, wanted-in, answers-15, answers-given}

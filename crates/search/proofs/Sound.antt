@@ -1,6 +1,6 @@
 -- Refusals 14 and 15 as facts: what a sound state is, for itself and in a call with a listing of e links, and what a call answers by it. Assumes nothing.
-use mathlib.Core.Path.{_≡_, refl, sym}
-use mathlib.Core.Bool.{Bool, true, false, _&&_}
+use mathlib.Core.Path.{_≡_, refl}
+use mathlib.Core.Bool.{true, false, _&&_}
 use Prim.Native.Nat.{ℕ, _≤_, _<_}
 use native.Mathlib.Omega.{arith}
 use lib.Dec.{leb, ltb}
@@ -29,14 +29,6 @@ module _ {A : Type 0} (s : Search) (a : A) where
 -- a state that a call accepts is sound
 pub judged-sound : (s : Search) (v : Verdict) → Judges (callChecks s) v → v ≡ verdict.Accepted → sound s ≡ true
 judged-sound s v j e = not-false (sound s) (none-judged (callChecks s) v j e .0)
-
--- ---- two tests, one after the other, as the code tries them
-
-pub both-tried : (r a b c : Bool) → r ≡ a → r ≡ true → c ≡ b → c ≡ a && b
-both-tried r a b c e t f = rw (sym e, t) f
-
-pub first-fails : (r a b : Bool) → r ≡ a → r ≡ false → r ≡ a && b
-first-fails r a b e f = rw (sym e, f) refl
 
 -- ---- a sound state
 

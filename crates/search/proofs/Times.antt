@@ -17,10 +17,10 @@ use Rattle.search.specs.declared.Outcome.{Outcome}
 use Rattle.search.specs.declared.Outcome.the-variants.{Returned, Lost}
 use Rattle.search.specs.declared.Progress.{Progress}
 use Rattle.search.specs.Search.{tries, ended, wanted, lostSoFar, settled, onceMore, next}
-use Rattle.search.specs.Calls.{Call, asks, gives, step, begun, Sending, sent, sendings, sendingBy, times}
+use Rattle.search.specs.Calls.{Call, asks, gives, step, begun, Sending, sendings, sendingBy, times}
 use Rattle.search.specs.Limit.{limit}
 use Rattle.search.specs.Sound.{Good}
-use Rattle.search.proofs.Intervals.{narrowed-as, next-as, earlier-loss, once-more-same, once-more-lost, good-lost}
+use Rattle.search.proofs.Intervals.{narrowed-as, next-as, once-more-same, once-more-lost, good-lost}
 use Rattle.search.proofs.Finds.{Kept, kept-new, kept-step, sound-kept, given-as}
 
 -- m is a probe that a state can still send

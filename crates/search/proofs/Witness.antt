@@ -1,10 +1,10 @@
 -- The theorem of Finds is not empty, and its limits are not too large. If every outcome is the one of the packet rule, so that no packet vanishes, both premises hold; for
 -- every place of the first broken link there is such a list that ends the search there. The allowance alone, without the full check, is refuted, and so are two packets for
 -- each probe. Without the second premise an ended search can name a link that is up. Assumes nothing.
-use mathlib.Core.Path.{_≡_, refl, sym, ap, subst, _∙_}
+use mathlib.Core.Path.{_≡_, refl, sym, subst, _∙_}
 use mathlib.Core.Logic.{_⊎_, inl, inr}
 use mathlib.Core.Bool.{true, false}
-use mathlib.Core.List.{List, [], _∷_, _++_}
+use mathlib.Core.List.{List, [], _∷_}
 use Prim.Native.Nat.{ℕ, zero, suc, _+_, _*_, _≤_, _<_}
 use native.Mathlib.Omega.{arith}
 use lib.Dec.{ltb}
@@ -15,13 +15,12 @@ use Rattle.lists.proofs.Members.{each-parts}
 use Rattle.lists.specs.Least.{leastFrom}
 use Rattle.limits.specs.Limits.{maxLinks}
 use Rattle.allowance.specs.Allowance.{allowance}
-use Rattle.search.specs.declared.Search.{Search}
 use Rattle.search.specs.declared.Search.the-variants.{AllUp, Down}
 use Rattle.search.specs.declared.Outcome.{Outcome}
 use Rattle.search.specs.declared.Outcome.the-variants.{Returned, Lost}
 use Rattle.search.specs.declared.Progress.{Progress}
 use Rattle.search.specs.Search.{tries, newSearch, ended, wanted, lostSoFar, ask, give}
-use Rattle.search.specs.Calls.{Call, gives, step, perform, begun, Sending, sent, sendings, sendingBy, TrueSending, OneReturns}
+use Rattle.search.specs.Calls.{Call, gives, step, perform, begun, Sending, sent, sendings, TrueSending, OneReturns}
 use Rattle.search.specs.Limit.{limit}
 use Rattle.search.proofs.Intervals.{left, next-as, settled-left, settled-lost, once-more-same, once-more-lost, good-lost, none-left}
 use Rattle.search.proofs.Finds.{tells-by, moved, accepted, sends, Kept, kept-new, kept-step, sound-kept, finds}

@@ -77,12 +77,12 @@ times m (sent k o ∷ l) = bit (eqb m k) + times m l
 -- ---- what can be assumed of them, where `home m` is that the packet rule brings probe m home
 
 module _ (home : ℕ → Type 0) where
-  -- "an outcome of returned is true if the packet rule says so", and lost always: a packet vanishes over sound links too
+  -- an outcome of returned is true if the packet rule says so, and lost always: "a fate of lost is then true over sound links too"
   abbrev pub TrueSending : Sending → Type 0
   TrueSending (sent m Returned) = home m
   TrueSending (sent m Lost) = Unit
 
-  -- "of three sendings in a row of one probe over sound links, one returns": wherever three sendings in a row are of one probe
+  -- "of three sendings in a row of one probe over sound links, one returns", wherever in the list they stand
   abbrev pub OneReturns : List Sending → Type 0
   OneReturns l = (before after : List Sending) (m : ℕ) (a b c : Outcome) → l ≡ before ++ (sent m a ∷ sent m b ∷ sent m c ∷ after)
       → home m → (a ≡ Returned) ⊎ ((b ≡ Returned) ⊎ (c ≡ Returned))

@@ -12,7 +12,7 @@ use Rattle.search.specs.declared.Outcome.{Outcome}
 use Rattle.search.specs.declared.Outcome.the-variants.{Returned, Lost}
 use Rattle.search.specs.declared.Progress.{Progress}
 use Rattle.search.specs.Search.{newSearch, ask, give}
-use Rattle.search.specs.Calls.{Call, asks, gives, perform, begun}
+use Rattle.search.specs.Calls.{Call, asks, gives, perform, begun, Sending, sent, sendings}
 
 -- the calls that count a probe as returned, and as lost
 abbrev returns : List Call
@@ -37,6 +37,15 @@ numbers (Down place) = 3 ∷ place ∷ []
 abbrev after : ℕ → List Call → Answer (List ℕ)
 after e cs = let p = perform (begun e) cs in given (p .probes ∷ p .packets ∷ numbers (p .state))
 
+-- their sendings, each as the m of its probe and 1 if it returned, else 0
+abbrev pairs : List Sending → List ℕ
+pairs [] = []
+pairs (sent m Returned ∷ l) = m ∷ 1 ∷ pairs l
+pairs (sent m Lost ∷ l) = m ∷ 0 ∷ pairs l
+
+abbrev sends : ℕ → List Call → Answer (List ℕ)
+sends e cs = given (pairs (sendings (begun e) cs))
+
 abbrev asking : Search → Answer (List ℕ)
 asking s = answer (ask s) >>= λ m. given (m ∷ [])
 
@@ -58,6 +67,8 @@ rows =
     ∷ (after 3 (gives Lost ∷ gives Lost ∷ returns), given (1 ∷ 3 ∷ 2 ∷ []))
     ∷ (after 3 (losses ++ gives Lost ∷ gives Lost ∷ returns), given (2 ∷ 6 ∷ 3 ∷ 3 ∷ []))
     ∷ (after 4 (losses ++ gives Lost ∷ gives Lost ∷ returns ++ gives Lost ∷ []), given (2 ∷ 7 ∷ 1 ∷ 3 ∷ 4 ∷ 1 ∷ []))
+    -- the sendings are of the probe that is asked for; calls for a probe and refused calls are none
+    ∷ (sends 3 (asks ∷ gives Lost ∷ asks ∷ gives Lost ∷ gives Lost ∷ gives Lost ∷ returns ++ losses), given (3 ∷ 0 ∷ 3 ∷ 0 ∷ 3 ∷ 0 ∷ 2 ∷ 0 ∷ 2 ∷ 1 ∷ []))
     -- a refused outcome is no packet
     ∷ (after 1 (returns ++ losses), given (1 ∷ 1 ∷ 2 ∷ []))
     ∷ (after 0 losses, given (0 ∷ 0 ∷ 2 ∷ []))

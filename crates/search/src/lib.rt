@@ -26,7 +26,7 @@ pub enum Said {
     Down(u16),
 }
 
-// The outcome of a probe, as it is given to a search. Which one a run has is read out of it by `packet::outcome_of`.
+// The outcome of a sending of a probe, as it is given to a search. Which one a run has is read out of it by `packet::outcome_of`.
 pub enum Outcome {
     Returned,
     Lost,
@@ -44,7 +44,7 @@ pub enum Told {
     Refused(Refusal),
 }
 
-// The state that the last accepted outcome returned, the number of probes: how many accepted outcomes settled theirs; and the number of packets: how many outcomes were
+// The state that the last accepted outcome returned; the number of probes: how many accepted outcomes settled theirs; the number of packets: how many outcomes were
 // accepted.
 pub struct Progress {
     pub state: Search,
