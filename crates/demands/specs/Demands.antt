@@ -1,4 +1,5 @@
--- The three demands, each as one statement over the definitions that the contracts of the calls cite, and the promises of document 02's orders. Their proofs are in proofs/.
+-- The three demands, each as one statement over the definitions that the contracts of the calls cite, and the promises of document 02's orders. What demand 3 says of a list
+-- of calls to a search, order 4's promises with it, is `Searches` of probing/specs/Searches, which the contract of `perform` cites too. The proofs are in proofs/.
 use mathlib.Core.Path.{_≡_}
 use mathlib.Core.Logic.{_⊎_, _↔_}
 use mathlib.Core.Bool.{Bool, true, false}

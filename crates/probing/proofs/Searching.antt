@@ -87,8 +87,8 @@ module _ (p : Plant) (ok : Sound p) (con : Connected p) (x : ℕ) (x-in : x < p 
     says cs t h q =
         let r = found cs in
         record {
-          all-up = (λ e. none .0 (r .up-right t e), λ f. r .all-up h t q (none .1 f));
-          first-broken = λ f. (place, r .first-down h t q (some f), first-some (upBy states) order (omega (arith, long, some f)));
+          all-up = (λ e. none .0 (r .up-right t e), λ f. r .all-up t h q (none .1 f));
+          first-broken = λ f. (place, r .first-down t h q (some f), first-some (upBy states) order (omega (arith, long, some f)));
         }
 
   pub searches : (cs : List Call) → Searches p x cs (perform (begun (liveLinks p)) cs)

@@ -65,8 +65,9 @@ module _ (p : Plant) (x : ℕ) (states : List ℕ) where
   abbrev pub AllTrue : List Call → Type 0
   AllTrue cs = Each (TrueSending ComesHome) (sentOver p cs)
 
-  -- the second: "of three sendings in a row of one probe over sound links, one returns". It goes by the list of the accepted outcomes, whatever the state holds: a search
-  -- that gave a probe up after two losses would have no three in a row, and its verdict would be wrong
+  -- the second: "of three sendings in a row of one probe over sound links, one returns". It goes by the list of the accepted outcomes, whatever the state holds, so that a
+  -- search with a broken counter does not meet the demand for nothing: one that gave a probe up after two losses, or took the losses of one probe for those of the next,
+  -- would have no three in a row there, and its verdict would be wrong; one that never gave it up would pass the bound on packets
   abbrev pub OneOfThree : List Call → Type 0
   OneOfThree cs = OneReturns ComesHome (sentOver p cs)
 

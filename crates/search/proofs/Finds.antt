@@ -55,8 +55,8 @@ module _ (e f : ℕ) (home : ℕ → Type 0) where
     -- if every sending is true, All up is right
     pub up-right : Each (TrueSending home) (sendings p cs) → r .state ≡ AllUp → f ≡ e + 1
     -- if also one of three sendings in a row of a probe returns, an ended search is All up if no link is broken, and else Down at the first broken link
-    pub all-up : OneReturns home (sendings p cs) → Each (TrueSending home) (sendings p cs) → ended (r .state) ≡ true → f ≡ e + 1 → r .state ≡ AllUp
-    pub first-down : OneReturns home (sendings p cs) → Each (TrueSending home) (sendings p cs) → ended (r .state) ≡ true → f ≤ e → r .state ≡ Down f
+    pub all-up : Each (TrueSending home) (sendings p cs) → OneReturns home (sendings p cs) → ended (r .state) ≡ true → f ≡ e + 1 → r .state ≡ AllUp
+    pub first-down : Each (TrueSending home) (sendings p cs) → OneReturns home (sendings p cs) → ended (r .state) ≡ true → f ≤ e → r .state ≡ Down f
 
 -- so it is with outcomes by a test, if the test tells that
 returned-true : (b : Bool) → choose b Returned Lost ≡ Returned → b ≡ true
@@ -184,7 +184,7 @@ module _ (e : ℕ) (fits : e ≤ maxLinks) (most : ℕ) where
       omega (arith, packets-sent cs (step p c) (kept-step p c k), one-sent p c k, length-append (sendingBy (p .state) c) rest)
 
   -- a sound search that has not ended answers a call for a probe
-  pub asks-on : (s : Search) → Good e s → ended s ≡ false → answer (ask s) ≡ given (wanted s)
+  asks-on : (s : Search) → Good e s → ended s ≡ false → answer (ask s) ≡ given (wanted s)
   unfolding ask
   asks-on s g q = answers-given s (wanted s) (good-sound e s fits g .0) q
 
@@ -283,8 +283,8 @@ module _ (e : ℕ) (fits : e ≤ maxLinks) (most : ℕ) where
           goes-on = λ q. let i = wanted-in e s (k .good) q in (wanted s, i .0, i .1, asks-on s (k .good) q);
           stays-sound = good-sound e s fits (k .good);
           up-right = λ t q. omega (arith, up-at e s f (least t) q, tells .to-none);
-          all-up = λ h t q. ended-at e s f (k .good) (least t) (top h) q .0;
-          first-down = λ h t q. ended-at e s f (k .good) (least t) (top h) q .1;
+          all-up = λ t h q. ended-at e s f (k .good) (least t) (top h) q .0;
+          first-down = λ t h q. ended-at e s f (k .good) (least t) (top h) q .1;
         }
 
 -- a new search is such a state

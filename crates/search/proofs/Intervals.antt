@@ -161,7 +161,6 @@ module _ (e : ℕ) where
   -- ---- a sending is lost, and its probe is not settled: all but the number of those stays
 
   pub record Same (s t : Search) : Type 0 where
-    pub still-ended : ended t ≡ ended s
     pub still-wanted : wanted t ≡ wanted s
     pub still-left : left t ≡ left s
     pub still-least : (f : ℕ) → AtLeast e s f → AtLeast e t f
@@ -169,11 +168,11 @@ module _ (e : ℕ) where
 
   pub once-more-same : (s : Search) → Same s (onceMore s)
   once-more-same (Checking count lost) =
-      record { still-ended = refl; still-wanted = refl; still-left = refl; still-least = λ f a. a; still-most = λ f a. a }
+      record { still-wanted = refl; still-left = refl; still-least = λ f a. a; still-most = λ f a. a }
   once-more-same (Halving low high lost) =
-      record { still-ended = refl; still-wanted = refl; still-left = refl; still-least = λ f a. a; still-most = λ f a. a }
-  once-more-same AllUp = record { still-ended = refl; still-wanted = refl; still-left = refl; still-least = λ f a. a; still-most = λ f a. a }
-  once-more-same (Down place) = record { still-ended = refl; still-wanted = refl; still-left = refl; still-least = λ f a. a; still-most = λ f a. a }
+      record { still-wanted = refl; still-left = refl; still-least = λ f a. a; still-most = λ f a. a }
+  once-more-same AllUp = record { still-wanted = refl; still-left = refl; still-least = λ f a. a; still-most = λ f a. a }
+  once-more-same (Down place) = record { still-wanted = refl; still-left = refl; still-least = λ f a. a; still-most = λ f a. a }
 
   pub once-more-good : (s : Search) → Good e s → lostSoFar s + 1 < tries → Good e (onceMore s)
   once-more-good (Checking count lost) g h = (g .0, g .1, h)

@@ -88,7 +88,7 @@ module _ (e : ℕ) (fits : e ≤ maxLinks) (f : ℕ) (from-one : 1 ≤ f) (to-no
       let t = finds e fits f (λ m. actual m ≡ Returned) (tells-by e f from-one to-none (λ m. ltb m f) (λ m h i. refl)) (r .0) in
       let h = one-returns actual (sendings (begun e) (r .0)) (r .1) in
       let i = all-true actual (sendings (begun e) (r .0)) (r .1) in
-      (r .0, r .1, t .first-down h i (r .2), t .all-up h i (r .2))
+      (r .0, r .1, t .first-down i h (r .2), t .all-up i h (r .2))
 
 -- ---- what is refuted
 
