@@ -1,10 +1,9 @@
 -- Tables of cases: a row has what the definitions answer and what the papers say. One computed test over all rows of a table shows that the two are the same in each.
 -- Assumes nothing.
 use mathlib.Core.Path.{_≡_, refl, ap, ap₂}
-use mathlib.Core.Bool.{Bool, true, false, _&&_}
+use mathlib.Core.Bool.{Bool, true, false, _&&_, false≢true, and-eq-true-iff}
 use mathlib.Core.List.{List, [], _∷_, map}
 use Prim.Native.Nat.{ℕ}
-use native.Mathlib.Omega.{arith}
 use lib.Dec.{eqb}
 use borrow.Author.Tests.{eqb-true}
 use Rattle.answers.specs.Answers.{Answer, given, refused}
@@ -29,27 +28,20 @@ agree got said (r ∷ rs) = same (got r) (said r) && agree got said rs
 
 -- ---- what passes it is the same
 
-differ : false ≡ true → ⊥
-differ e = let z : _≡_ {A = ℕ} 0 1 = cc in absurd (omega arith)
-
-both : (a b : Bool) → a && b ≡ true → (a ≡ true) × (b ≡ true)
-both true b e = (refl, e)
-both false b e = absurd (differ e)
-
 list-same : (r bs : List ℕ) → sameList r bs ≡ true → r ≡ bs
 list-same [] [] e = refl
-list-same [] (b ∷ bs) e = absurd (differ e)
-list-same (a ∷ r) [] e = absurd (differ e)
-list-same (a ∷ r) (b ∷ bs) e = let t = both (eqb a b) (sameList r bs) e in ap₂ {C = List ℕ} (λ x y. x ∷ y) (eqb-true a b (t .0)) (list-same r bs (t .1))
+list-same [] (b ∷ bs) e = absurd (false≢true e)
+list-same (a ∷ r) [] e = absurd (false≢true e)
+list-same (a ∷ r) (b ∷ bs) e = let t = and-eq-true-iff (eqb a b) (sameList r bs) .0 e in ap₂ {C = List ℕ} (λ x y. x ∷ y) (eqb-true a b (t .0)) (list-same r bs (t .1))
 
 answer-same : (a b : Answer (List ℕ)) → same a b ≡ true → a ≡ b
 answer-same (given r) (given bs) e = ap given (list-same r bs e)
-answer-same (given r) (refused n) e = absurd (differ e)
-answer-same (refused m) (given bs) e = absurd (differ e)
+answer-same (given r) (refused n) e = absurd (false≢true e)
+answer-same (refused m) (given bs) e = absurd (false≢true e)
 answer-same (refused m) (refused n) e = ap refused (eqb-true m n e)
 
 pub agreed : {R : Type 0} (got said : R → Answer (List ℕ)) (rs : List R) → agree got said rs ≡ true → map got rs ≡ map said rs
 agreed got said [] e = refl
 agreed got said (r ∷ rs) e =
-    let t = both (same (got r) (said r)) (agree got said rs) e in
+    let t = and-eq-true-iff (same (got r) (said r)) (agree got said rs) .0 e in
     ap₂ {C = List (Answer (List ℕ))} (λ x y. x ∷ y) (answer-same (got r) (said r) (t .0)) (agreed got said rs (t .1))

@@ -26,7 +26,7 @@ use Rattle.search.specs.Calls.{Call, perform, begun}
 use Rattle.search.specs.Limit.{limit}
 use Rattle.search.proofs.Sound.{answers-given}
 use Rattle.search.proofs.Finds.{Tells, tells-by, Finds, kept-new, packets-sent, finds}
-use Rattle.search.proofs.Times.{sent-thrice}
+use Rattle.search.proofs.Probes.{sent-thrice, probes-counted}
 use Rattle.planning.specs.Planning.{planningAt}
 use Rattle.planning.proofs.Counted.{links-few}
 use Rattle.planning.proofs.Plans.{at-given}
@@ -98,11 +98,12 @@ module _ (p : Plant) (ok : Sound p) (con : Connected p) (x : ℕ) (x-in : x < p 
       let state = perform (begun e) cs .state in
       let r = found [] cs in
       record {
+        probes-are = probes-counted e (links-few p ok) cs;
+        packets-are = omega (arith, packets-sent e (links-few p ok) (limit e) cs (begun e) (kept-new e));
         limit-is = most-probes e;
         few = r .few;
         enough = r .enough;
         packets-few = r .packets-few;
-        packets-are = omega (arith, packets-sent e (links-few p ok) (limit e) cs (begun e) (kept-new e));
         thrice = sent-thrice e (links-few p ok) cs;
         goes-on = r .goes-on;
         accepts = λ q o. (next state o, answers-given state (next state o) (r .stays-sound .0) q);

@@ -8,6 +8,7 @@ use Prim.Native.Nat.{ℕ, _+_, _*_, _^_, _≤_}
 use lib.Dec.{T}
 use lib.ListN.{length}
 use Rattle.lists.specs.Members.{Each}
+use Rattle.lists.specs.Count.{count}
 use Rattle.plant.specs.declared.Plant.{Plant}
 use Rattle.plant.specs.Links.{live}
 use Rattle.answers.specs.Answers.{Answer, given}
@@ -24,7 +25,7 @@ use Rattle.search.specs.declared.Outcome.{Outcome}
 use Rattle.search.specs.declared.Outcome.the-variants.{Returned}
 use Rattle.search.specs.declared.Progress.{Progress}
 use Rattle.search.specs.Search.{ended, ask, give}
-use Rattle.search.specs.Calls.{Call, begun, Sending, sendings, times, TrueSending, OneReturns}
+use Rattle.search.specs.Calls.{Call, begun, Sending, sendings, returnsOf, lossesOf, countedIn, TrueSending, OneReturns}
 use Rattle.search.specs.Limit.{limit}
 use Rattle.planning.specs.Planning.{planningAt}
 use Rattle.probing.specs.Calls.{probeEnd}
@@ -78,17 +79,18 @@ module _ (p : Plant) (x : ℕ) (states : List ℕ) where
 
 -- ---- the statement
 
--- what holds of r, where the calls cs led to after a new search over the E links of p from injection switch x. `r .probes` is the number of probes that were counted: of
--- accepted outcomes that settle theirs (search/specs/Search `settles`); `r .packets` the number of accepted outcomes
+-- what holds of r, where the calls cs led to after a new search over the E links of p from injection switch x
 pub record Searches (p : Plant) (x : ℕ) (cs : List Call) (r : Progress) : Type 0 where
+  -- what is counted, by the sendings alone: a probe is told by its m, and counts if one of its sendings returned or three were lost; each sending is a packet
+  pub probes-are : r .probes ≡ count (liveLinks p + 1) (countedIn (sentOver p cs))
+  pub packets-are : r .packets ≡ length (sentOver p cs)
   -- "whatever fates are given, the probes number at most 1 + ⌈log2 E⌉, or none for E = 0, and with that many the search has ended"
   pub limit-is : MostProbes (liveLinks p) (limit (liveLinks p))
   pub few : r .probes ≤ limit (liveLinks p)
   pub enough : r .probes ≡ limit (liveLinks p) → ended (r .state) ≡ true
-  -- "packets are at most three times that": a packet is a sending, and of one m there are three at most, so that m tells which probe a sending is of
+  -- "packets are at most three times that", three at most of one probe
   pub packets-few : r .packets ≤ 3 * limit (liveLinks p)
-  pub packets-are : r .packets ≡ length (sentOver p cs)
-  pub thrice : (m : ℕ) → times m (sentOver p cs) ≤ 3
+  pub thrice : (m : ℕ) → returnsOf m (sentOver p cs) + lossesOf m (sentOver p cs) ≤ 3
   -- until it has ended, a call for a probe answers one of 1 .. E, and an outcome is accepted
   pub goes-on : ended (r .state) ≡ false → (m : ℕ) × (1 ≤ m) × (m ≤ liveLinks p) × (answer (ask (r .state)) ≡ given m)
   pub accepts : ended (r .state) ≡ false → (o : Outcome) → (s : Search) × (answer (give (r .state) o) ≡ given s)

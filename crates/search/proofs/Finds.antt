@@ -58,10 +58,13 @@ module _ (e f : ℕ) (home : ℕ → Type 0) where
     pub all-up : Each (TrueSending home) (sendings p cs) → OneReturns home (sendings p cs) → ended (r .state) ≡ true → f ≡ e + 1 → r .state ≡ AllUp
     pub first-down : Each (TrueSending home) (sendings p cs) → OneReturns home (sendings p cs) → ended (r .state) ≡ true → f ≤ e → r .state ≡ Down f
 
+not-returned : Lost ≡ Returned → ⊥
+not-returned i = let z : _≡_ {A = ℕ} 0 1 = cc in absurd (omega arith)
+
 -- so it is with outcomes by a test, if the test tells that
 returned-true : (b : Bool) → choose b Returned Lost ≡ Returned → b ≡ true
 returned-true true t = refl
-returned-true false t = let z : _≡_ {A = ℕ} 0 1 = cc in absurd (omega arith)
+returned-true false t = absurd (not-returned t)
 
 pub tells-by : (e f : ℕ) → 1 ≤ f → f ≤ e + 1 → (test : ℕ → Bool) → ((m : ℕ) → 1 ≤ m → m ≤ e → test m ≡ ltb m f)
     → Tells e f (λ m. choose (test m) Returned Lost ≡ Returned)
@@ -119,9 +122,6 @@ third-lost : (m : ℕ) (u rest : List Sending) → LostLast 2 m u
 third-lost m u rest l =
     let x = sent m Lost in
     (l .2 .0, ap (λ (k : List Sending). k ++ (x ∷ rest)) (l .1) ∙ append-assoc (l .0) (x ∷ []) (x ∷ rest) ∙ ap (λ (k : List Sending). k ++ (x ∷ x ∷ rest)) (l .2 .1) ∙ append-assoc (l .2 .0) (x ∷ []) (x ∷ x ∷ rest))
-
-not-returned : Lost ≡ Returned → ⊥
-not-returned i = let z : _≡_ {A = ℕ} 0 1 = cc in absurd (omega arith)
 
 -- ---- what the calls keep
 

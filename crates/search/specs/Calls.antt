@@ -3,9 +3,10 @@
 -- which settle their probe. What holds of outcomes is said of the sendings of the list: the accepted outcomes in their order, each with its probe. Assumes nothing.
 use mathlib.Core.Path.{_≡_}
 use mathlib.Core.Logic.{_⊎_}
+use mathlib.Core.Bool.{Bool, _||_}
 use mathlib.Core.List.{List, [], _∷_, _++_}
 use Prim.Native.Nat.{ℕ, _+_}
-use lib.Dec.{eqb}
+use lib.Dec.{eqb, leb, ltb}
 use Rattle.lists.specs.Tests.{choose}
 use Rattle.lists.specs.Count.{bit}
 use Rattle.answers.specs.Answers.{Answer, given, refused}
@@ -69,10 +70,20 @@ abbrev pub sendings : Progress → List Call → List Sending
 sendings p [] = []
 sendings p (c ∷ cs) = sendingBy (p .state) c ++ sendings (step p c) cs
 
--- how many are of probe m
-abbrev pub times : ℕ → List Sending → ℕ
-times m [] = 0
-times m (sent k o ∷ l) = bit (eqb m k) + times m l
+-- how many of probe m returned, and how many were lost
+abbrev pub returnsOf : ℕ → List Sending → ℕ
+returnsOf m [] = 0
+returnsOf m (sent k Returned ∷ l) = bit (eqb m k) + returnsOf m l
+returnsOf m (sent k Lost ∷ l) = returnsOf m l
+
+abbrev pub lossesOf : ℕ → List Sending → ℕ
+lossesOf m [] = 0
+lossesOf m (sent k Returned ∷ l) = lossesOf m l
+lossesOf m (sent k Lost ∷ l) = bit (eqb m k) + lossesOf m l
+
+-- is probe m counted? "As lost when three sendings in a row were lost, and as home at the first that returns"
+abbrev pub countedIn : List Sending → ℕ → Bool
+countedIn l m = ltb 0 (returnsOf m l) || leb 3 (lossesOf m l)
 
 -- ---- what can be assumed of them, where `home m` is that the packet rule brings probe m home
 

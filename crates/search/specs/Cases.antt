@@ -3,6 +3,7 @@
 use mathlib.Core.Path.{_≡_, refl}
 use mathlib.Core.List.{List, [], _∷_, _++_, map}
 use Prim.Native.Nat.{ℕ, zero, suc}
+use Rattle.lists.specs.Count.{count}
 use Rattle.answers.specs.Answers.{Answer, given, refused, _>>=_}
 use Rattle.answers.specs.Checks.{answer}
 use Rattle.answers.specs.Tables.{agreed}
@@ -12,7 +13,7 @@ use Rattle.search.specs.declared.Outcome.{Outcome}
 use Rattle.search.specs.declared.Outcome.the-variants.{Returned, Lost}
 use Rattle.search.specs.declared.Progress.{Progress}
 use Rattle.search.specs.Search.{newSearch, ask, give}
-use Rattle.search.specs.Calls.{Call, asks, gives, perform, begun, Sending, sent, sendings}
+use Rattle.search.specs.Calls.{Call, asks, gives, perform, begun, Sending, sent, sendings, countedIn}
 
 -- the calls that count a probe as returned, and as lost
 abbrev returns : List Call
@@ -46,6 +47,10 @@ pairs (sent m Lost ∷ l) = m ∷ 0 ∷ pairs l
 abbrev sends : ℕ → List Call → Answer (List ℕ)
 sends e cs = given (pairs (sendings (begun e) cs))
 
+-- how many probes they count
+abbrev counts : ℕ → List Call → Answer (List ℕ)
+counts e cs = given (count (suc e) (countedIn (sendings (begun e) cs)) ∷ [])
+
 abbrev asking : Search → Answer (List ℕ)
 asking s = answer (ask s) >>= λ m. given (m ∷ [])
 
@@ -69,6 +74,11 @@ rows =
     ∷ (after 4 (losses ++ gives Lost ∷ gives Lost ∷ returns ++ gives Lost ∷ []), given (2 ∷ 7 ∷ 1 ∷ 3 ∷ 4 ∷ 1 ∷ []))
     -- the sendings are of the probe that is asked for; calls for a probe and refused calls are none
     ∷ (sends 3 (asks ∷ gives Lost ∷ asks ∷ gives Lost ∷ gives Lost ∷ gives Lost ∷ returns ++ losses), given (3 ∷ 0 ∷ 3 ∷ 0 ∷ 3 ∷ 0 ∷ 2 ∷ 0 ∷ 2 ∷ 1 ∷ []))
+    -- by them two losses count no probe, a return after them counts it, and three losses count theirs
+    ∷ (counts 3 (gives Lost ∷ gives Lost ∷ []), given (0 ∷ []))
+    ∷ (counts 3 (gives Lost ∷ gives Lost ∷ returns), given (1 ∷ []))
+    ∷ (counts 3 (losses ++ gives Lost ∷ gives Lost ∷ []), given (1 ∷ []))
+    ∷ (counts 3 (losses ++ losses ++ losses), given (3 ∷ []))
     -- a refused outcome is no packet
     ∷ (after 1 (returns ++ losses), given (1 ∷ 1 ∷ 2 ∷ []))
     ∷ (after 0 losses, given (0 ∷ 0 ∷ 2 ∷ []))
@@ -83,5 +93,5 @@ rows =
 
 -- one test over the rows
 right : map (λ r. r .0) rows ≡ map (λ r. r .1) rows
-unfolding begun newSearch ask give
+unfolding begun newSearch ask give count
 right = agreed (λ r. r .0) (λ r. r .1) rows refl

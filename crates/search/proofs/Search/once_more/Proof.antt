@@ -1,5 +1,5 @@
 -- `once_more` meets its contract. In a sound state one more fits. Assumes nothing.
-use mathlib.Core.Path.{ap}
+use mathlib.Core.Path.{refl, ap}
 use native.Mathlib.Omega.{arith}
 use Rattle.search.specs.Search.{lostSoFar}
 use Rattle.search.proofs.Sound.{lost-short}
@@ -18,10 +18,10 @@ add-t9 c =
     omega (arith, lost-short (k .before .before .args .self) (k .before .before .pre), ap lostSoFar (k .self2 .given .1))
 
 returns : tie.Need-returns
-returns c = simp (c .before .self .given .1)
+returns c = simp (c .before .self .given .1) refl
 
 returns-2 : tie.Need-returns-2
-returns-2 c = simp (c .before .self2 .given .1)
+returns-2 c = simp (c .before .self2 .given .1) refl
 
 pub once-more-spec : {M : Type 1} → statement M
 once-more-spec =
