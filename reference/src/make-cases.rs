@@ -20,15 +20,16 @@ use std::process::ExitCode;
 const SEED: u64 = 1;
 /// The first cases are of every call but the long run, the rules by switch and
 /// the pages, those after them of packet runs alone, the next of rules by
-/// switch alone, of pages written alone, of pages read alone and of searches
-/// alone, and any more are of all six kinds.
+/// switch alone, of pages written alone, of pages read alone, of searches alone
+/// and of the allowance alone, and any more are of the kinds before that.
 const FIRST: usize = 18_000;
 const RUNS: usize = 1_000;
 const BY_SWITCH: usize = 1_000;
 const WRITTEN: usize = 500;
 const READ: usize = 1_000;
 const SEARCHES: usize = 1_000;
-const COUNT: usize = FIRST + RUNS + BY_SWITCH + WRITTEN + READ + SEARCHES;
+const ALLOWANCES: usize = 1_100;
+const COUNT: usize = FIRST + RUNS + BY_SWITCH + WRITTEN + READ + SEARCHES + ALLOWANCES;
 
 /// The highest number of a refusal.
 const REFUSALS: usize = 18;
@@ -794,7 +795,7 @@ fn fixed(chance: &mut Chance, out: &mut Out) -> io::Result<()> {
         319, 320, 511, 512, 513, 1023, 1024, 1025, 4095, 4096, 4097, 0x7fff, 0x8000, 0x8001,
         0xff00, 0xff01, 0xfffe, 0xffff,
     ]) {
-        out.put(Case::new(20).word(links))?;
+        out.put(allowed(links))?;
     }
 
     // Order quantities.
@@ -2676,6 +2677,23 @@ fn drawn_list(chance: &mut Chance) -> io::Result<Case> {
     Ok(course.performed(begin, &list))
 }
 
+/// The number of the call for the allowance.
+const ALLOWANCE: u8 = 20;
+
+fn allowed(links: usize) -> Case {
+    Case::new(ALLOWANCE).word(links)
+}
+
+/// Every number from 0 to 1,024, and above that each power of two with the
+/// numbers beside it, up to the highest number.
+fn fixed_allowances(out: &mut Out) -> io::Result<()> {
+    let above = (11..16).flat_map(|k| [(1 << k) - 1, 1 << k, (1 << k) + 1]);
+    for links in (0..=1_024).chain(above).chain([0xfffe, 0xffff]) {
+        out.put(allowed(links))?;
+    }
+    Ok(())
+}
+
 /// How often each call is drawn, from call 1; the long run, the rules by switch
 /// and the pages are drawn apart.
 const WEIGHTS: [usize; NAMES.len() - 1] = [
@@ -2707,7 +2725,7 @@ fn make(folder: &Path, seed: u64, count: usize) -> io::Result<Out> {
         out.put(drawn_any(&mut chance))?;
     }
     // Packet runs are drawn by a chance of their own, and so are the rules by
-    // switch, the pages written, the pages read and the searches.
+    // switch, the pages written, the pages read, the searches and the allowance.
     let mut other = Chance::new(!seed);
     out.most = count.min(FIRST + RUNS);
     fixed_runs(&mut other, &mut out)?;
@@ -2733,10 +2751,16 @@ fn make(folder: &Path, seed: u64, count: usize) -> io::Result<Out> {
         out.put(drawn_page_read(&mut fifth)?)?;
     }
     let mut sixth = Chance::new(seed ^ u64::from(PERFORM) << 32);
-    out.most = count.min(COUNT);
+    out.most = count.min(COUNT - ALLOWANCES);
     fixed_searches(&mut sixth, &mut out)?;
     while !out.full() {
         out.put(drawn_search(&mut sixth)?)?;
+    }
+    let mut seventh = Chance::new(seed ^ u64::from(ALLOWANCE) << 32);
+    out.most = count.min(COUNT);
+    fixed_allowances(&mut out)?;
+    while !out.full() {
+        out.put(allowed(seventh.word().into()))?;
     }
     out.most = count;
     while !out.full() {

@@ -1,10 +1,6 @@
-// The allowance of a search: the least k with 2^k at least the number of links, read from a table. Inner: the calls are the crates `planner` and `probing`.
+// The allowance of a search: the least k with 2^k at least the number of links, worked out. Inner: the calls are the crates `planner` and `probing`.
 ghost use mathlib.Core.Path.{_≡_};
 ghost use Rattle.allowance.specs.Allowance.{allowance, clipped};
-
-mod ceilings;
-
-use ceilings::ALLOWANCES;
 use plant::Plant;
 
 // A number of links that a plant can have; a larger one counts as the most.
@@ -22,5 +18,10 @@ fn clip(links: u16) -> usize
 pub fn allowance(links: u16) -> u8
     ensures { λ r. ⌜ r ≡ allowance (clipped links) ⌝ }
 {
-    ALLOWANCES[clip(links)]
+    let n = clip(links);
+    let mut k: u8 = 0;
+    while (1usize << k) < n {
+        k += 1;
+    }
+    k
 }

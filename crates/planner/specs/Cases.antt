@@ -11,7 +11,7 @@ use Rattle.answers.specs.Checks.{answer}
 use Rattle.answers.specs.Tables.{agreed}
 use Rattle.codec.specs.Part.{taken, valueOf, redundant, mapMissing, mapUndefined, fieldMissing, fieldRedundant, fieldValues, afterPart, part}
 use Rattle.listing.specs.Listing.{valueOutOfRange, endOutOfRange, selfLink, bytesRemain, soundLink, header, link, links, withLinks, linked, ended, reading, linksOf}
-use Rattle.limits.specs.Limits.{maxSwitches}
+use Rattle.limits.specs.Limits.{maxSwitches, maxLinks}
 use Rattle.lists.specs.Arrays.{at}
 use Rattle.lists.specs.Count.{count}
 use Rattle.lists.specs.Least.{leastFrom}
@@ -25,6 +25,7 @@ use Rattle.routes.specs.Distance.{sources, within, dist, hop, hops, route}
 use Rattle.routes.specs.Trail.{near, nearest, legs, trail}
 use Rattle.table.specs.Rules.{tableWith, rulesIn}
 use Rattle.senders.specs.Senders.{sentBy, bySwitch}
+use Rattle.allowance.specs.Allowance.{allowance, clipped}
 use Rattle.search.specs.Search.{newSearch, ask, give}
 use Rattle.search.specs.Calls.{begun}
 use Rattle.search.specs.Cases.{rows as searches}
@@ -146,6 +147,15 @@ boughtPages =
     ∷ buys ringAndTail 10 160 (given (160 ∷ []))
     ∷ []
 
+-- ---- the allowance: 0 of no link and of one; more links than a plant can have count as the most
+
+abbrev allows : ℕ → ℕ → Row
+allows n k = record { got = given (allowance (clipped n) ∷ []); said = given (k ∷ []) }
+
+abbrev allowances : List Row
+allowances =
+    allows 0 0 ∷ allows 1 0 ∷ allows 2 1 ∷ allows 3 2 ∷ allows 4 2 ∷ allows 5 3 ∷ allows 128 7 ∷ allows 129 8 ∷ allows maxLinks 8 ∷ allows (maxLinks + 1) 8 ∷ allows 65535 8 ∷ []
+
 -- ---- the search and the order quantity
 
 abbrev as-row : Answer (List ℕ) × Answer (List ℕ) → Row
@@ -154,8 +164,8 @@ as-row r = record { got = r .0; said = r .1 }
 -- ---- the table, and the test
 
 abbrev table : List Row
-table = readings ++ planned ++ bySwitches ++ boughtPages ++ map as-row searches ++ map as-row quantities
+table = readings ++ planned ++ bySwitches ++ boughtPages ++ allowances ++ map as-row searches ++ map as-row quantities
 
 as-said : map (λ r. r .got) table ≡ map (λ r. r .said) table
-unfolding plantWith taken valueOf redundant mapMissing mapUndefined fieldMissing fieldRedundant fieldValues afterPart part valueOutOfRange endOutOfRange selfLink bytesRemain soundLink header link links withLinks linked ended reading trail legs nearest near route hops hop dist within sources leastFrom count usedFrom bridge visitFrom arcs others visit scan tail head live every notConnected planning rulesIn tableWith tabling sentBy sum bySwitch counting placesShort laying laidOut trailing linksAt pricing quoting quotingFor writingPage buying begun newSearch ask give orderQuantity
+unfolding plantWith taken valueOf redundant mapMissing mapUndefined fieldMissing fieldRedundant fieldValues afterPart part valueOutOfRange endOutOfRange selfLink bytesRemain soundLink header link links withLinks linked ended reading trail legs nearest near route hops hop dist within sources leastFrom count usedFrom bridge visitFrom arcs others visit scan tail head live every notConnected planning rulesIn tableWith tabling sentBy sum bySwitch counting placesShort laying laidOut trailing linksAt pricing quoting quotingFor writingPage buying allowance begun newSearch ask give orderQuantity
 as-said = agreed (λ r. r .got) (λ r. r .said) table refl
