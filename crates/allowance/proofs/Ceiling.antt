@@ -4,12 +4,12 @@ use mathlib.Core.Logic.{_⊎_, inl, inr}
 use mathlib.Core.Bool.{Bool, true, false}
 use Prim.Native.Nat.{ℕ, zero, suc, _+_, _*_, _^_, _≤_, _<_}
 use native.Mathlib.Omega.{arith}
-use native.Mathlib.Nat.{pow-zero, pow-suc}
+use native.Mathlib.Nat.{lt-of-not-le, pow-zero, pow-suc}
 use lib.Dec.{leb, leb→le, le→leb}
 use lib.Pow.{pow-mono}
 use borrow.Author.Tests.{leb-true, le-leb}
 use Rattle.lists.specs.Tests.{choose}
-use Rattle.lists.proofs.Tests.{eq?, below?}
+use Rattle.lists.proofs.Tests.{eq?}
 use Rattle.lists.specs.Least.{least}
 use Rattle.lists.proofs.Least.{least-top, least-passes, least-le}
 use Rattle.limits.specs.Limits.{maxLinks}
@@ -50,11 +50,7 @@ allowance-least n k h = least-le n (enough n) k (le→leb n (2 ^ k) h)
 
 -- the exponent of a power of 2 that is not enough is smaller
 pub allowance-above : (n k : ℕ) → 2 ^ k < n → k < allowance n
-allowance-above n k h = go (below? k (allowance n))
-  where
-    go : (k < allowance n) ⊎ (allowance n ≤ k) → k < allowance n
-    go (inl g) = g
-    go (inr g) = absurd (omega (arith, allowance-enough n, pow-mono g))
+allowance-above n k h = lt-of-not-le (λ g. omega (arith, h, allowance-enough n, pow-mono g))
 
 -- ---- halving: of two places or more, the larger half has a smaller allowance
 

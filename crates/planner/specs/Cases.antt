@@ -147,7 +147,7 @@ boughtPages =
     ∷ buys ringAndTail 10 160 (given (160 ∷ []))
     ∷ []
 
--- ---- the allowance: 0 of no link and of one; more links than a plant can have count as the most
+-- ---- the allowance: 0 of no link and of one. That more links than a plant can have count as the most is our decision, not the documents'
 
 abbrev allows : ℕ → ℕ → Row
 allows n k = record { got = given (allowance (clipped n) ∷ []); said = given (k ∷ []) }
