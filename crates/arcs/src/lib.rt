@@ -4,11 +4,12 @@ use plant::Plant;
 use plant::head_of;
 use plant::tail_of;
 ghost use mathlib.Core.Path.{_≡_};
-ghost use Prim.Native.Nat.{_*_, _≤_};
+ghost use Prim.Native.Nat.{_*_, _≤_, _<_};
 ghost use Rattle.lists.specs.Arrays.{flag, at};
 ghost use Rattle.limits.specs.Limits.{maxLinks};
 ghost use Rattle.limits.specs.Sound.{Sound};
 ghost use Rattle.plant.specs.Links.{live};
+ghost use Rattle.walks.specs.Arcs.{opposite};
 ghost use Rattle.walks.specs.Graph.{liveLinks};
 ghost use Rattle.arcs.specs.Net.{Ends, AllArcs};
 ghost use Rattle.arcs.specs.Chains.{Chained, TailsIn};
@@ -95,6 +96,14 @@ pub fn all_arcs(p: Plant) -> [bool; Plant::LABELS]
         a += 1;
     }
     r
+}
+
+// The label of the arc that crosses the same link the other way.
+pub fn opposite(a: u16) -> u16
+    requires { ⌜ a < 2 * maxLinks ⌝ }
+    ensures { λ r. ⌜ r ≡ opposite a ⌝ }
+{
+    if a % 2 == 0 { a + 1 } else { a - 1 }
 }
 
 // The flagged arcs of each switch, as chains. The labels are tried from the highest on.

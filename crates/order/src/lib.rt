@@ -156,7 +156,7 @@ pub fn span_of(p: Plant, s: u8, trail: &[u16], m: u16) -> Span
 }
 
 // As many of n labels from place k on as there are.
-fn part<'a>(trail: &'a [u16], k: usize, n: usize) -> &'a [u16]
+pub fn part<'a>(trail: &'a [u16], k: usize, n: usize) -> &'a [u16]
     ensures { λ r. ⌜ now r ≡ take n (drop k (now (trail .entry))) ⌝ }
 {
     let all = trail.len();

@@ -7,6 +7,7 @@ use Rattle.plant.specs.declared.Plant.{Plant}
 use Rattle.walks.specs.Visit.{St}
 use Rattle.walks.specs.Arcs.{tail, head}
 use Rattle.walks.specs.Graph.{AllFrom, visitedFrom, reachedFrom, usedFrom, arcsUsedFrom}
+use Rattle.walks.specs.Round.{roundFrom}
 use Rattle.routes.specs.Plants.{distanceFrom, trailFrom}
 use Rattle.rings.specs.Packet.{rulesFor}
 use Rattle.table.specs.declared.Rule.{Rule}
@@ -39,6 +40,10 @@ module _ (p : Plant) where
 
   abbrev pub trailOf : List ℕ
   trailOf = trailFrom p (p .start)
+
+  -- the round trail (document 02, order 6)
+  abbrev pub roundOf : List ℕ
+  roundOf = roundFrom p (p .start)
 
   -- ---- the forwarding table (rule page): a rule for each arc in use
 

@@ -11,6 +11,7 @@ use Rattle.arcs.specs.declared.Net.{Net}
 use Rattle.arcs.specs.Net.{Ends}
 use Rattle.arcs.specs.Parts as network
 use Rattle.arcs.specs.Flags.{Flags}
+use Rattle.arcs.specs.Shows.{Visits}
 use Rattle.arcs.specs.Legs.{LegsOf}
 use Rattle.planning.specs.declared.Parts.{Parts}
 
@@ -23,6 +24,7 @@ pub record PartsOf (p : Plant) (r : ℕ) (x : Parts) : Type 0 where
   pub plant-is : x .plant ≡ p
   pub net-is : x .net ≡ netOf p r
   pub ends : Ends p (x .tails) (x .heads)
+  pub visits : Visits p r (x .visited)
   pub bridges-are : Flags maxLinks (bridgeFrom p r) (x .bridges)
   pub used-are : Flags (2 * maxLinks) (usedFrom p r) (x .used)
   pub legs-are : LegsOf (x .net) (x .tails) (x .heads) (x .used) (x .legs)

@@ -5,6 +5,7 @@ use arcs::Legs;
 use arcs::Net;
 use arcs::Visited;
 use plant::Plant;
+use round::Round;
 use table::Table;
 use trail::Compared;
 ghost use mathlib.Core.Path.{_≡_};
@@ -14,20 +15,22 @@ ghost use Rattle.answers.specs.Answers.{refused, numberOf};
 ghost use Rattle.answers.specs.Checks.{answer};
 ghost use Rattle.limits.specs.Sound.{Sound};
 ghost use Rattle.arcs.specs.Net.{Ends};
-ghost use Rattle.plan.specs.Plan.{trailOf, tableOf};
+ghost use Rattle.plan.specs.Plan.{trailOf, roundOf, tableOf};
 ghost use Rattle.arcs.specs.Shows.{Visits};
 ghost use Rattle.trail.specs.Filled.{filledWith, Tells};
+ghost use Rattle.round.specs.Round.{labelsOf};
 ghost use Rattle.planning.specs.Plans.{netOf, PartsOf, FromStart, WithTable, Plan};
 ghost use Rattle.planning.specs.Planning.{planningFor, planning, planningAt, Plots, Ready};
 ghost use Rattle.planning.specs.Numbers.{numbersOf};
 
-// The parts of a plan, each found once: the plant, the sizes of its network from its start, the ends of its arcs, the bridges, the arcs in use and their chains by switch, and the
-// legs of the trail. The table of distances is lent beside them.
+// The parts of a plan, each found once: the plant, the sizes of its network from its start, the ends of its arcs, the visit, the bridges, the arcs in use and their chains by
+// switch, and the legs of the trail. The table of distances is lent beside them.
 pub struct Parts {
     pub plant: Plant,
     pub net: Net,
     pub tails: [u8; Plant::LABELS],
     pub heads: [u8; Plant::LABELS],
+    pub visited: Visited,
     pub bridges: [bool; Plant::MAX_LINKS],
     pub used: [bool; Plant::LABELS],
     pub first: [u16; Plant::PLACES],
@@ -59,6 +62,13 @@ fn refused_plan(k: Refusal) -> Planned
         labels: 0,
         root: 0,
     };
+    let visited = Visited {
+        root: 0,
+        next: 0,
+        seen: [false; Plant::PLACES],
+        rank: [0; Plant::PLACES],
+        entered: [false; Plant::MAX_LINKS],
+    };
     let legs = Legs {
         count: 0,
         hops: 0,
@@ -69,6 +79,7 @@ fn refused_plan(k: Refusal) -> Planned
         net,
         tails: [0; Plant::LABELS],
         heads: [0; Plant::LABELS],
+        visited,
         bridges: [false; Plant::MAX_LINKS],
         used: [false; Plant::LABELS],
         first: [0; Plant::PLACES],
@@ -121,6 +132,7 @@ fn parts_of(
         net,
         tails,
         heads,
+        visited: v,
         bridges,
         used,
         first,
@@ -209,6 +221,24 @@ pub fn compare(x: Parts, t: &[[u8; Plant::PLACES]; Plant::PLACES], lent: &[u16])
     let first = x.first;
     let after = x.after;
     trail::compare(x.net, &tails, &heads, &first, &after, t, x.legs, lent)
+}
+
+// The round trail of a plan.
+pub fn round_of(x: Parts) -> Round
+    requires { ⌜ FromStart x ⌝ }
+    ensures { λ r. ⌜ labelsOf r ≡ roundOf (x .plant) ⌝ }
+{
+    let tails = x.tails;
+    let heads = x.heads;
+    round::round_of(x.plant, &tails, &heads, x.visited)
+}
+
+// Does the lent slice begin with the hops of the round trail of a plan?
+pub fn compare_round(x: Parts, lent: &[u16]) -> Compared
+    requires { ⌜ FromStart x ⌝ }
+    ensures { λ r. ⌜ Tells (now (lent .entry)) (roundOf (x .plant)) r ⌝ }
+{
+    round::compare(round_of(x), lent)
 }
 
 // The forwarding table of a plan.

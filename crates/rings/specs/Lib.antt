@@ -5,5 +5,6 @@ pub mod Order
 pub mod Probe
 pub mod Injection
 pub mod FirstDown
+pub mod Round
 pub mod Parts
 pub mod Cases

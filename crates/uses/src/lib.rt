@@ -1,22 +1,25 @@
-// The arcs in use of a plant, read from a visit of it, and how many flags are set. Inner: the calls are the crates `planner` and `probing`.
+// The arcs in use of a plant and the leading arcs of its round trail, read from a visit of it, and how many flags are set. Inner: the calls are the crates `planner` and
+// `probing`.
 ghost use mathlib.Core.Path.{_≡_};
 ghost use Prim.Native.Nat.{_*_};
 ghost use Rattle.limits.specs.Limits.{maxLinks};
 ghost use Rattle.limits.specs.Sound.{Sound};
+ghost use Rattle.lists.specs.Arrays.{flag};
 ghost use Rattle.walks.specs.Graph.{bridgeFrom, usedFrom};
+ghost use Rattle.walks.specs.Inner.{takenFrom, leadingFrom};
 ghost use Rattle.arcs.specs.Net.{Ends};
 ghost use Rattle.arcs.specs.Shows.{Visits};
 ghost use Rattle.arcs.specs.Flags.{Flags, countSet};
-ghost use Rattle.uses.specs.Inner.{inUse};
+ghost use Rattle.uses.specs.Inner.{isTaken};
 use arcs::Visited;
 use plant::Plant;
 
-// Is an arc in use whose tail and head the visit numbered so? Both arcs of a bridge are; of an entered link that is no bridge, the arc from earlier to
-// later visited; of every other link, the arc from later to earlier.
-fn in_use(bridge: bool, entered: bool, tail: u8, head: u8) -> bool
-    ensures { λ r. ⌜ r ≡ inUse bridge entered tail head ⌝ }
+// Is an arc taken whose tail and head the visit numbered so? Of a link with two both arcs are; of another entered link, the arc from earlier to later visited; of every
+// other link, the arc from later to earlier.
+fn taken(two: bool, entered: bool, tail: u8, head: u8) -> bool
+    ensures { λ r. ⌜ r ≡ isTaken two entered tail head ⌝ }
 {
-    if bridge {
+    if two {
         return true;
     }
     if entered {
@@ -25,7 +28,39 @@ fn in_use(bridge: bool, entered: bool, tail: u8, head: u8) -> bool
     head < tail
 }
 
-// A flag for each label: is its arc in use from the root? The flags of the bridges are given.
+// A flag for each label: is its arc taken, where these links have two?
+fn arcs_taken(
+    p: Plant,
+    tails: &[u8; Plant::LABELS],
+    heads: &[u8; Plant::LABELS],
+    v: Visited,
+    two: &[bool; Plant::MAX_LINKS],
+) -> [bool; Plant::LABELS]
+    requires { ⌜ Sound p ⌝ }
+    requires { ⌜ Ends p (now tails) (now heads) ⌝ }
+    requires { ⌜ Visits p (v .root) v ⌝ }
+    ensures { λ r. ⌜ Flags (2 * maxLinks) (takenFrom p (v .root) (flag (now (two .entry)))) r ⌝ }
+{
+    let mut u = [false; Plant::LABELS];
+    let n = p.count as usize;
+    let mut l: usize = 0;
+    while l < n {
+        let x = tails[2 * l] as usize;
+        let y = heads[2 * l] as usize;
+        if arcs::is_live(p, l) && v.seen[x] {
+            let both = two[l];
+            let entered = v.entered[l];
+            let i = v.rank[x];
+            let j = v.rank[y];
+            u[2 * l] = taken(both, entered, i, j);
+            u[2 * l + 1] = taken(both, entered, j, i);
+        }
+        l += 1;
+    }
+    u
+}
+
+// A flag for each label: is its arc in use from the root? Both arcs of a bridge are: the flags of the bridges are given.
 pub fn arcs_in_use(
     p: Plant,
     tails: &[u8; Plant::LABELS],
@@ -39,23 +74,23 @@ pub fn arcs_in_use(
     requires { ⌜ Flags maxLinks (bridgeFrom p (v .root)) (now b) ⌝ }
     ensures { λ r. ⌜ Flags (2 * maxLinks) (usedFrom p (v .root)) r ⌝ }
 {
-    let mut u = [false; Plant::LABELS];
-    let n = p.count as usize;
-    let mut l: usize = 0;
-    while l < n {
-        let x = tails[2 * l] as usize;
-        let y = heads[2 * l] as usize;
-        if arcs::is_live(p, l) && v.seen[x] {
-            let bridge = b[l];
-            let entered = v.entered[l];
-            let i = v.rank[x];
-            let j = v.rank[y];
-            u[2 * l] = in_use(bridge, entered, i, j);
-            u[2 * l + 1] = in_use(bridge, entered, j, i);
-        }
-        l += 1;
-    }
-    u
+    arcs_taken(p, tails, heads, v, b)
+}
+
+// A flag for each label: is it the one by which the round trail crosses its link first? No link has two of them.
+pub fn leading_arcs(
+    p: Plant,
+    tails: &[u8; Plant::LABELS],
+    heads: &[u8; Plant::LABELS],
+    v: Visited,
+) -> [bool; Plant::LABELS]
+    requires { ⌜ Sound p ⌝ }
+    requires { ⌜ Ends p (now tails) (now heads) ⌝ }
+    requires { ⌜ Visits p (v .root) v ⌝ }
+    ensures { λ r. ⌜ Flags (2 * maxLinks) (leadingFrom p (v .root)) r ⌝ }
+{
+    let none = [false; Plant::MAX_LINKS];
+    arcs_taken(p, tails, heads, v, &none)
 }
 
 // How many flags are set?

@@ -15,3 +15,10 @@ pub mod Valid
 pub mod Limits
 pub mod Rising
 pub mod LinksAt
+pub mod Tour
+pub mod Hops
+pub mod Leading
+pub mod NextAt
+pub mod Halfway
+pub mod NextHop
+pub mod Round

@@ -9,8 +9,9 @@ use Rattle.lists.specs.Numbers.{range, keep, every}
 use Rattle.plant.specs.declared.Plant.{Plant}
 use Rattle.plant.specs.Links.{live}
 use Rattle.walks.specs.Visit.{scan, visit}
-use Rattle.walks.specs.Arcs.{tail, head}
+use Rattle.walks.specs.Arcs.{opposite, tail, head}
 use Rattle.walks.specs.Graph.{arcs, others, visitFrom, bridge, visitedFrom, reachedFrom, usedFrom}
+use Rattle.walks.specs.Round.{walkAt, tour, roundFrom}
 
 -- the ends of the links, first and second. Its start plays no part here
 abbrev pub plantOf : ℕ → List (ℕ × ℕ) → Plant
@@ -28,6 +29,8 @@ pub record Row : Type 0 where
   pub in-use : List ℕ
   -- the switches in the order of the visit
   pub order : List ℕ
+  -- the labels of the round trail
+  pub round : List ℕ
 
 -- the row of a plant and a root by the definitions
 unfoldable pub rowOf : Plant → ℕ → Row
@@ -38,6 +41,7 @@ rowOf p r = record {
   bridging = keep (bridge p) (range 0 (p .count));
   in-use = keep (usedFrom p r) (range 0 (2 * p .count));
   order = reverse (visitedFrom p r .ord);
+  round = roundFrom p r;
 }
 
 abbrev pub triangle : Row
@@ -48,6 +52,7 @@ triangle = record {
   bridging = [];
   in-use = 0 ∷ 2 ∷ 4 ∷ [];
   order = 0 ∷ 1 ∷ 2 ∷ [];
+  round = 0 ∷ 2 ∷ 4 ∷ 5 ∷ 3 ∷ 1 ∷ [];
 }
 
 abbrev pub oneLink : Row
@@ -58,6 +63,7 @@ oneLink = record {
   bridging = 0 ∷ [];
   in-use = 0 ∷ 1 ∷ [];
   order = 0 ∷ 1 ∷ [];
+  round = 0 ∷ 1 ∷ [];
 }
 
 abbrev pub threeParallel : Row
@@ -68,6 +74,7 @@ threeParallel = record {
   bridging = [];
   in-use = 0 ∷ 3 ∷ 5 ∷ [];
   order = 0 ∷ 1 ∷ [];
+  round = 0 ∷ 3 ∷ 2 ∷ 5 ∷ 4 ∷ 1 ∷ [];
 }
 
 abbrev pub alone : Row
@@ -78,6 +85,7 @@ alone = record {
   bridging = [];
   in-use = [];
   order = 0 ∷ [];
+  round = [];
 }
 
 -- four switches in a row, begun at the third
@@ -89,6 +97,7 @@ path = record {
   bridging = 0 ∷ 1 ∷ 2 ∷ [];
   in-use = 0 ∷ 1 ∷ 2 ∷ 3 ∷ 4 ∷ 5 ∷ [];
   order = 2 ∷ 1 ∷ 0 ∷ 3 ∷ [];
+  round = 3 ∷ 1 ∷ 0 ∷ 2 ∷ 4 ∷ 5 ∷ [];
 }
 
 abbrev pub ringWithTail : Row
@@ -99,6 +108,7 @@ ringWithTail = record {
   bridging = 3 ∷ [];
   in-use = 0 ∷ 2 ∷ 4 ∷ 6 ∷ 7 ∷ [];
   order = 0 ∷ 1 ∷ 2 ∷ 3 ∷ [];
+  round = 0 ∷ 2 ∷ 4 ∷ 5 ∷ 3 ∷ 1 ∷ 6 ∷ 7 ∷ [];
 }
 
 -- the plant of source document 003's Table I: switches s1 to s7 are 0 to 6
@@ -110,6 +120,7 @@ tableOne = record {
   bridging = [];
   in-use = 0 ∷ 2 ∷ 4 ∷ 6 ∷ 8 ∷ 10 ∷ 12 ∷ 14 ∷ 16 ∷ [];
   order = 0 ∷ 4 ∷ 1 ∷ 2 ∷ 5 ∷ 6 ∷ 3 ∷ [];
+  round = 0 ∷ 2 ∷ 4 ∷ 6 ∷ 8 ∷ 10 ∷ 12 ∷ 13 ∷ 11 ∷ 9 ∷ 14 ∷ 15 ∷ 7 ∷ 5 ∷ 16 ∷ 17 ∷ 3 ∷ 1 ∷ [];
 }
 
 -- switch 2 is joined to nothing
@@ -121,11 +132,12 @@ apart = record {
   bridging = 0 ∷ [];
   in-use = 0 ∷ 1 ∷ [];
   order = 0 ∷ 1 ∷ [];
+  round = 0 ∷ 1 ∷ [];
 }
 
 abbrev pub table : List Row
 table = triangle ∷ oneLink ∷ threeParallel ∷ alone ∷ path ∷ ringWithTail ∷ tableOne ∷ apart ∷ []
 
 pub as-expected : map (λ r. rowOf (r .plant) (r .root)) table ≡ table
-unfolding rowOf bridge usedFrom visitFrom arcs others visit scan tail head live every
+unfolding rowOf bridge usedFrom visitFrom arcs others visit scan roundFrom tour walkAt opposite tail head live every
 as-expected = refl

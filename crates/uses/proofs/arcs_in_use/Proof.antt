@@ -1,76 +1,11 @@
--- `uses::arcs_in_use` meets its contract. The loop's invariant: the flags below 2 l are laid. Assumes nothing.
-use mathlib.Core.Path.{_≡_, sym, _∙_}
-use mathlib.Core.Logic.{⊎-elim}
-use mathlib.Core.Bool.{false}
-use Prim.Native.Nat.{_+_, _-_, _*_, _≤_, _<_}
-use native.Mathlib.Omega.{arith}
-use Rattle.lists.specs.Arrays.{at}
-use Rattle.lists.proofs.Laid.{Laid, laid-none, laid-put-two, laid-pass-two, laid-all}
-use Rattle.limits.specs.Limits.{maxSwitches, maxLinks}
-use Rattle.walks.specs.Graph.{usedFrom}
-use Rattle.walks.proofs.Labels.{even-half, odd-half}
-use Rattle.arcs.proofs.Ends.{first-end, second-end, tail-place, head-place}
-use Rattle.uses.proofs.Uses.{used-dead, used-past, used-pair, used-none}
+-- `uses::arcs_in_use` meets its contract: of the links that are reached the bridges have two. Assumes nothing.
+use borrow.Author.Needs.{needs}
+use Rattle.uses.proofs.Uses.{in-use}
 use Rattle.uses.proofs.arcs_in_use.Statement.{statement}
 use Rattle.uses.proofs.arcs_in_use.Tie as tie
 
-abbrev Inv-loop : tie.InvT-loop
-Inv-loop p tails heads b v u₀ n l₀ u l = (l ≤ n) × Laid false (2 * maxLinks) (usedFrom p (v .root)) (2 * l) u
-
-abbrev μ-loop : tie.MeasureT-loop
-μ-loop p tails heads b v u₀ n l₀ u l = n - l
-
--- the link has a place, and its ends are switches that there can be
-place : (c : tie.In-loop Inv-loop μ-loop) → c .before .loop .l < maxLinks
-place c = omega (arith, c .loop-test .taken, c .before .before .before .pre .0 .few-links)
-
-x-place : (c : tie.In-loop Inv-loop μ-loop) → let k = c .before in at (k .before .before .args .tails .now) (2 * k .loop .l) < maxSwitches
-x-place c = let s = c .before .before .before in tail-place (s .args .p) (s .args .tails .now) (s .pre .1 .0 .tails-are) (s .pre .0) (2 * c .before .loop .l)
-
-y-place : (c : tie.In-loop Inv-loop μ-loop) → let k = c .before in at (k .before .before .args .heads .now) (2 * k .loop .l) < maxSwitches
-y-place c = let s = c .before .before .before in head-place (s .args .p) (s .args .heads .now) (s .pre .1 .0 .heads-are) (s .pre .0) (2 * c .before .loop .l)
-
--- the turn of the loop where both tests have passed
-abbrev turn : tie.Then2 Inv-loop μ-loop → tie.In-loop Inv-loop μ-loop
-turn c = c .before .before .before .before .before .before
-
-loop-again : tie.Need-loop-again Inv-loop μ-loop
-loop-again c =
-    let k = c .before .before .before .before .before in
-    let s = k .before .before in
-    let h = s .pre in
-    let p = s .args .p in
-    let l = k .loop .l in
-    let is = sym (c .before .is-live .ensures) in
-    let x = first-end p (s .args .tails .now) (h .1 .0 .tails-are) l in
-    let y = second-end p (s .args .heads .now) (h .1 .0 .heads-are) l in (
-      omega arith,
-      ⊎-elim
-          (λ w. let e = used-pair (h .0) (h .1 .1 .0) l (is ∙ w .0 .taken) x y (w .2 .taken) _ (h .1 .1 .1 .tells l) _ _ (w .7 .ensures) (w .8 .ensures) in
-          rw (w .9) (laid-put-two false (2 * maxLinks) _ l (k .loop .u) (k .loop .inv .1) _ _ (omega (arith, place (c .before .before .before .before))) (e .0) (e .1)))
-          (λ w. let e : (usedFrom p (s .args .t4 .root) (2 * l) ≡ false) × (usedFrom p (s .args .t4 .root) (2 * l + 1) ≡ false) =
-          ⊎-elim (λ z. used-none (h .0) (h .1 .1 .0) l (is ∙ z .0 .taken) x y (z .2 .left))
-          (λ z. (used-dead p _ (2 * l) l (even-half l) (is ∙ z .left), used-dead p _ (2 * l + 1) l (odd-half l) (is ∙ z .left))) (w .0 .came) in
-          rw (w .1) (laid-pass-two false (2 * maxLinks) _ l (k .loop .u) (k .loop .inv .1) (e .0) (e .1))) (c .if1 .came),
-    )
-
-returns : tie.Need-returns Inv-loop μ-loop
-returns c =
-    let k = c .before in
-    let p = k .before .before .args .p in
-    record {
-      places = k .loop .inv .1 .places;
-      tells = laid-all false (2 * maxLinks) _ (2 * k .loop .l) (k .loop .u) (k .loop .inv .1) (λ a h. used-past p _ a (omega (arith, c .loop-test .left)));
-    }
+returns : tie.Need-returns
+returns c = let h = c .before .pre in in-use (h .0) (h .1 .1 .0) _ _ (h .1 .1 .1) (c .arcs-taken .ensures)
 
 pub arcs-in-use-spec : {M : Type 1} → statement M
-arcs-in-use-spec =
-    tie.close (tie.spec Inv-loop μ-loop (λ c. omega (arith, c .before .pre .0 .few-links)) (λ c. (omega arith, laid-none false (2 * maxLinks) _))
-    (λ c. omega (arith, place c)) (λ c. omega (arith, place c)) (λ c. omega (arith, x-place (c .before))) (λ c. omega (arith, place (c .before)))
-    (λ c. omega (arith, place (c .before))) (λ c. omega (arith, y-place (c .before .before))) (λ c κs. tt) (λ c. x-place (c .before .before .before .before))
-    (λ c. place (turn c)) (λ c. place (turn (c .before))) (λ c. x-place (turn (c .before .before))) (λ c. y-place (turn (c .before .before .before)))
-    (λ c κs. tt) (λ c. omega (arith, place (turn (c .before .before .before .before .before))))
-    (λ c. omega (arith, place (turn (c .before .before .before .before .before)))) (λ c κs. tt)
-    (λ c. omega (arith, place (turn (c .before .before .before .before .before .before)))) (λ c. omega (arith, place (turn (c .before .before .before .before .before .before))))
-    (λ c. omega (arith, place (turn (c .before .before .before .before .before .before)))) (λ c. omega (arith, place (c .before .before .before .before))) (λ c. omega arith)
-    loop-again returns)
+arcs-in-use-spec = tie.close (tie.spec (λ c κs. search needs) returns)

@@ -1,0 +1,3 @@
+pub mod Follow
+pub mod Turning
+pub mod Whole
