@@ -1,17 +1,17 @@
 -- Refusals 12 and 13: of a lent trail and of state bytes. Assumes nothing.
-use mathlib.Core.Path.{_≡_, _∙_}
+use mathlib.Core.Path.{_≡_, refl, ap, _∙_}
 use mathlib.Core.Bool.{Bool, true, false, not}
 use mathlib.Core.List.{List}
 use Prim.Native.Nat.{ℕ, _≤_}
 use lib.Dec.{eqb}
-use lib.ListN.{length}
+use lib.ListN.{length, take}
 use borrow.Author.Tests.{ltb-false, not-false}
 use Rattle.plant.specs.declared.Plant.{Plant}
 use Rattle.plan.specs.Plan.{trailOf}
 use Rattle.trail.specs.declared.Compared.the-variants.{Same, Other}
 use Rattle.trail.specs.Filled.{Tells}
-use Rattle.trail.proofs.Filled.{same-is}
-use Rattle.judging.specs.Conditions.{trailDiffers, statesShort}
+use Rattle.trail.proofs.Filled.{same-is, front-is}
+use Rattle.judging.specs.Conditions.{trailDiffers, hopsDiffer, statesShort}
 
 -- no refusal 13: there is a byte for each link
 pub states-enough : (e : ℕ) (states : List ℕ) → statesShort e states ≡ false → e ≤ length states
@@ -31,3 +31,23 @@ length-differs p w hops r e f = f ∙ rw (e .0, e .1)
 pub trail-same : (p : Plant) (w : List ℕ) → trailDiffers p w ≡ false → w ≡ trailOf p
 unfolding trailDiffers
 trail-same p w f = same-is w (trailOf p) .0 (not-false _ f)
+
+-- ---- 12 by the hops alone: what a comparison tells of a lent trail
+
+module _ (w lent : List ℕ) where
+  pub hops-other : Tells lent w Other → hopsDiffer w lent ≡ true
+  unfolding hopsDiffer
+  hops-other e = rw e refl
+
+  module _ (n : ℕ) (e : Tells lent w (Same n)) where
+    pub hops-same : hopsDiffer w lent ≡ false
+    unfolding hopsDiffer
+    hops-same = rw (e .0) refl
+
+    -- its front of so many places is w
+    pub hops-front : take n lent ≡ w
+    hops-front = ap (λ (k : ℕ). take k lent) (e .1) ∙ front-is lent w (e .0)
+
+  pub hops-begin : hopsDiffer w lent ≡ false → take (length w) lent ≡ w
+  unfolding hopsDiffer
+  hops-begin f = front-is lent w (not-false _ f)

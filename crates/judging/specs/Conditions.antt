@@ -1,12 +1,12 @@
 -- The conditions of refusals 12 to 15 in a call that is given a listing (document 01, "Refusals in checking order"), each once; and what calls try alike.
 use mathlib.Core.Bool.{Bool, not, _&&_}
 use mathlib.Core.List.{List, [], _∷_}
-use Prim.Native.Nat.{ℕ}
+use Prim.Native.Nat.{ℕ, _*_}
 use lib.Dec.{eqb, ltb}
 use lib.ListN.{length}
 use Rattle.plant.specs.declared.Plant.{Plant}
 use Rattle.answers.specs.Checks.{Conditions, Checked, check}
-use Rattle.plan.specs.Plan.{trailOf}
+use Rattle.plan.specs.Plan.{trailOf, roundOf}
 use Rattle.trail.specs.Filled.{beginsWith}
 use Rattle.search.specs.declared.Search.{Search}
 use Rattle.search.specs.Search.{sound, soundFor, ended, wanted}
@@ -15,7 +15,12 @@ use Rattle.search.specs.Search.{sound, soundFor, ended, wanted}
 unfoldable pub trailDiffers : Plant → List ℕ → Bool
 trailDiffers p w = not (beginsWith w (trailOf p) && eqb (length w) (length (trailOf p)))
 
--- 13: there are fewer link-state bytes than e, the links of the listing
+-- 12 in the calls of document 02's order 6, where "a lent trail may have spare places": it "looks at the hops alone and includes a slice too short". The lent trail does not
+-- begin with the hops w
+unfoldable pub hopsDiffer : List ℕ → List ℕ → Bool
+hopsDiffer w lent = not (beginsWith lent w)
+
+-- 13: there are fewer state bytes than e: the links of the listing, or in the round run its labels
 unfoldable pub statesShort : ℕ → List ℕ → Bool
 statesShort e states = ltb (length states) e
 
@@ -28,6 +33,10 @@ searchUnsound e q = not (sound q && soundFor e q)
 -- 12, then 13
 abbrev pub lentChecks : Plant → List ℕ → List ℕ → Conditions
 lentChecks p w states = (12, trailDiffers p w) ∷ (13, statesShort (p .count) states) ∷ []
+
+-- 12 and 13 of the round run: of the lent round trail, and of a byte for each label
+abbrev pub roundChecks : Plant → List ℕ → List ℕ → Conditions
+roundChecks p lent states = (12, hopsDiffer (roundOf p) lent) ∷ (13, statesShort (2 * p .count) states) ∷ []
 
 -- 14, then 15: a probe is wanted of All up or Down
 abbrev pub wantedChecks : ℕ → Search → Conditions

@@ -9,9 +9,9 @@ use Rattle.plant.specs.declared.Plant.{Plant}
 use Rattle.plant.specs.Links.{live}
 use Rattle.walks.specs.Arcs.{tail, head}
 use Rattle.rings.specs.Packet.{End, runOn, rulesFor}
-use Rattle.rings.specs.Rules.{upByLink, inAll}
+use Rattle.rings.specs.Rules.{inAll}
 use Rattle.arcs.specs.Net.{AllArcs}
-use Rattle.packet.specs.Runs.{flagged, goesOn}
+use Rattle.packet.specs.Runs.{flagged, upOf, goesBy}
 use Rattle.packet.specs.Asked.{ForArcs}
 
 module _ (p : Plant) (rules : List Bool) (all : AllArcs p rules) where
@@ -20,9 +20,9 @@ module _ (p : Plant) (rules : List Bool) (all : AllArcs p rules) where
   all-arcs a t = true-T (live p (a / 2)) (sym (all .tells a) ∙ t)
 
   -- a run under them is one under all rules
-  pub on-all : (states : List ℕ) (e : End) (w : List ℕ) → goesOn p rules states e w ≡ runOn (inAll p) (upByLink states) (head p) e w
+  pub on-all : (byLabel : Bool) (states : List ℕ) (e : End) (w : List ℕ) → goesBy byLabel p rules states e w ≡ runOn (inAll p) (upOf byLabel states) (head p) e w
   unfolding inAll flagged
-  on-all states e w = ap (λ (kind : ℕ → Bool). runOn (rulesFor kind (tail p)) (upByLink states) (head p) e w) same
+  on-all byLabel states e w = ap (λ (kind : ℕ → Bool). runOn (rulesFor kind (tail p)) (upOf byLabel states) (head p) e w) same
     where
       same : flag rules ≡ (λ a. live p (a / 2))
       same = λ i a. all .tells a i

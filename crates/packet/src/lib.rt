@@ -1,5 +1,5 @@
-// Packet runs: under rules that are flags of labels, by one state byte for each link; the full check, every probe, and the outcome of a run. Inner: the calls are the
-// crates `planner` and `probing`.
+// Packet runs: under rules that are flags of labels, by a state byte for each link, or for each label; the full check, the round run, every probe, and the outcome of a
+// run. Inner: the calls are the crates `planner` and `probing`.
 ghost use mathlib.Core.Path.{_≡_};
 ghost use mathlib.Core.Bool.{not, _&&_};
 ghost use Prim.Native.Nat.{_+_, _*_, _%_, _≤_, _<_};
@@ -13,9 +13,11 @@ ghost use Rattle.rings.specs.Packet.{run, rulesFor};
 ghost use Rattle.rings.specs.Rules.{upByLink};
 ghost use Rattle.rings.specs.Probe.{back};
 ghost use Rattle.rings.specs.Injection.{ringOf, probeRun};
-ghost use Rattle.packet.specs.Runs.{endOf, injectedAt, afterLabel, goesOn};
+ghost use Rattle.rings.specs.Round.{roundRun};
+ghost use Rattle.order.specs.Labels.{OverArcs};
+ghost use Rattle.packet.specs.Runs.{endOf, injectedAt, afterLabel, byteOf, goesBy, goesOn};
 ghost use Rattle.packet.specs.Outcome.{outcomeOf};
-ghost use Rattle.packet.specs.Asked.{CanRun, CanProbe, way, outAndBack};
+ghost use Rattle.packet.specs.Asked.{CanRunBy, CanRun, CanProbe, CanRound, way, outAndBack};
 use order::front;
 use order::place_of;
 use order::span_of;
@@ -67,7 +69,19 @@ fn label_at(labels: &[u16], i: usize, backward: bool) -> u16
     if a % 2 == 0 { a + 1 } else { a - 1 }
 }
 
-// Does a packet at switch s cross link l by label a? There is a rule for the label at the switch that its arc leaves, and the link is up.
+// The state byte of label a: its own, or that of its link.
+fn state_of(states: &[u8], a: usize, labelwise: bool) -> u8
+    requires { ⌜ byteOf labelwise a < length (now states) ⌝ }
+    ensures { λ r. ⌜ r ≡ getD (now (states .entry)) (byteOf labelwise a) 0 ⌝ }
+{
+    let l = a / 2;
+    if labelwise {
+        return states[a];
+    }
+    states[l]
+}
+
+// Does a packet at switch s cross link l by label a? There is a rule for the label at the switch that its arc leaves, and the label is up.
 fn crosses(rule: bool, state: u8, l: Link, a: usize, s: u8) -> bool
     ensures { λ r. ⌜ r ≡ (rule && eqb (side (a % 2) (l .first) (l .second)) s) && not (eqb state 0) ⌝ }
 {
@@ -101,18 +115,19 @@ fn after_label(e: End, crosses: bool, to: u8) -> End
     }
 }
 
-// A packet that came so far goes on over these labels, or back over them, unless it is lost.
+// A packet that came so far goes on over these labels, or back over them, unless it is lost: by a state byte for each label, or for each link.
 fn run_way(
     p: Plant,
     rules: [bool; Plant::LABELS],
     states: &[u8],
+    labelwise: bool,
     e: End,
     labels: &[u16],
     backward: bool,
 ) -> End
-    requires { ⌜ CanRun p rules (now states) ⌝ }
+    requires { ⌜ CanRunBy labelwise p rules (now states) ⌝ }
     requires { do ⌜ e .hops + length (now labels) ≤ (← ⟦usize::MAX⟧) ⌝ }
-    ensures { λ r. ⌜ endOf r ≡ goesOn p rules (now (states .entry)) (endOf e) (way backward (now (labels .entry))) ⌝ }
+    ensures { λ r. ⌜ endOf r ≡ goesBy labelwise p rules (now (states .entry)) (endOf e) (way backward (now (labels .entry))) ⌝ }
 {
     if !e.ended {
         return e;
@@ -126,7 +141,7 @@ fn run_way(
             return after_label(at, false, at.last);
         }
         let l = p.links[a / 2];
-        let c = crosses(rules[a], states[a / 2], l, a, at.last);
+        let c = crosses(rules[a], state_of(states, a, labelwise), l, a, at.last);
         at = after_label(at, c, head_of(l, a));
         if !at.ended {
             return at;
@@ -142,7 +157,7 @@ pub fn run_on(p: Plant, rules: [bool; Plant::LABELS], states: &[u8], e: End, lab
     requires { do ⌜ e .hops + length (now labels) ≤ (← ⟦usize::MAX⟧) ⌝ }
     ensures { λ r. ⌜ endOf r ≡ goesOn p rules (now (states .entry)) (endOf e) (now (labels .entry)) ⌝ }
 {
-    run_way(p, rules, states, e, labels, false)
+    run_way(p, rules, states, false, e, labels, false)
 }
 
 // A packet that came so far goes back over these labels, unless it is lost: over the opposite arcs, from the last.
@@ -151,10 +166,28 @@ fn run_back(p: Plant, rules: [bool; Plant::LABELS], states: &[u8], e: End, label
     requires { do ⌜ e .hops + length (now labels) ≤ (← ⟦usize::MAX⟧) ⌝ }
     ensures { λ r. ⌜ endOf r ≡ goesOn p rules (now (states .entry)) (endOf e) (back (now (labels .entry))) ⌝ }
 {
-    run_way(p, rules, states, e, labels, true)
+    run_way(p, rules, states, false, e, labels, true)
 }
 
-// The full check: the packet runs under the forwarding table over the ring of switch s, which is the trail from the place of s on and then its front.
+// A packet runs over the ring of switch s, which is the trail from the place of s on and then its front: by a state byte for each label, or for each link.
+fn run_ring(
+    p: Plant,
+    rules: [bool; Plant::LABELS],
+    states: &[u8],
+    labelwise: bool,
+    s: u8,
+    trail: &[u16],
+) -> End
+    requires { ⌜ CanRunBy labelwise p rules (now states) ⌝ }
+    requires { ⌜ OverArcs p (now trail) ⌝ }
+    ensures { λ r. ⌜ endOf r ≡ goesBy labelwise p rules (now (states .entry)) (injectedAt s) (ringOf p (now (trail .entry)) s) ⌝ }
+{
+    let k = place_of(p, s, trail);
+    let e = run_way(p, rules, states, labelwise, injected(s), &trail[k..], false);
+    run_way(p, rules, states, labelwise, e, &trail[..k], false)
+}
+
+// The full check: the packet runs under the forwarding table over the ring of switch s, by a state byte for each link.
 pub fn full_check(
     p: Plant,
     table: [bool; Plant::LABELS],
@@ -165,9 +198,16 @@ pub fn full_check(
     requires { ⌜ CanProbe p table (now states) (now trail) ⌝ }
     ensures { λ r. ⌜ endOf r ≡ run (rulesFor (flag table) (tail p)) (upByLink (now (states .entry))) (head p) s 0 (ringOf p (now (trail .entry)) s) ⌝ }
 {
-    let k = place_of(p, s, trail);
-    let e = run_on(p, table, states, injected(s), &trail[k..]);
-    run_on(p, table, states, e, &trail[..k])
+    run_ring(p, table, states, false, s, trail)
+}
+
+// The round run: the packet runs under all rules over the ring of switch s on the round trail, by a state byte for each label.
+pub fn round_run(p: Plant, states: &[u8], s: u8, round: &[u16]) -> End
+    requires { ⌜ CanRound p (now states) (now round) ⌝ }
+    ensures { λ r. ⌜ endOf r ≡ roundRun p (now (round .entry)) s (now (states .entry)) ⌝ }
+{
+    let all = arcs::all_arcs(p);
+    run_ring(p, all, states, true, s, round)
 }
 
 // From switch s out over x and then y, and back over the opposite arcs.

@@ -1,4 +1,4 @@
--- The trail of a listing in a lent buffer, and the flags of its bridges. Assumes nothing.
+-- A trail of a listing in a lent buffer, and the flags of its bridges. Assumes nothing.
 use mathlib.Core.Path.{_≡_, refl, sym, ap, ap₂}
 use mathlib.Core.Bool.{Bool, false}
 use mathlib.Core.List.{List}
@@ -8,48 +8,46 @@ use lib.ListN.{length}
 use Rattle.lists.proofs.Numbers.{values-are}
 use Rattle.plant.specs.declared.Plant.{Plant}
 use Rattle.answers.specs.Answers.{Answer, given, refused}
-use Rattle.answers.specs.Checks.{answer}
+use Rattle.answers.specs.Checks.{Checked, answer, _then_}
 use Rattle.answers.proofs.Checks.{goes-on, stops, result-given}
 use Rattle.limits.specs.Limits.{maxLinks}
 use Rattle.walks.specs.Graph.{bridge}
 use Rattle.arcs.specs.Flags.{Flags}
-use Rattle.plan.specs.Plan.{trailOf}
 use Rattle.planning.specs.Planning.{planning}
-use Rattle.planner.specs.Calls.{bridgeFlags, placesShort, laying, trailing, trailLeft, laidOut}
+use Rattle.planner.specs.Calls.{bridgeFlags, placesShort, laying, trailLeft}
 
 pub flags-are : (p : Plant) (fs : List Bool) → Flags maxLinks (bridge p) fs → fs ≡ bridgeFlags p
 unfolding bridgeFlags
 flags-are p fs f = values-are (bridge p) false maxLinks fs (f .places) (λ i h. f .tells i)
 
--- ---- laying the trail of a plant
+-- ---- laying a trail
 
-module _ (p : Plant) (b : List ℕ) where
+module _ (w b : List ℕ) where
   -- 10
-  pub lay-short : length b < length (trailOf p) → refused 10 ≡ answer (laying p b)
+  pub lay-short : length b < length w → refused 10 ≡ answer (laying w b)
   unfolding laying placesShort
-  lay-short h = rw (lt-ltb (length b) (length (trailOf p)) h) refl
+  lay-short h = rw (lt-ltb (length b) (length w) h) refl
 
-  pub lay-enough : length (trailOf p) ≤ length b → (n : ℕ) → n ≡ length (trailOf p) → given n ≡ answer (laying p b)
+  pub lay-enough : length w ≤ length b → (n : ℕ) → n ≡ length w → given n ≡ answer (laying w b)
   unfolding laying placesShort
-  lay-enough h n e = rw (le-ltb (length b) (length (trailOf p)) h, e) refl
+  lay-enough h n e = rw (le-ltb (length b) (length w) h, e) refl
 
--- ---- by the answer of planning
+-- ---- the trail that f tells of a plant, by the answer of planning
 
-module _ (s b : List ℕ) where
+module _ (f : Plant → List ℕ) (s b : List ℕ) where
+  abbrev whole : Checked ℕ
+  whole = planning s then λ p. laying (f p) b
+
   module _ (p : Plant) (e : answer (planning s) ≡ given p) where
-    pub trail-given : answer (laying p b) ≡ answer (trailing s b)
-    unfolding trailing
-    trail-given = sym (goes-on (planning s) (λ q. laying q b) p e)
+    pub trail-given : answer (laying (f p) b) ≡ answer whole
+    trail-given = sym (goes-on (planning s) (λ q. laying (f q) b) p e)
 
-    pub left-given : trailLeft p b (answer (laying p b)) ≡ laidOut s b
-    unfolding laidOut
-    left-given = ap₂ (λ (q : Plant) (a : Answer ℕ). trailLeft q b a) (sym (result-given (planning s) p e)) trail-given
+    pub left-given : trailLeft (f p) b (answer (laying (f p) b)) ≡ trailLeft (f (planning s .result)) b (answer whole)
+    left-given = ap₂ (λ (q : Plant) (a : Answer ℕ). trailLeft (f q) b a) (sym (result-given (planning s) p e)) trail-given
 
   module _ (n : ℕ) (e : answer (planning s) ≡ refused n) where
-    pub trail-refused : refused n ≡ answer (trailing s b)
-    unfolding trailing
-    trail-refused = sym (stops (planning s) (λ q. laying q b) n e)
+    pub trail-refused : refused n ≡ answer whole
+    trail-refused = sym (stops (planning s) (λ q. laying (f q) b) n e)
 
-    pub left-refused : b ≡ laidOut s b
-    unfolding laidOut
-    left-refused = ap (trailLeft (planning s .result) b) trail-refused
+    pub left-refused : b ≡ trailLeft (f (planning s .result)) b (answer whole)
+    left-refused = ap (trailLeft (f (planning s .result)) b) trail-refused

@@ -12,7 +12,7 @@ use Rattle.limits.specs.Limits.{maxLinks}
 use Rattle.listing.specs.Listing.{reading}
 use Rattle.listing.specs.Writing.{writing}
 use Rattle.walks.specs.Graph.{bridge}
-use Rattle.plan.specs.Plan.{trailOf, tableOf}
+use Rattle.plan.specs.Plan.{trailOf, roundOf, tableOf}
 use Rattle.trail.specs.Filled.{filledWith}
 use Rattle.table.specs.declared.Table.{Table}
 use Rattle.senders.specs.declared.BySwitch.{BySwitch}
@@ -63,25 +63,31 @@ bridging s = planning s giving bridgeFlags
 unfoldable pub summing : List ℕ → Checked Numbers
 summing s = planning s giving numbersOf
 
--- ---- the trail: 1 to 9, then 10
+-- ---- the trail, and the round trail: 1 to 9, then 10
 
--- 10: the lent buffer has fewer places than the trail has hops
-unfoldable pub placesShort : Plant → List ℕ → Bool
-placesShort p b = ltb (length b) (length (trailOf p))
+-- 10: the lent buffer has fewer places than the trail w has hops
+unfoldable pub placesShort : List ℕ → List ℕ → Bool
+placesShort w b = ltb (length b) (length w)
 
 -- the hops
-unfoldable pub laying : Plant → List ℕ → Checked ℕ
-laying p b = check ((10, placesShort p b) ∷ []) (length (trailOf p))
+unfoldable pub laying : List ℕ → List ℕ → Checked ℕ
+laying w b = check ((10, placesShort w b) ∷ []) (length w)
+
+-- the trail w, then what stood past its end; at a refusal the buffer as it was
+abbrev pub trailLeft : List ℕ → List ℕ → Answer ℕ → List ℕ
+trailLeft w b = leaves (λ n. filledWith w b) b
 
 unfoldable pub trailing : List ℕ → List ℕ → Checked ℕ
-trailing s b = planning s then λ p. laying p b
-
--- the trail of a plant, then what stood past its end; at a refusal the buffer as it was
-abbrev pub trailLeft : Plant → List ℕ → Answer ℕ → List ℕ
-trailLeft p b = leaves (λ n. filledWith (trailOf p) b) b
+trailing s b = planning s then λ p. laying (trailOf p) b
 
 unfoldable pub laidOut : List ℕ → List ℕ → List ℕ
-laidOut s b = trailLeft (planning s .result) b (answer (trailing s b))
+laidOut s b = trailLeft (trailOf (planning s .result)) b (answer (trailing s b))
+
+unfoldable pub roundTrailing : List ℕ → List ℕ → Checked ℕ
+roundTrailing s b = planning s then λ p. laying (roundOf p) b
+
+unfoldable pub roundLaidOut : List ℕ → List ℕ → List ℕ
+roundLaidOut s b = trailLeft (roundOf (planning s .result)) b (answer (roundTrailing s b))
 
 -- ---- the buying page: 1 to 9, then 17, then 18
 

@@ -19,8 +19,9 @@ use Rattle.lists.specs.Numbers.{every}
 use Rattle.lists.specs.Padded.{padded}
 use Rattle.lists.specs.Sum.{sum}
 use Rattle.walks.specs.Visit.{scan, visit}
-use Rattle.walks.specs.Arcs.{tail, head}
+use Rattle.walks.specs.Arcs.{opposite, tail, head}
 use Rattle.walks.specs.Graph.{arcs, others, visitFrom, bridge, linksAt, usedFrom}
+use Rattle.walks.specs.Round.{walkAt, tour, roundFrom}
 use Rattle.routes.specs.Distance.{sources, within, dist, hop, hops, route}
 use Rattle.routes.specs.Trail.{near, nearest, legs, trail}
 use Rattle.table.specs.Rules.{tableWith, rulesIn}
@@ -34,7 +35,7 @@ use Rattle.quantity.specs.Cases.{rows as quantities}
 use Rattle.sheet.specs.Page.{writingPage}
 use Rattle.planning.specs.Planning.{notConnected, planning}
 use Rattle.quoting.specs.Quotes.{pricing, quoting}
-use Rattle.planner.specs.Calls.{tabling, counting, placesShort, laying, laidOut, trailing, quotingFor, buying}
+use Rattle.planner.specs.Calls.{tabling, counting, placesShort, laying, laidOut, trailing, roundLaidOut, roundTrailing, quotingFor, buying}
 
 pub record Row : Type 0 where
   pub got : Answer (List ℕ)
@@ -126,6 +127,22 @@ bySwitches =
     ∷ orders twoSwitches 10 (given (3 ∷ 4 ∷ []))
     ∷ []
 
+-- ---- the round trail: its hops, and what stands in a buffer of so many places that held 7
+
+abbrev rounds : List ℕ → ℕ → Answer (List ℕ) → Row
+rounds s places a = record { got = answer (roundTrailing s (replicate places 7)) >>= λ n. given (n ∷ roundLaidOut s (replicate places 7)); said = a }
+
+abbrev roundTrails : List Row
+roundTrails =
+    rounds (1 ∷ maxSwitches ∷ []) 0 (refused 9)
+    ∷ rounds (0 ∷ []) 1 (given (0 ∷ 7 ∷ []))
+    ∷ rounds twoSwitches 2 (given (2 ∷ 0 ∷ 1 ∷ []))
+    ∷ rounds triangle 6 (given (6 ∷ 0 ∷ 2 ∷ 4 ∷ 5 ∷ 3 ∷ 1 ∷ []))
+    ∷ rounds threeParallel 5 (refused 10)
+    ∷ rounds threeParallel 6 (given (6 ∷ 0 ∷ 3 ∷ 2 ∷ 5 ∷ 4 ∷ 1 ∷ []))
+    ∷ rounds ringAndTail 10 (given (8 ∷ 0 ∷ 2 ∷ 4 ∷ 5 ∷ 3 ∷ 1 ∷ 6 ∷ 7 ∷ 7 ∷ 7 ∷ []))
+    ∷ []
+
 -- ---- the buying page: its counts (the rules of the switches, the links at them, all rules, the quantity), and its length in a buffer of so many places
 
 abbrev quotes : List ℕ → ℕ → Answer (List ℕ) → Row
@@ -164,8 +181,8 @@ as-row r = record { got = r .0; said = r .1 }
 -- ---- the table, and the test
 
 abbrev table : List Row
-table = readings ++ planned ++ bySwitches ++ boughtPages ++ allowances ++ map as-row searches ++ map as-row quantities
+table = readings ++ planned ++ bySwitches ++ roundTrails ++ boughtPages ++ allowances ++ map as-row searches ++ map as-row quantities
 
 as-said : map (λ r. r .got) table ≡ map (λ r. r .said) table
-unfolding plantWith taken valueOf redundant mapMissing mapUndefined fieldMissing fieldRedundant fieldValues afterPart part valueOutOfRange endOutOfRange selfLink bytesRemain soundLink header link links withLinks linked ended reading trail legs nearest near route hops hop dist within sources leastFrom count usedFrom bridge visitFrom arcs others visit scan tail head live every notConnected planning rulesIn tableWith tabling sentBy sum bySwitch counting placesShort laying laidOut trailing linksAt pricing quoting quotingFor writingPage buying allowance begun newSearch ask give orderQuantity
+unfolding plantWith taken valueOf redundant mapMissing mapUndefined fieldMissing fieldRedundant fieldValues afterPart part valueOutOfRange endOutOfRange selfLink bytesRemain soundLink header link links withLinks linked ended reading trail legs nearest near route hops hop dist within sources leastFrom count usedFrom bridge visitFrom arcs others visit scan roundFrom tour walkAt opposite tail head live every notConnected planning rulesIn tableWith tabling sentBy sum bySwitch counting placesShort laying laidOut trailing roundLaidOut roundTrailing linksAt pricing quoting quotingFor writingPage buying allowance begun newSearch ask give orderQuantity
 as-said = agreed (λ r. r .got) (λ r. r .said) table refl

@@ -13,7 +13,8 @@ use sheet::PageRead;
 use table::Table;
 ghost use mathlib.Core.Path.{_≡_};
 ghost use Rattle.answers.specs.Checks.{answer};
-ghost use Rattle.planning.specs.Plans.{Plan};
+ghost use Rattle.plan.specs.Plan.{trailOf, roundOf};
+ghost use Rattle.planning.specs.Plans.{FromStart, Plan};
 ghost use Rattle.listing.specs.Writing.{bufferAfter, writing};
 ghost use Rattle.listing.specs.Listing.{reading};
 ghost use Rattle.listing.specs.Answers.{Reads, writeAnswer};
@@ -21,7 +22,7 @@ ghost use Rattle.quantity.specs.Quantity.{orderQuantity, quantityOf};
 ghost use Rattle.allowance.specs.Allowance.{allowance, clipped};
 ghost use Rattle.planning.specs.Planning.{planning};
 ghost use Rattle.sheet.specs.Form.{readingPage, ReadsPage};
-ghost use Rattle.planner.specs.Calls.{rewriting, rewritten, rereading, tabling, counting, bridging, summing, laying, trailing, trailLeft, laidOut, buying, boughtOut};
+ghost use Rattle.planner.specs.Calls.{rewriting, rewritten, rereading, tabling, counting, bridging, summing, laying, trailLeft, trailing, laidOut, roundTrailing, roundLaidOut, buying, boughtOut};
 ghost use Rattle.planner.specs.Answers.{Tables, Counts, AddsUp, Bridges, summaryAnswer, trailAnswer};
 
 // The forwarding table of a listing. At a refusal it has no rule.
@@ -188,8 +189,8 @@ pub fn summarize(listing: &[u8]) -> Summary
 // The trail of a plan into the front of the buffer, or refusal 10.
 fn put_trail(x: Parts, t: &[[u8; Plant::PLACES]; Plant::PLACES], buffer: &mut [u16]) -> Trailed
     requires { ⌜ Plan x (now t) ⌝ }
-    ensures { λ r. ⌜ trailAnswer r ≡ answer (laying (x .plant) (now (buffer .entry))) ⌝ }
-    ensures { λ _. ⌜ now (buffer .exit) ≡ trailLeft (x .plant) (now (buffer .entry)) (answer (laying (x .plant) (now (buffer .entry)))) ⌝ }
+    ensures { λ r. ⌜ trailAnswer r ≡ answer (laying (trailOf (x .plant)) (now (buffer .entry))) ⌝ }
+    ensures { λ _. ⌜ now (buffer .exit) ≡ trailLeft (trailOf (x .plant)) (now (buffer .entry)) (answer (laying (trailOf (x .plant)) (now (buffer .entry)))) ⌝ }
 {
     let hops = x.legs.hops;
     let n = hops as usize;
@@ -210,6 +211,35 @@ pub fn lay_trail(listing: &[u8], buffer: &mut [u16]) -> Trailed
     let v = d.verdict;
     match v {
         Verdict::Accepted => put_trail(d.parts, &t, buffer),
+        Verdict::Refused(k) => Trailed::Refused(k),
+    }
+}
+
+// The round trail of a plan into the front of the buffer, or refusal 10.
+fn put_round(x: Parts, buffer: &mut [u16]) -> Trailed
+    requires { ⌜ FromStart x ⌝ }
+    ensures { λ r. ⌜ trailAnswer r ≡ answer (laying (roundOf (x .plant)) (now (buffer .entry))) ⌝ }
+    ensures { λ _. ⌜ now (buffer .exit) ≡ trailLeft (roundOf (x .plant)) (now (buffer .entry)) (answer (laying (roundOf (x .plant)) (now (buffer .entry)))) ⌝ }
+{
+    let r = planning::round_of(x);
+    let n = r.hops as usize;
+    if buffer.len() < n {
+        return Trailed::Refused(Refusal::TrailBufferShort);
+    }
+    round::lay(r, buffer);
+    Trailed::Hops(r.hops)
+}
+
+// The round trail of a listing into the front of the lent buffer, and its hops: refusals 1 to 10.
+pub fn lay_round_trail(listing: &[u8], buffer: &mut [u16]) -> Trailed
+    ensures { λ r. ⌜ trailAnswer r ≡ answer (roundTrailing (now (listing .entry)) (now (buffer .entry))) ⌝ }
+    ensures { λ _. ⌜ now (buffer .exit) ≡ roundLaidOut (now (listing .entry)) (now (buffer .entry)) ⌝ }
+{
+    let mut t = planning::blank();
+    let d = planning::plan(listing, &mut t);
+    let v = d.verdict;
+    match v {
+        Verdict::Accepted => put_round(d.parts, buffer),
         Verdict::Refused(k) => Trailed::Refused(k),
     }
 }

@@ -24,10 +24,10 @@ pub record PartsOf (p : Plant) (r : ℕ) (x : Parts) : Type 0 where
   pub plant-is : x .plant ≡ p
   pub net-is : x .net ≡ netOf p r
   pub ends : Ends p (x .tails) (x .heads)
-  pub visits : Visits p r (x .visited)
   pub bridges-are : Flags maxLinks (bridgeFrom p r) (x .bridges)
   pub used-are : Flags (2 * maxLinks) (usedFrom p r) (x .used)
   pub legs-are : LegsOf (x .net) (x .tails) (x .heads) (x .used) (x .legs)
+  pub visits : Visits p r (x .visited)
 
 -- the parts x are those of a sound plant that is connected, from its start
 pub record FromStart (x : Parts) : Type 0 where

@@ -23,19 +23,19 @@ ghost use Rattle.planning.specs.Plans.{netOf, PartsOf, FromStart, WithTa
 ghost use Rattle.planning.specs.Planning.{planningFor, planning, planningAt, Plots, Ready};
 ghost use Rattle.planning.specs.Numbers.{numbersOf};
 
-// The parts of a plan, each found once: the plant, the sizes of its network from its start, the ends of its arcs, the visit, the bridges, the arcs in use and their chains by
-// switch, and the legs of the trail. The table of distances is lent beside them.
+// The parts of a plan, each found once: the plant, the sizes of its network from its start, the ends of its arcs, the bridges, the arcs in use and their chains by switch, the
+// legs of the trail, and the visit. The table of distances is lent beside them.
 pub struct Parts {
     pub plant: Plant,
     pub net: Net,
     pub tails: [u8; Plant::LABELS],
     pub heads: [u8; Plant::LABELS],
-    pub visited: Visited,
     pub bridges: [bool; Plant::MAX_LINKS],
     pub used: [bool; Plant::LABELS],
     pub first: [u16; Plant::PLACES],
     pub after: [u16; Plant::LABELS],
     pub legs: Legs,
+    pub visited: Visited,
 }
 
 // A plan, or its refusal and no parts.
@@ -79,12 +79,12 @@ fn refused_plan(k: Refusal) -> Planned
         net,
         tails: [0; Plant::LABELS],
         heads: [0; Plant::LABELS],
-        visited,
         bridges: [false; Plant::MAX_LINKS],
         used: [false; Plant::LABELS],
         first: [0; Plant::PLACES],
         after: [0; Plant::LABELS],
         legs,
+        visited,
     };
     Planned {
         verdict: Verdict::Refused(k),
@@ -132,12 +132,12 @@ fn parts_of(
         net,
         tails,
         heads,
-        visited: v,
         bridges,
         used,
         first,
         after,
         legs,
+        visited: v,
     }
 }
 

@@ -5,3 +5,4 @@ pub mod StateBytes
 pub mod OutwardLabels
 pub mod NamedLinks
 pub mod Searching
+pub mod Rounds

@@ -2,6 +2,7 @@
 use mathlib.Core.List.{[]}
 use Rattle.answers.specs.Answers.{Answer, given, refused, numberOf, Beside}
 use Rattle.rings.specs.Packet.{End}
+use Rattle.choosing.specs.declared.Choice.{Choice}
 use Rattle.order.specs.declared.Order.{Order}
 use Rattle.order.specs.declared.Span.{Span}
 use Rattle.order.specs.Order.{listed}
@@ -10,6 +11,8 @@ use Rattle.search.specs.declared.Search.{Search}
 use Rattle.search.specs.declared.Progress.{Progress}
 use Rattle.probing.specs.declared.Ran.{Ran}
 use Rattle.probing.specs.declared.Ran.the-variants as ran-is
+use Rattle.probing.specs.declared.Shorter.{Shorter}
+use Rattle.probing.specs.declared.Shorter.the-variants as shorter-is
 use Rattle.probing.specs.declared.Ordered.{Ordered}
 use Rattle.probing.specs.declared.Outward.{Outward}
 use Rattle.probing.specs.declared.Outward.the-variants as outward-is
@@ -25,6 +28,10 @@ use Rattle.probing.specs.Calls.{Name, link, none, unknown}
 abbrev pub ranAnswer : Ran → Answer End
 ranAnswer (ran-is.To e) = given (endOf e)
 ranAnswer (ran-is.Refused k) = refused (numberOf k)
+
+abbrev pub shorterAnswer : Shorter → Answer Choice
+shorterAnswer (shorter-is.Of c) = given c
+shorterAnswer (shorter-is.Refused k) = refused (numberOf k)
 
 abbrev pub outwardAnswer : Outward → Answer Span
 outwardAnswer (outward-is.Parts b) = given b

@@ -4,18 +4,22 @@ use mathlib.Core.Path.{_≡_}
 use mathlib.Core.List.{List, [], _∷_, _++_}
 use Prim.Native.Nat.{ℕ}
 use lib.Dec.{eqb}
+use lib.ListN.{length}
 use Rattle.lists.specs.Tests.{choose}
 use Rattle.plant.specs.declared.Plant.{Plant}
 use Rattle.answers.specs.Answers.{Answer, given}
 use Rattle.answers.specs.Checks.{Checked, check, _then_, _giving_}
 use Rattle.walks.specs.Arcs.{head}
 use Rattle.walks.specs.Graph.{liveLinks}
-use Rattle.plan.specs.Plan.{used, trailOf, inTable}
+use Rattle.plan.specs.Plan.{used, trailOf, roundOf, inTable}
 use Rattle.rings.specs.Packet.{End, run}
 use Rattle.rings.specs.Rules.{upByLink}
 use Rattle.rings.specs.Order.{nth}
 use Rattle.rings.specs.Probe.{outward}
 use Rattle.rings.specs.Injection.{ringOf, orderOf, probeRun}
+use Rattle.rings.specs.Round.{roundRun}
+use Rattle.choosing.specs.declared.Choice.{Choice}
+use Rattle.choosing.specs.Choice.{shorterOf, choiceOf, hopsIn}
 use Rattle.order.specs.declared.Order.{Order}
 use Rattle.order.specs.declared.Span.{Span}
 use Rattle.order.specs.Order.{listed}
@@ -27,7 +31,7 @@ use Rattle.search.specs.declared.Progress.{Progress}
 use Rattle.search.specs.Search.{newSearch, says, wanted}
 use Rattle.search.specs.Calls.{Call, perform, begun}
 use Rattle.planning.specs.Planning.{planningAt}
-use Rattle.judging.specs.Conditions.{trailDiffers, statesShort, searchUnsound, lentChecks, wantedChecks}
+use Rattle.judging.specs.Conditions.{trailDiffers, statesShort, searchUnsound, lentChecks, hopsDiffer, roundChecks, wantedChecks}
 
 -- ---- a packet that is no probe: 1 to 9, 11, 13
 
@@ -46,6 +50,32 @@ checkIn x w states p = check (lentChecks p w states) (run (inTable p) (upByLink 
 
 unfoldable pub checking : List ℕ → ℕ → List ℕ → List ℕ → Checked End
 checking s x w states = planningAt s x then checkIn x w states
+
+-- ---- the round run (document 02, order 6): 1 to 9, 11, 12, 13
+
+-- the ring of the switch on the round trail, under all rules, by a byte for each label
+unfoldable pub roundIn : ℕ → List ℕ → List ℕ → Plant → Checked End
+roundIn x w states p = check (roundChecks p w states) (roundRun p (roundOf p) x states)
+
+unfoldable pub roundRunning : List ℕ → ℕ → List ℕ → List ℕ → Checked End
+roundRunning s x w states = planningAt s x then roundIn x w states
+
+-- ---- the shorter of two lent trails (document 02, order 6): 1 to 9, 11, 12
+
+-- 12 of the round trail; which of the two has fewer hops, and how many
+abbrev pub choiceFrom : List ℕ → Plant → Checked Choice
+choiceFrom v p = check ((12, hopsDiffer (roundOf p) v) ∷ []) (choiceOf (length (trailOf p)) (length (roundOf p)))
+
+-- 12 of the trail, then that
+unfoldable pub choiceIn : List ℕ → List ℕ → Plant → Checked Choice
+choiceIn w v p = check {A = Unit} ((12, hopsDiffer (trailOf p) w) ∷ []) tt then λ _. choiceFrom v p
+
+unfoldable pub choosing : List ℕ → ℕ → List ℕ → List ℕ → Checked Choice
+choosing s x w v = planningAt s x then choiceIn w v
+
+-- the part of the lent trails w and v at the choice that is answered is the trail or the round trail itself, whichever has fewer hops, and no spare place
+abbrev pub ChosenHops : List ℕ → ℕ → List ℕ → List ℕ → Answer Choice → Type 0
+ChosenHops s x w v a = let p = planningAt s x .result in (c : Choice) → a ≡ given c → hopsIn w v c ≡ shorterOf (trailOf p) (roundOf p)
 
 -- ---- the order of links: 1 to 9, 11, 12
 

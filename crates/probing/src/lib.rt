@@ -2,6 +2,7 @@
 // function here is a call. Calls on listings, plants and orders are in the crate `planner`.
 use answers::Refusal;
 use answers::Verdict;
+use choosing::Choice;
 use order::Order;
 use order::Span;
 use packet::End;
@@ -13,8 +14,10 @@ use search::Progress;
 use search::Said;
 use search::Search;
 use search::Told;
+use trail::Compared;
 ghost use mathlib.Core.Path.{_≡_};
 ghost use Prim.Native.Nat.{_≤_};
+ghost use lib.ListN.{length};
 ghost use Rattle.answers.specs.Answers.{given, refused, numberOf};
 ghost use Rattle.answers.specs.Checks.{answer};
 ghost use Rattle.limits.specs.Sound.{Sound};
@@ -22,6 +25,7 @@ ghost use Rattle.lists.specs.Arrays.{flag};
 ghost use Rattle.walks.specs.Graph.{liveLinks};
 ghost use Rattle.plan.specs.Plan.{Connected, used, trailOf};
 ghost use Rattle.rings.specs.Injection.{orderOf};
+ghost use Rattle.choosing.specs.Choice.{hopsIn};
 ghost use Rattle.planning.specs.Plans.{FromStart, Plan};
 ghost use Rattle.order.specs.Span.{stretchOf, frontOf};
 ghost use Rattle.packet.specs.Asked.{CanProbe};
@@ -30,13 +34,19 @@ ghost use Rattle.packet.specs.Outcome.{outcomeOf};
 ghost use Rattle.search.specs.Search.{ask, give, askedOf, toldOf};
 ghost use Rattle.search.specs.Calls.{callsIn};
 ghost use Rattle.search.specs.Sound.{SaysIn};
-ghost use Rattle.probing.specs.Calls.{runIn, running, checkIn, checking, orderIn, ordering, outSpan, outwardIn, outgoing, OutwardParts, probeOver, probeIn, probing, namedIn, nameIn, naming, beginning, performing};
+ghost use Rattle.probing.specs.Calls.{runIn, running, checkIn, checking, roundIn, roundRunning, choiceFrom, choiceIn, choosing, ChosenHops, orderIn, ordering, outSpan, outwardIn, outgoing, OutwardParts, probeOver, probeIn, probing, namedIn, nameIn, naming, beginning, performing};
 ghost use Rattle.probing.specs.Searches.{Performs};
-ghost use Rattle.probing.specs.Answers.{ranAnswer, Orders, outwardAnswer, namedAnswer, begunAnswer, performedAnswer};
+ghost use Rattle.probing.specs.Answers.{ranAnswer, shorterAnswer, Orders, outwardAnswer, namedAnswer, begunAnswer, performedAnswer};
 
 // How the run of a packet comes out: where it got to, or a refusal.
 pub enum Ran {
     To(End),
+    Refused(Refusal),
+}
+
+// Which of two lent trails has fewer hops, and how many: `chosen` hands them back.
+pub enum Shorter {
+    Of(Choice),
     Refused(Refusal),
 }
 
@@ -139,6 +149,88 @@ pub fn full_check(listing: &[u8], switch: u8, trail: &[u16], states: &[u8]) -> R
         Verdict::Accepted => check_in(d.parts, &t, switch, trail, states),
         Verdict::Refused(k) => Ran::Refused(k),
     }
+}
+
+// ---- the round run
+
+// The round run over a lent round trail in a plan: refusals 12 and 13.
+fn round_in(x: Parts, switch: u8, round: &[u16], states: &[u8]) -> Ran
+    requires { ⌜ FromStart x ⌝ }
+    ensures { λ r. ⌜ ranAnswer r ≡ answer (roundIn switch (now (round .entry)) (now (states .entry)) (x .plant)) ⌝ }
+{
+    match planning::compare_round(x, round) {
+        Compared::Same(hops) => {
+            if judging::too_few(states, 2 * x.plant.count) {
+                return Ran::Refused(Refusal::StatesShort);
+            }
+            Ran::To(packet::round_run(x.plant, states, switch, &round[..hops]))
+        }
+        Compared::Other => Ran::Refused(Refusal::TrailDiffers),
+    }
+}
+
+// The round run from a switch, by a state byte for each label: refusals 1 to 9, 11, 12 and 13. The lent round trail may have spare places.
+pub fn round_run(listing: &[u8], switch: u8, round: &[u16], states: &[u8]) -> Ran
+    ensures { λ r. ⌜ ranAnswer r ≡ answer (roundRunning (now (listing .entry)) switch (now (round .entry)) (now (states .entry))) ⌝ }
+{
+    let mut t = planning::blank();
+    let d = planning::plan_at(listing, switch, &mut t);
+    let v = d.verdict;
+    match v {
+        Verdict::Accepted => round_in(d.parts, switch, round, states),
+        Verdict::Refused(k) => Ran::Refused(k),
+    }
+}
+
+// ---- the shorter of two lent trails
+
+// Of a trail with so many hops and a lent round trail in a plan: refusal 12.
+fn choose_from(x: Parts, hops: usize, round: &[u16]) -> Shorter
+    requires { ⌜ FromStart x ⌝ }
+    requires { ⌜ hops ≡ length (trailOf (x .plant)) ⌝ }
+    ensures { λ r. ⌜ shorterAnswer r ≡ answer (choiceFrom (now (round .entry)) (x .plant)) ⌝ }
+{
+    match planning::compare_round(x, round) {
+        Compared::Same(m) => Shorter::Of(choosing::fewer(hops, m)),
+        Compared::Other => Shorter::Refused(Refusal::TrailDiffers),
+    }
+}
+
+// Of a lent trail and a lent round trail in a plan: refusal 12 of either.
+fn choose_in(
+    x: Parts,
+    t: &[[u8; Plant::PLACES]; Plant::PLACES],
+    trail: &[u16],
+    round: &[u16],
+) -> Shorter
+    requires { ⌜ Plan x (now t) ⌝ }
+    ensures { λ r. ⌜ shorterAnswer r ≡ answer (choiceIn (now (trail .entry)) (now (round .entry)) (x .plant)) ⌝ }
+{
+    match planning::compare(x, t, trail) {
+        Compared::Same(n) => choose_from(x, n, round),
+        Compared::Other => Shorter::Refused(Refusal::TrailDiffers),
+    }
+}
+
+// Which of a lent trail and a lent round trail has fewer hops, and how many: refusals 1 to 9, 11 and 12. Both may have spare places.
+pub fn shorter_trail(listing: &[u8], switch: u8, trail: &[u16], round: &[u16]) -> Shorter
+    ensures { λ r. ⌜ shorterAnswer r ≡ answer (choosing (now (listing .entry)) switch (now (trail .entry)) (now (round .entry))) ⌝ }
+    ensures { λ r. ⌜ ChosenHops (now (listing .entry)) switch (now (trail .entry)) (now (round .entry)) (shorterAnswer r) ⌝ }
+{
+    let mut t = planning::blank();
+    let d = planning::plan_at(listing, switch, &mut t);
+    let v = d.verdict;
+    match v {
+        Verdict::Accepted => choose_in(d.parts, &t, trail, round),
+        Verdict::Refused(k) => Shorter::Refused(k),
+    }
+}
+
+// The hops of the lent trail that was chosen, as a part of it: as much as is there. No refusal.
+pub fn chosen<'a>(trail: &'a [u16], round: &'a [u16], choice: Choice) -> &'a [u16]
+    ensures { λ r. ⌜ now r ≡ hopsIn (now (trail .entry)) (now (round .entry)) choice ⌝ }
+{
+    choosing::hops_of(trail, round, choice)
 }
 
 // ---- the order of links

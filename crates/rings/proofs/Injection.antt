@@ -29,7 +29,7 @@ use Rattle.rings.specs.Probe.{outward, back, probe}
 use Rattle.rings.proofs.FirstDown.{firstDown, first-take}
 use Rattle.rings.specs.Injection.{probeRules, placeOf, ringOf, orderOf, probeOf, probeRun}
 use Rattle.rings.proofs.Packet.{run-ended, run-clear, lost-at}
-use Rattle.rings.proofs.Rules.{rule-arc, all-arc, bytes-past}
+use Rattle.rings.proofs.Rules.{rule-arc, all-arc, link-bytes, run-agrees}
 use Rattle.rings.proofs.Ring.{place-first, ring-empty, read-labels, read-walk}
 use Rattle.rings.proofs.Order.{order-distinct, label-order, order-label}
 use Rattle.rings.proofs.Probe.{probe-clear, probe-all, probe-walk}
@@ -66,15 +66,19 @@ module _ (p : Plant) (w : List ℕ) (s : ℕ) where
     unfolding probeRun probeRules probeOf probe
     back-run m n = rw (ne-eqb m e n)
 
-  -- state bytes past the links of the plant are not looked at
-  pub probe-bytes : (table : ℕ → Bool) → ((a : ℕ) → T (table a) → Arc p a) → (e : ℕ) (states : List ℕ) (m : ℕ)
-      → probeRun p table w s e (upByLink states) m ≡ probeRun p table w s e (upByLink (take (p .count) states)) m
-  unfolding probeRun probeRules
-  probe-bytes table arcs e states m = bytes-past p (probeRules p table e m) (arc (eqb m e)) states (head p) (probeOf p w s e m) s 0
-    where
-      arc : (t : Bool) (x a : ℕ) → choose t (rulesFor table (tail p)) (inAll p) x a ≡ true → Arc p a
-      arc true = rule-arc p table arcs
-      arc false = all-arc p
+  module _ (table : ℕ → Bool) (arcs : (a : ℕ) → T (table a) → Arc p a) (e : ℕ) where
+    -- two tests of what is up that agree on arcs of the plant give one run
+    pub probe-agrees : (up up′ : ℕ → Bool) → ((a : ℕ) → Arc p a → up a ≡ up′ a) → (m : ℕ) → probeRun p table w s e up m ≡ probeRun p table w s e up′ m
+    unfolding probeRun probeRules
+    probe-agrees up up′ agree m = run-agrees p (probeRules p table e m) (arc (eqb m e)) up up′ agree (head p) (probeOf p w s e m) s 0
+      where
+        arc : (t : Bool) (x a : ℕ) → choose t (rulesFor table (tail p)) (inAll p) x a ≡ true → Arc p a
+        arc true = rule-arc p table arcs
+        arc false = all-arc p
+
+    -- state bytes past the links of the plant are not looked at
+    pub probe-bytes : (states : List ℕ) (m : ℕ) → probeRun p table w s e (upByLink states) m ≡ probeRun p table w s e (upByLink (take (p .count) states)) m
+    probe-bytes states = probe-agrees (upByLink states) (upByLink (take (p .count) states)) (link-bytes p states)
 
 -- ---- a closed walk and an injection switch
 

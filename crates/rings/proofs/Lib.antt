@@ -6,5 +6,6 @@ pub mod Order
 pub mod Probe
 pub mod Injection
 pub mod GotTo
+pub mod Round
 pub mod Parts
 pub mod Refuted

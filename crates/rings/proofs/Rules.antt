@@ -30,15 +30,23 @@ module _ (p : Plant) where
   unfolding inAll
   all-arc = rule-arc (λ b. live p (b / 2)) (λ a t. t)
 
+  -- the state of an arc's link is not past the links
+  pub link-bytes : (states : List ℕ) (a : ℕ) → Arc p a → upByLink states a ≡ upByLink (take (p .count) states) a
+  unfolding upBy
+  link-bytes states a h = ap (λ (k : ℕ). not (eqb k 0)) (sym (getD-take (p .count) states (a / 2) 0 (live-below p (a / 2) h)))
+
   -- two to each link
   pub all-rules : allRules p ≡ 2 * liveLinks p
   unfolding allRules liveLinks
   all-rules = pairs (p .count) (λ a. live p (a / 2)) ∙ simp (even-half, odd-half) (omega arith)
 
-  -- whatever rules a packet runs under, if they are for arcs of the plant: bytes past those of its links are not looked at
-  pub bytes-past : (rule : ℕ → ℕ → Bool) → ((x a : ℕ) → rule x a ≡ true → Arc p a) → (states : List ℕ) (hd : ℕ → ℕ) (w : List ℕ) (at n : ℕ)
-      → run rule (upByLink states) hd at n w ≡ run rule (upByLink (take (p .count) states)) hd at n w
-  unfolding upBy
-  bytes-past rule arc states hd w at n =
-      run-same rule rule (upByLink states) (upByLink (take (p .count) states)) hd w at n (λ x a h. refl)
-      (λ x a h e. ap (λ (k : ℕ). not (eqb k 0)) (sym (getD-take (p .count) states (a / 2) 0 (live-below p (a / 2) (arc x a e)))))
+  -- ---- whatever rules a packet runs under, if they are for arcs of the plant
+
+  module _ (rule : ℕ → ℕ → Bool) (arc : (x a : ℕ) → rule x a ≡ true → Arc p a) where
+    -- two tests of what is up that agree on arcs give one run
+    pub run-agrees : (up up′ : ℕ → Bool) → ((a : ℕ) → Arc p a → up a ≡ up′ a) → (hd : ℕ → ℕ) (w : List ℕ) (at n : ℕ) → run rule up hd at n w ≡ run rule up′ hd at n w
+    run-agrees up up′ agree hd w at n = run-same rule rule up up′ hd w at n (λ x a h. refl) (λ x a h e. agree a (arc x a e))
+
+    -- bytes past those of its links are not looked at
+    pub bytes-past : (states : List ℕ) (hd : ℕ → ℕ) (w : List ℕ) (at n : ℕ) → run rule (upByLink states) hd at n w ≡ run rule (upByLink (take (p .count) states)) hd at n w
+    bytes-past states = run-agrees (upByLink states) (upByLink (take (p .count) states)) (link-bytes states)

@@ -1,14 +1,15 @@
--- A buffer that is filled and a list that is compared, place by place and list by list; a list that begins with another of its length is that. Assumes nothing.
+-- A buffer that is filled and a list that is compared, place by place and list by list; a list that begins with another of its length is that, and
+-- one that begins with another has it at its front. Assumes nothing.
 use mathlib.Core.Path.{_≡_, refl, sym, ap, ap₂, _∙_, subst}
 use mathlib.Core.Logic.{_↔_}
-use mathlib.Core.Bool.{Bool, true, false, _&&_, and-assoc}
+use mathlib.Core.Bool.{Bool, true, false, _&&_, and-assoc, false≢true}
 use mathlib.Core.List.{List, [], _∷_, _++_}
 use Prim.Native.Nat.{ℕ, _+_, _≤_, _<_}
 use native.Mathlib.Omega.{arith}
 use native.Mathlib.Numerals.{add-one}
 use borrow.Author.Tests.{eqb-true, eq-eqb, ne-eqb}
 use lib.Dec.{eqb}
-use lib.ListN.{length, getD, set, drop, length-set, length-append, drop-of-length-le}
+use lib.ListN.{length, getD, set, take, drop, length-set, length-append, drop-of-length-le}
 use lib.Seq.{sets, drop-cons, drop-drop}
 use Rattle.lists.proofs.Arrays.{sets-append, sets-front, laid}
 use Rattle.lists.proofs.Tests.{and-true}
@@ -140,3 +141,12 @@ same-is l w = (
   λ e. let h = and-true (beginsWith l w) (eqb (length l) (length w)) e in whole l w (h .0) (eqb-true (length l) (length w) (h .1)),
   λ e. subst (λ (v : List ℕ). beginsWith l v && eqb (length l) (length v) ≡ true) e (rw (itself l, eq-eqb (length l) (length l) refl)),
 )
+
+-- a list that begins with another has it at its front
+pub front-is : (l w : List ℕ) → beginsWith l w ≡ true → take (length w) l ≡ w
+unfolding beginsWith
+front-is l [] e = refl
+front-is [] (a ∷ w) e = absurd (false≢true e)
+front-is (x ∷ l) (a ∷ w) e =
+    let h = and-true (eqb x a) (beginsWith l w) e in
+    ap₂ (λ (z : ℕ) (zs : List ℕ). z ∷ zs) (eqb-true x a (h .0)) (front-is l w (h .1))

@@ -1,4 +1,5 @@
 -- Out over two stretches and back over them. Assumes nothing.
+use mathlib.Core.Bool.{false}
 use native.Mathlib.Omega.{arith}
 use borrow.Author.Needs.{needs}
 use Rattle.packet.specs.Runs.{endOf}
@@ -10,7 +11,7 @@ use Rattle.packet.proofs.there_and_back.Tie as tie
 run-on-requires-2 : tie.Need-run-on-requires-2
 run-on-requires-2 c κs = (
   c .before .before .before .before .before .pre .0,
-  omega (arith, injected-hops _ _ (c .before .injected .ensures), after-hops _ _ _ _ _ _ (c .run-on .ensures)),
+  omega (arith, injected-hops _ _ (c .before .injected .ensures), after-hops false _ _ _ _ _ _ (c .run-on .ensures)),
 )
 
 run-back-requires : tie.Need-run-back-requires
@@ -19,8 +20,8 @@ run-back-requires c κs = (
   omega (
     arith,
     injected-hops _ _ (c .before .before .injected .ensures),
-    after-hops _ _ _ _ _ _ (c .before .run-on .ensures),
-    after-hops _ _ _ _ _ _ (c .run-on2 .ensures),
+    after-hops false _ _ _ _ _ _ (c .before .run-on .ensures),
+    after-hops false _ _ _ _ _ _ (c .run-on2 .ensures),
   ),
 )
 
@@ -31,9 +32,9 @@ run-back-requires-2 c κs =
       omega (
         arith,
         injected-hops _ _ (c .before .before .before .injected .ensures),
-        after-hops _ _ _ _ _ _ (c .before .before .run-on .ensures),
-        after-hops _ _ _ _ _ _ (c .before .run-on2 .ensures),
-        after-hops _ _ _ _ _ _ (c .run-back .ensures),
+        after-hops false _ _ _ _ _ _ (c .before .before .run-on .ensures),
+        after-hops false _ _ _ _ _ _ (c .before .run-on2 .ensures),
+        after-hops false _ _ _ _ _ _ (c .run-back .ensures),
         back-length (s .args .y .now),
       ),
     )

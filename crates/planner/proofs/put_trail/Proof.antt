@@ -17,8 +17,8 @@ returns c =
     let p = s .args .x .plant in
     let b = s .args .buffer .now in
     let h : length b < length (trailOf p) = omega (arith, c .if1 .taken, hops-are _ (s .pre .from-start)) in
-    let r = lay-short p b h in
-    (r, ap (trailLeft p b) r)
+    let r = lay-short (trailOf p) b h in
+    (r, ap (trailLeft (trailOf p) b) r)
 
 lay-requires : tie.Need-lay-requires
 lay-requires c κs =
@@ -33,8 +33,8 @@ returns-2 c =
     let p = s .args .x .plant in
     let b = s .args .buffer .now in
     let h : length (trailOf p) ≤ length b = omega (arith, i .if1 .left, hops-are _ (s .pre .from-start)) in
-    let r = lay-enough p b h _ (hops-are _ (s .pre .from-start)) in
-    (r, l .lay .ensures ∙ ap (trailLeft p b) r)
+    let r = lay-enough (trailOf p) b h _ (hops-are _ (s .pre .from-start)) in
+    (r, l .lay .ensures ∙ ap (trailLeft (trailOf p) b) r)
 
 pub put-trail-spec : {M : Type 1} → statement M
 put-trail-spec = tie.close (tie.spec (λ c. search needs) returns lay-requires (λ c. search needs) returns-2)

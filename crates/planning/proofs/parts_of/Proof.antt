@@ -42,10 +42,10 @@ returns c =
         plant-is = refl;
         net-is = n .net-of .ensures;
         ends = s .pre .1 .0;
-        visits = s .pre .1 .1;
         bridges-are = b .bridges-of .ensures;
         used-are = u .arcs-in-use .ensures;
         legs-are = c .legs-of .ensures (some parts);
+        visits = s .pre .1 .1;
       },
       parts,
     )
