@@ -5,6 +5,7 @@ use crate::net::{BySwitch, Net, Page};
 use crate::packet::{self, Order, Run, Under};
 use crate::page::{self, Counts};
 use crate::plant::{Answer, Plant, Refusal};
+use crate::round::Round;
 use crate::search::Search;
 use crate::trail::Trail;
 
@@ -45,9 +46,28 @@ fn same_trail(net: &Net, trail: &[u16]) -> Answer<()> {
     }
 }
 
+/// Refusal 12, of the hops alone: the lent trail's, without spare places.
+fn trail_hops<'t>(net: &Net, trail: &'t [u16]) -> Answer<&'t [u16]> {
+    Trail::new(net).hops_of(trail).ok_or(Refusal::TrailDiffers)
+}
+
+/// Refusal 12, of the hops alone: the lent round trail's, without spare places.
+fn round_hops<'t>(net: &Net, round: &'t [u16]) -> Answer<&'t [u16]> {
+    Round::new(net).hops_of(round).ok_or(Refusal::TrailDiffers)
+}
+
 /// Refusal 13.
 fn enough(net: &Net, states: &[u8]) -> Answer<()> {
     if states.len() < net.links() {
+        Err(Refusal::StatesShort)
+    } else {
+        Ok(())
+    }
+}
+
+/// Refusal 13, with a state for each label.
+fn enough_for_labels(net: &Net, states: &[u8]) -> Answer<()> {
+    if states.len() < 2 * net.links() {
         Err(Refusal::StatesShort)
     } else {
         Ok(())
@@ -134,6 +154,57 @@ pub fn full_check(listing: &[u8], switch: u8, trail: &[u16], states: &[u8]) -> A
     let (rest, front) = packet::ring(trail, packet::place(&net, trail, switch));
     let labels = rest.iter().chain(front).copied();
     Ok(packet::run(&net, Under::Page, switch, labels, states))
+}
+
+/// Writes the round trail to the front of the buffer and returns its hops;
+/// refusals 1 to 10.
+pub fn round_trail(listing: &[u8], buffer: &mut [u16]) -> Answer<usize> {
+    let round = Round::new(&net(listing)?);
+    let labels = round.labels();
+    let front = buffer
+        .get_mut(..labels.len())
+        .ok_or(Refusal::TrailBufferShort)?;
+    front.copy_from_slice(labels);
+    Ok(labels.len())
+}
+
+/// The whole round trail from a switch, under both arcs of every link and with
+/// a state for each label; the lent one may have spare places. Refusals 1 to 9,
+/// 11, 12, 13.
+pub fn round_run(listing: &[u8], switch: u8, round: &[u16], states: &[u8]) -> Answer<Run> {
+    let net = net(listing)?;
+    let switch = named(&net, switch)?;
+    let hops = round_hops(&net, round)?;
+    enough_for_labels(&net, states)?;
+    let (rest, front) = packet::ring(hops, packet::place(&net, hops, switch));
+    let labels = rest.iter().chain(front).copied();
+    Ok(packet::run_by_label(&net, switch, labels, states))
+}
+
+/// The hops of one of two lent trails.
+#[derive(Clone, Copy, Debug, PartialEq, Eq)]
+pub enum Choice<'t> {
+    Trail(&'t [u16]),
+    Round(&'t [u16]),
+}
+
+/// The hops of whichever of the lent trail and the lent round trail has fewer,
+/// the trail's if equal; either may have spare places. Refusals 1 to 9, 11, 12.
+pub fn choice<'t>(
+    listing: &[u8],
+    switch: u8,
+    trail: &'t [u16],
+    round: &'t [u16],
+) -> Answer<Choice<'t>> {
+    let net = net(listing)?;
+    named(&net, switch)?;
+    let trail = trail_hops(&net, trail)?;
+    let round = round_hops(&net, round)?;
+    Ok(if round.len() < trail.len() {
+        Choice::Round(round)
+    } else {
+        Choice::Trail(trail)
+    })
 }
 
 /// Refusals 1 to 9, 11, 12.

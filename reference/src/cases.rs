@@ -3,14 +3,14 @@
 //! A case is one byte, the call, and the call's arguments. Its answer is one
 //! line of text.
 
-use crate::calls;
+use crate::calls::{self, Choice};
 use crate::packet::{Fate, Run};
 use crate::plant::{Link, Plant, Refusal};
 use crate::search::Search;
 use std::io::Write;
 
 /// The calls by their number in the case format.
-pub const NAMES: [&str; 25] = [
+pub const NAMES: [&str; 28] = [
     "",
     "read",
     "write",
@@ -36,6 +36,9 @@ pub const NAMES: [&str; 25] = [
     "by switch",
     "page written",
     "page read",
+    "round trail",
+    "round run",
+    "choice",
 ];
 
 /// The input does not follow the format at this byte.
@@ -52,6 +55,13 @@ fn lend(bytes: &mut Vec<u8>, places: u16) -> &mut [u8] {
     bytes.clear();
     bytes.extend((0..usize::from(places)).map(prefilled));
     bytes
+}
+
+/// A buffer of so many labels as it is lent.
+fn lend_labels(labels: &mut Vec<u16>, places: u16) -> &mut [u16] {
+    labels.clear();
+    labels.extend((0..usize::from(places)).map(|place| u16::from(prefilled(place))));
+    labels
 }
 
 /// Count and checksum of a list of numbers: h = 0, then for each number v
@@ -83,6 +93,10 @@ impl Sum {
 
     pub fn of_bytes(bytes: &[u8]) -> Sum {
         Sum::of(bytes.iter().map(|byte| u32::from(*byte)))
+    }
+
+    pub fn of_labels(labels: &[u16]) -> Sum {
+        Sum::of(labels.iter().map(|label| u32::from(*label)))
     }
 }
 
@@ -308,12 +322,9 @@ impl Answerer {
             }),
             6 => {
                 let listing = input.string()?;
-                let places = usize::from(input.word()?);
-                self.places.clear();
-                self.places
-                    .extend((0..places).map(|place| u16::from(prefilled(place))));
-                let answer = calls::trail(listing, &mut self.places);
-                *lent = Some(Sum::of(self.places.iter().map(|label| u32::from(*label))));
+                let buffer = lend_labels(&mut self.places, input.word()?);
+                let answer = calls::trail(listing, buffer);
+                *lent = Some(Sum::of_labels(buffer));
                 answer.map(|hops| put(format_args!("{hops}")))
             }
             7 => {
@@ -437,6 +448,33 @@ impl Answerer {
                     sum(&counts.links)
                 ))
             }),
+            25 => {
+                let listing = input.string()?;
+                let buffer = lend_labels(&mut self.places, input.word()?);
+                let answer = calls::round_trail(listing, buffer);
+                *lent = Some(Sum::of_labels(buffer));
+                answer.map(|hops| put(format_args!("{hops}")))
+            }
+            26 => {
+                let (listing, switch) = (input.string()?, input.byte()?);
+                input.labels(labels)?;
+                let states = input.string()?;
+                calls::round_run(listing, switch, labels, states)
+                    .map(|run| put(format_args!("{}", Told("returned", run))))
+            }
+            27 => {
+                let (listing, switch) = (input.string()?, input.byte()?);
+                let round = &mut self.places;
+                input.labels(labels)?;
+                input.labels(round)?;
+                calls::choice(listing, switch, labels, round).map(|choice| {
+                    let (word, hops) = match choice {
+                        Choice::Trail(hops) => ("trail", hops),
+                        Choice::Round(hops) => ("round", hops),
+                    };
+                    put(format_args!("{word} {}", Sum::of_labels(hops)))
+                })
+            }
             _ => return Err(Malformed(called_at)),
         })
     }

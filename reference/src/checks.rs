@@ -1,7 +1,7 @@
 //! The marked cases of document 01, and checks of every call against plain
 //! restatements of the definitions on small plants drawn by chance.
 
-use crate::calls::{self, Named};
+use crate::calls::{self, Choice, Named};
 use crate::cases::{prefilled, Answerer, Case, Sum};
 use crate::listing;
 use crate::make::{self, Chance};
@@ -9,6 +9,7 @@ use crate::net::{BySwitch, Net};
 use crate::packet::{self, Fate, Order, Run};
 use crate::page::{self, Counts};
 use crate::plant::{Link, Plant, Refusal};
+use crate::round::Round;
 use crate::search::{quantity, Search, ALLOWANCE, SENDINGS};
 use crate::trail::{distances, Trail};
 
@@ -358,6 +359,30 @@ impl Plain {
                 None => return trail,
             }
         }
+    }
+
+    /// The round trail: at each switch in turn, each link at it that is entered
+    /// from it, with all that is crossed on its far side between, and each
+    /// other one to a switch visited earlier.
+    fn round(&self) -> Vec<u16> {
+        fn side(plain: &Plain, at: usize, order: &[usize], entered: &[bool]) -> Vec<u16> {
+            let seen = |switch: usize| order.iter().position(|other| *other == switch);
+            let out = plain.labels().filter(|label| {
+                let onward = seen(at) < seen(plain.to(*label));
+                plain.from(*label) == at && onward == entered[label / 2]
+            });
+            out.flat_map(|label| {
+                let between = if entered[label / 2] {
+                    side(plain, plain.to(label), order, entered)
+                } else {
+                    Vec::new()
+                };
+                [&[label as u16][..], &between, &[label as u16 ^ 1]].concat()
+            })
+            .collect()
+        }
+        let (order, entered) = self.visit();
+        side(self, self.start, &order, &entered)
     }
 
     /// The ring from a switch, and the links by first crossing in it.
@@ -1395,6 +1420,202 @@ fn refusals_in_order() {
     assert_eq!(probe(&[0], 0, &[], &[], Search::Checking(0, 0)), 14);
 }
 
+fn round_vec(listing: &[u8]) -> Vec<u16> {
+    let round = Round::new(&calls::net(listing).unwrap());
+    round.labels().to_vec()
+}
+
+#[test]
+fn marked_rounds() {
+    let cases: &[(&[u8], &[u16])] = &[
+        (&[0x00], &[]),
+        (ONE_LINK, &[0, 1]),
+        (TRIANGLE, &[0, 2, 4, 5, 3, 1]),
+        (PARALLEL, &[0, 3, 2, 5, 4, 1]),
+        (TAILED, &[0, 2, 4, 5, 3, 1, 6, 7]),
+    ];
+    for (listing, round) in cases {
+        assert_eq!(round_vec(listing), *round);
+    }
+    let mut five = [9; 5];
+    assert_eq!(
+        calls::round_trail(PARALLEL, &mut five),
+        Err(Refusal::TrailBufferShort)
+    );
+    assert_eq!(five, [9; 5]);
+    let mut six = [9; 6];
+    assert_eq!(calls::round_trail(PARALLEL, &mut six), Ok(6));
+    assert_eq!(six, [0, 3, 2, 5, 4, 1]);
+    let mut eight = [9; 8];
+    assert_eq!(calls::round_trail(PARALLEL, &mut eight), Ok(6));
+    assert_eq!(eight, [0, 3, 2, 5, 4, 1, 9, 9]);
+    assert_eq!(calls::round_trail(&[0x00], &mut []), Ok(0));
+    assert_eq!(number(calls::round_trail(&[0x01, 0x40], &mut [])), 9);
+}
+
+/// The round trail is a closed walk from the start over each label just once.
+#[test]
+fn round_trails() {
+    for plant in plants(21, 1500, 40) {
+        let plain = Plain::new(&plant);
+        let round = round_vec(&make::listing_of(&plant));
+        assert_eq!(round, plain.round());
+        let mut at = plain.start;
+        let mut crossed = vec![0; 2 * plain.links.len()];
+        for label in round {
+            assert_eq!(plain.from(usize::from(label)), at);
+            crossed[usize::from(label)] += 1;
+            at = plain.to(usize::from(label));
+        }
+        assert_eq!(at, plain.start);
+        assert!(crossed.iter().all(|times| *times == 1));
+    }
+}
+
+/// A round run is home exactly if every direction is up, from any switch, and
+/// else lost at the first label that is down.
+#[test]
+fn round_runs() {
+    let mut chance = Chance::new(22);
+    for plant in plants(22, 250, 1) {
+        let plain = Plain::new(&plant);
+        let listing = make::listing_of(&plant);
+        let round = round_vec(&listing);
+        let labels = 2 * plain.links.len();
+        for switch in 0..plain.switches {
+            let (ring, _) = plain.ring(&round, switch);
+            assert_eq!(ring == round, switch == plain.start || labels == 0);
+            let mut check = |states: &[u8]| {
+                let mut lent = round.clone();
+                lent.extend((0..chance.below(3)).map(|_| chance.word()));
+                let run = calls::round_run(&listing, switch as u8, &lent, states).unwrap();
+                let up = |label: &&u16| states[usize::from(**label)] != 0;
+                let hops = ring.iter().take_while(up).count();
+                let last = match hops {
+                    0 => switch,
+                    _ => plain.to(usize::from(ring[hops - 1])),
+                };
+                assert_eq!((run.hops, run.last), (hops, last));
+                assert_eq!(run.ended, states[..labels].iter().all(|state| *state != 0));
+                assert!(!run.ended || run.last == switch);
+            };
+            let mut states = vec![1; labels];
+            check(&states);
+            // Each direction down in turn, those before it down or up.
+            for label in 0..labels {
+                states[label] = 0;
+                check(&states);
+                states[label] = [0, 7][label % 2];
+            }
+            // Past the labels nothing is looked at.
+            let mut states = vec![255; labels];
+            states.push(0);
+            check(&states);
+        }
+    }
+}
+
+/// One state for each label tells what one for each link cannot.
+#[test]
+fn round_run_one_way() {
+    let round = [0, 3, 2, 5, 4, 1];
+    let run = |switch, states: &[u8]| calls::round_run(PARALLEL, switch, &round, states).unwrap();
+    assert_eq!(run(0, &[1; 6]), ended(6, 0));
+    assert_eq!(run(1, &[1; 6]), ended(6, 1));
+    assert_eq!(run(0, &[1, 0, 1, 1, 1, 1]), lost(5, 1));
+    assert_eq!(run(1, &[1, 0, 1, 1, 1, 1]), lost(4, 1));
+    assert_eq!(run(0, &[1, 1, 0, 1, 1, 1]), lost(2, 0));
+    assert_eq!(run(0, &[1, 1, 1, 0, 1, 1]), lost(1, 1));
+    assert_eq!(run(1, &[1, 1, 1, 0, 1, 1]), lost(0, 1));
+    assert_eq!(run(0, &[0; 6]), lost(0, 0));
+    // Every way in which directions can be up and down.
+    for ups in 0..64u8 {
+        let states: [u8; 6] = std::array::from_fn(|label| ups & 1 << label);
+        for switch in [0, 1] {
+            assert_eq!(run(switch, &states).ended, ups == 63);
+        }
+    }
+}
+
+/// What is handed back is a part of the lent trail that has fewer hops.
+#[test]
+fn choices() {
+    let mut chance = Chance::new(23);
+    let mut met = [0; 3];
+    for plant in plants(23, 1500, 10) {
+        let plain = Plain::new(&plant);
+        let listing = make::listing_of(&plant);
+        let (trail, round) = (plain.trail(), plain.round());
+        let switch = chance.below(plain.switches) as u8;
+        let mut spared = |hops: &[u16]| {
+            let more = chance.below(3);
+            [hops, &round[..more.min(round.len())]].concat()
+        };
+        let (lent_trail, lent_round) = (spared(&trail), spared(&round));
+        let choice = calls::choice(&listing, switch, &lent_trail, &lent_round).unwrap();
+        let fewer = round.len() < trail.len();
+        let (hops, lent, right) = match choice {
+            Choice::Trail(hops) => (hops, &lent_trail, &trail),
+            Choice::Round(hops) => (hops, &lent_round, &round),
+        };
+        assert_eq!(matches!(choice, Choice::Round(_)), fewer);
+        assert_eq!(hops, *right);
+        assert_eq!(hops.as_ptr(), lent.as_ptr());
+        met[1 + usize::from(fewer) - usize::from(trail.len() < round.len())] += 1;
+
+        // A changed label and a missing place of either.
+        let refused = |trail: &[u16], round: &[u16]| {
+            let answer = calls::choice(&listing, switch, trail, round);
+            answer == Err(Refusal::TrailDiffers)
+        };
+        if !trail.is_empty() {
+            assert!(refused(&trail[1..], &round));
+            assert!(refused(&trail[..trail.len() - 1], &round));
+            assert!(refused(&trail, &round[..round.len() - 1]));
+            let mut changed = lent_trail.clone();
+            changed[chance.below(trail.len())] ^= 1;
+            assert!(refused(&changed, &round));
+            let mut changed = lent_round.clone();
+            changed[chance.below(round.len())] ^= 1;
+            assert!(refused(&trail, &changed));
+        }
+        assert_eq!(refused(&round, &trail), trail != round);
+    }
+    assert!(met.iter().all(|times| *times > 50), "{met:?}");
+}
+
+#[test]
+fn round_refusals_in_order() {
+    let (trail, round) = (trail_vec(TRIANGLE), round_vec(TRIANGLE));
+    let (wrong, short) = ([0, 3, 4, 5, 3, 1], &round[..5]);
+    let (few, enough) = ([1; 5], [1; 6]);
+    let run = |listing: &[u8], switch, round: &[u16], states: &[u8]| {
+        number(calls::round_run(listing, switch, round, states))
+    };
+    assert_eq!(run(&[1, 64], 64, &wrong, &few), 9);
+    assert_eq!(run(TRIANGLE, 3, &wrong, &few), 11);
+    assert_eq!(run(TRIANGLE, 2, &wrong, &few), 12);
+    assert_eq!(run(TRIANGLE, 2, short, &few), 12);
+    assert_eq!(run(TRIANGLE, 2, &trail, &enough), 12);
+    assert_eq!(run(TRIANGLE, 2, &round, &few), 13);
+    assert_eq!(run(TRIANGLE, 2, &round, &enough[..3]), 13);
+    assert_eq!(run(TRIANGLE, 2, &round, &enough), 0);
+    assert_eq!(run(&[0], 0, &[], &[]), 0);
+    assert_eq!(run(&[0], 0, &[5], &[]), 0);
+    assert_eq!(run(&[0], 1, &[], &[]), 11);
+    let choice = |listing: &[u8], switch, trail: &[u16], round: &[u16]| {
+        number(calls::choice(listing, switch, trail, round))
+    };
+    assert_eq!(choice(&[1, 64], 64, &wrong, &wrong), 9);
+    assert_eq!(choice(TRIANGLE, 3, &wrong, &wrong), 11);
+    assert_eq!(choice(TRIANGLE, 2, &wrong, &round), 12);
+    assert_eq!(choice(TRIANGLE, 2, &trail, &wrong), 12);
+    assert_eq!(choice(TRIANGLE, 2, &round, &trail), 12);
+    assert_eq!(choice(TRIANGLE, 2, &trail, &round), 0);
+    // The round trail begins with the trail, and the rest of it is spare.
+    assert_eq!(choice(TRIANGLE, 2, &round, &round), 0);
+}
+
 /// The reader restated: of each part, the set of refusals that hold.
 fn plain_read(bytes: &[u8]) -> Result<Plant, u8> {
     let mut plant = Plant::EMPTY;
@@ -2080,6 +2301,11 @@ fn case_lines() {
         let case = on(21).byte(switch).labels(first).word(times);
         case.labels(more).string(states)
     };
+    // With a spare place.
+    let round = [0, 2, 4, 5, 3, 1, 9];
+    let round_at = |switch, states: &[u8]| on(26).byte(switch).labels(&round).string(states);
+    // Five times round three switches.
+    let five = make::listing_of(&make::long(3, 5).plain());
     let plant = listing::read(TRIANGLE).unwrap();
     let three: [u32; 64] = std::array::from_fn(|switch| u32::from(switch < 3));
     let lent = |places: usize| -> Vec<u32> {
@@ -2262,6 +2488,34 @@ fn case_lines() {
             "refused 18".into(),
         ),
         (Case::new(24).string(&[]), "refused 18".into()),
+        (
+            on(25).word(7),
+            format!("6 {}", sum(&[0, 2, 4, 5, 3, 1, wide[6]])),
+        ),
+        (on(25).word(5), format!("refused 10 {}", sum(&wide[..5]))),
+        (
+            Case::new(25).string(&[1, 64]).word(2),
+            format!("refused 9 {}", sum(&wide[..2])),
+        ),
+        (round_at(1, &[1; 6]), "returned 6 1".into()),
+        (round_at(1, &[1, 1, 1, 1, 1, 0]), "lost 2 0".into()),
+        (round_at(2, &[1; 5]), "refused 13".into()),
+        (
+            on(27).byte(2).labels(&trail).labels(&round),
+            format!("trail {}", sum(&[0, 2, 4])),
+        ),
+        (
+            Case::new(27)
+                .string(&five)
+                .byte(0)
+                .labels(&trail_vec(&five))
+                .labels(&round_vec(&five)),
+            format!("round {}", Sum::of_labels(&round_vec(&five))),
+        ),
+        (
+            on(27).byte(2).labels(&round).labels(&trail),
+            "refused 12".into(),
+        ),
     ];
     for (case, answer) in cases {
         assert_eq!(line(&case), answer + "\n", "{:?}", case.bytes);

@@ -1,11 +1,12 @@
 //! Second implementation of the network planner, made from document 01, orders
-//! 1 to 4 of document 02 and a list of calls.
+//! 1 to 4 and 6 of document 02 and a list of calls.
 //!
 //! - [`plant`]: plant values, their limits and the refusals;
 //! - [`listing`]: the listing's reader and writer;
 //! - [`net`]: depth-first visit, bridges, arcs in use, rule page, rules by
 //!   switch;
 //! - [`trail`]: distances and the trail;
+//! - [`round`]: the round trail;
 //! - [`packet`]: packet runs, place, ring, order of links, probes;
 //! - [`search`]: the search, its allowance, the order quantity;
 //! - [`page`]: the buying page's writer and reader;
@@ -21,6 +22,7 @@ pub mod net;
 pub mod packet;
 pub mod page;
 pub mod plant;
+pub mod round;
 pub mod search;
 pub mod trail;
 

@@ -10,18 +10,22 @@ use reference::net::Net;
 use reference::packet::{self, Fate, Order};
 use reference::page::{self, Counts};
 use reference::plant::Plant;
+use reference::round::Round;
 use reference::search::{Search, SENDINGS};
 use reference::trail::Trail;
+use std::cmp::Ordering;
 use std::fs::File;
 use std::io::{self, BufWriter, Write};
 use std::path::Path;
 use std::process::ExitCode;
 
 const SEED: u64 = 1;
-/// The first cases are of every call but the long run, the rules by switch and
-/// the pages, those after them of packet runs alone, the next of rules by
-/// switch alone, of pages written alone, of pages read alone, of searches alone
-/// and of the allowance alone, and any more are of the kinds before that.
+/// The first cases are of every call but the long run, the rules by switch, the
+/// pages and those of the round trail, those after them of packet runs alone,
+/// the next of rules by switch alone, of pages written alone, of pages read
+/// alone, of searches alone, of the allowance alone, of round trails alone, of
+/// round runs alone and of choices alone, and any more are of the kinds before
+/// the allowance.
 const FIRST: usize = 18_000;
 const RUNS: usize = 1_000;
 const BY_SWITCH: usize = 1_000;
@@ -29,7 +33,12 @@ const WRITTEN: usize = 500;
 const READ: usize = 1_000;
 const SEARCHES: usize = 1_000;
 const ALLOWANCES: usize = 1_100;
-const COUNT: usize = FIRST + RUNS + BY_SWITCH + WRITTEN + READ + SEARCHES + ALLOWANCES;
+const ROUND_TRAILS: usize = 400;
+const ROUND_RUNS: usize = 600;
+const CHOICES: usize = 500;
+/// The cases before those of the allowance.
+const KINDS: usize = FIRST + RUNS + BY_SWITCH + WRITTEN + READ + SEARCHES;
+const COUNT: usize = KINDS + ALLOWANCES + ROUND_TRAILS + ROUND_RUNS + CHOICES;
 
 /// The highest number of a refusal.
 const REFUSALS: usize = 18;
@@ -1435,9 +1444,7 @@ fn of_plant(plant: &Plant) -> Case {
 
 /// The rules by switch of a sketch as it stands, from a start.
 fn started(sketch: &Sketch, start: usize) -> Case {
-    let mut plant = sketch.plain();
-    plant.start = start as u8;
-    of_plant(&plant)
+    of_plant(&from_start(sketch, start))
 }
 
 /// So many switches parted among rings, at most four of them.
@@ -2694,14 +2701,816 @@ fn fixed_allowances(out: &mut Out) -> io::Result<()> {
     Ok(())
 }
 
-/// How often each call is drawn, from call 1; the long run, the rules by switch
-/// and the pages are drawn apart.
+/// The numbers of the calls of the round trail.
+const ROUND_TRAIL: u8 = 25;
+const ROUND_RUN: u8 = 26;
+const CHOICE: u8 = 27;
+
+/// The round trail of a listing, in a buffer of so many places.
+fn round_trail(listing: &[u8], places: usize) -> Case {
+    Case::new(ROUND_TRAIL).string(listing).word(places)
+}
+
+/// A round run, with a state for each label.
+fn round_run(listing: &[u8], begin: u8, round: &[u16], states: &[u8]) -> Case {
+    let head = Case::new(ROUND_RUN).string(listing).byte(begin);
+    head.labels(round).string(states)
+}
+
+/// A choice between a trail and a round trail.
+fn choice(listing: &[u8], begin: u8, trail: &[u16], round: &[u16]) -> Case {
+    let head = Case::new(CHOICE).string(listing).byte(begin);
+    head.labels(trail).labels(round)
+}
+
+/// A listing with the plant that was meant and both of that plant's trails.
+struct Pair {
+    listing: Vec<u8>,
+    plant: Plant,
+    trail: Vec<u16>,
+    round: Vec<u16>,
+}
+
+fn round_of(plant: &Plant) -> Vec<u16> {
+    Net::new(plant.clone()).map_or(Vec::new(), |net| Round::new(&net).labels().to_vec())
+}
+
+impl Pair {
+    fn new(plant: Plant) -> Pair {
+        Pair::of(Subject::new(plant))
+    }
+
+    fn of(subject: Subject) -> Pair {
+        let Subject {
+            listing,
+            plant,
+            trail,
+        } = subject;
+        Pair {
+            listing,
+            round: round_of(&plant),
+            plant,
+            trail,
+        }
+    }
+
+    /// How many labels the plant has: two for each link.
+    fn labels(&self) -> usize {
+        2 * usize::from(self.plant.links)
+    }
+
+    fn some_switch(&self, chance: &mut Chance) -> u8 {
+        chance.below(usize::from(self.plant.switches)) as u8
+    }
+
+    /// The switch after this one, the first after the last.
+    fn after(&self, begin: u8) -> u8 {
+        (begin + 1) % self.plant.switches
+    }
+
+    /// A state for each label, those of some labels down.
+    fn down(&self, chance: &mut Chance, labels: &[usize]) -> Vec<u8> {
+        let mut states: Vec<u8> = (0..self.labels()).map(|_| some_up(chance)).collect();
+        for label in labels {
+            states[*label] = 0;
+        }
+        states
+    }
+
+    fn up(&self, chance: &mut Chance) -> Vec<u8> {
+        self.down(chance, &[])
+    }
+
+    fn placed(&self, places: usize) -> Case {
+        round_trail(&self.listing, places)
+    }
+
+    /// The run of the round trail as it is.
+    fn run(&self, begin: u8, states: &[u8]) -> Case {
+        self.run_lent(begin, &self.round, states)
+    }
+
+    fn run_lent(&self, begin: u8, round: &[u16], states: &[u8]) -> Case {
+        round_run(&self.listing, begin, round, states)
+    }
+
+    fn choice(&self, begin: u8, trail: &[u16], round: &[u16]) -> Case {
+        choice(&self.listing, begin, trail, round)
+    }
+
+    /// Hops with so many spare places, filled in one of some ways.
+    fn spared(&self, chance: &mut Chance, hops: &[u16], more: usize, way: usize) -> Vec<u16> {
+        let most = self.labels().max(1);
+        let filler: Vec<u16> = match way {
+            0 => vec![0; more],
+            1 => vec![0xffff; more],
+            // As if it went round again, or back the way it came.
+            2 => hops.iter().copied().cycle().take(more).collect(),
+            3 => {
+                let back = hops.iter().rev().map(|label| label ^ 1);
+                back.cycle().take(more).collect()
+            }
+            4 => (0..more).map(|_| chance.below(most) as u16).collect(),
+            _ => (0..more).map(|_| chance.word()).collect(),
+        };
+        [hops, &filler].concat()
+    }
+
+    /// Hops with spare places up to so many in all, filled in some way.
+    fn stretched(&self, chance: &mut Chance, hops: &[u16], places: usize) -> Vec<u16> {
+        let way = chance.below(SPARES);
+        self.spared(chance, hops, places.saturating_sub(hops.len()), way)
+    }
+
+    /// Hops changed in one of some ways. Few of them are right after all.
+    fn changed(&self, chance: &mut Chance, hops: &[u16], way: usize) -> Vec<u16> {
+        let mut lent = hops.to_vec();
+        let Some(last) = lent.len().checked_sub(1) else {
+            return lent;
+        };
+        let any = chance.below(last + 1);
+        match way {
+            // One label: the first, the last, the middle one, any.
+            0..=3 => lent[[0, last, last / 2, any][way]] ^= chance.of(&[1, 2, 256, 512, 0x8000]),
+            // Too short by one, by all, by some.
+            4 => lent.truncate(last),
+            5 => lent.clear(),
+            6 => lent.truncate(any),
+            // From another place of it, and back the way it came.
+            7 => lent.rotate_left(1),
+            8 => lent.rotate_right(1),
+            9 => lent = lent.iter().rev().map(|label| label ^ 1).collect(),
+            // Two labels that have changed places.
+            10 => lent.swap(any, last - any),
+            // One label more, before it or within it.
+            11 => lent.insert(0, chance.below(self.labels()) as u16),
+            12 => lent.insert(any, hops[any]),
+            // One label left out, and one after it.
+            _ => {
+                lent.remove(any);
+                lent.push(hops[any]);
+            }
+        }
+        lent
+    }
+}
+
+/// How many ways there are to fill spare places, and to change hops.
+const SPARES: usize = 6;
+const CHANGES: usize = 14;
+
+/// A state of a direction that is up.
+fn some_up(chance: &mut Chance) -> u8 {
+    let any = chance.within(1, 255) as u8;
+    chance.of(&[1, 1, 1, 2, 128, 255, any])
+}
+
+/// The plant of a sketch as it stands, from a start.
+fn from_start(sketch: &Sketch, start: usize) -> Plant {
+    let mut plant = sketch.plain();
+    plant.start = start as u8;
+    plant
+}
+
+/// Small plants of each kind, from none to ten links.
+fn small_pairs(chance: &mut Chance) -> Vec<Pair> {
+    let sketches = [
+        make::path(1),
+        make::path(2),
+        make::bundle(2),
+        make::bundle(3),
+        make::cycle(3),
+        make::star(4),
+        make::tree(chance, 5),
+        make::tailed(chance, 3, 5),
+        make::rings(chance, &[3, 3]),
+        make::exact(chance, 4, 10),
+        make::long(4, 4),
+        make::table_one(),
+    ];
+    let plants = sketches.iter().map(|sketch| sketch.mixed(chance));
+    plants.map(Pair::new).collect()
+}
+
+/// The cases of round trails that do not wait for chance.
+fn fixed_round_trails(chance: &mut Chance, out: &mut Out) -> io::Result<()> {
+    fixed_round_buffers(chance, out)?;
+    fixed_round_shapes(chance, out)?;
+    fixed_round_sizes(chance, out)?;
+    // Each refusal of the listing, with a buffer that is long enough for any
+    // plant, and with one that meets 10.
+    for refusal in 1..=9 {
+        for (limits, least, places) in [
+            ((5, 8), 0, 2 * LINKS),
+            ((5, 8), 0, 0),
+            ((12, 24), 20, 1),
+            ((32, 80), 60, 0),
+        ] {
+            let listing = refused(chance, refusal, limits, least);
+            out.put(round_trail(&listing, places))?;
+        }
+    }
+    Ok(())
+}
+
+/// The round trails of the listings of document 01, and those of small plants
+/// with every kind of buffer.
+fn fixed_round_buffers(chance: &mut Chance, out: &mut Out) -> io::Result<()> {
+    for listing in named_listings() {
+        match calls::read(&listing) {
+            Ok(plant) => {
+                let hops = 2 * usize::from(plant.links);
+                for places in hops.saturating_sub(1)..=hops + 1 {
+                    out.put(round_trail(&listing, places))?;
+                }
+            }
+            Err(_) => {
+                out.put(round_trail(&listing, chance.of(&[0, 1, 30])))?;
+            }
+        }
+    }
+    for sketch in [
+        make::path(1),
+        make::path(2),
+        make::bundle(3),
+        make::tailed(chance, 3, 5),
+        make::long(4, 4),
+        make::table_one(),
+    ] {
+        let pair = Pair::new(sketch.mixed(chance));
+        let (hops, trail) = (pair.labels(), pair.trail.len());
+        // Also as many as links, and as many as the trail has hops.
+        let mut places = vec![0, 1, hops / 2, trail, trail + 1];
+        places.extend(hops.saturating_sub(2)..=hops + 2);
+        places.extend([hops + 50, 600, 2_000]);
+        places.sort_unstable();
+        places.dedup();
+        for places in places {
+            out.put(pair.placed(places))?;
+        }
+    }
+    Ok(())
+}
+
+/// The round trails of plants of a known shape, from more than one start, and
+/// with the links listed in either direction and order.
+fn fixed_round_shapes(chance: &mut Chance, out: &mut Out) -> io::Result<()> {
+    let mut put = |plant: Plant| {
+        let pair = Pair::new(plant);
+        out.put(pair.placed(pair.labels()))
+    };
+    // The same links from every start.
+    let tailed = make::tailed(chance, 3, 6);
+    for sketch in [tailed.clone(), make::table_one(), make::complete(4)] {
+        for start in 0..sketch.switches {
+            put(from_start(&sketch, start))?;
+        }
+    }
+    // All links turned, some of them turned back, and in the other order.
+    for mut sketch in [tailed, make::table_one(), make::bundle(4), make::long(4, 3)] {
+        for turn in [1, 2, 3] {
+            for pair in sketch.pairs.iter_mut().step_by(turn) {
+                *pair = (pair.1, pair.0);
+            }
+            put(sketch.plain())?;
+        }
+        sketch.pairs.reverse();
+        put(sketch.plain())?;
+    }
+    // Parallel links between two switches.
+    for links in [1, 2, 3, 4, 9, 64, LINKS] {
+        put(from_start(&make::bundle(links), 0))?;
+        put(from_start(&make::bundle(links), 1))?;
+    }
+    // One switch with many links.
+    for switches in [3, 6, 20, SWITCHES] {
+        let star = make::star(switches);
+        for sketch in [star.clone(), star.doubled(), make::fan(switches)] {
+            put(from_start(&sketch, 0))?;
+            put(sketch.mixed(chance))?;
+        }
+    }
+    // One link between every two switches, and two.
+    for switches in 3..=8 {
+        let complete = make::complete(switches);
+        put(complete.mixed(chance))?;
+        put(complete.doubled().mixed(chance))?;
+    }
+    Ok(())
+}
+
+/// The round trails of plants of every number of switches, and of the limits.
+fn fixed_round_sizes(chance: &mut Chance, out: &mut Out) -> io::Result<()> {
+    for switches in 1..=SWITCHES {
+        let ring = chance.within(1, switches);
+        let sizes = parted(chance, switches);
+        let sketch = match switches % 4 {
+            0 => make::tree(chance, switches),
+            1 => make::cycle(switches),
+            2 => make::tailed(chance, ring, switches),
+            _ => make::rings(chance, &sizes),
+        };
+        let pair = Pair::new(sketch.mixed(chance));
+        let more = chance.of(&[0, 0, 0, 1, 2, 40]);
+        out.put(pair.placed(pair.labels() + more))?;
+    }
+    let most = Pair::new(make::exact(chance, SWITCHES, LINKS).mixed(chance));
+    for places in [LINKS, 2 * LINKS - 1, 2 * LINKS, 2 * LINKS + 1, 0xffff] {
+        out.put(most.placed(places))?;
+    }
+    let long = Pair::new(make::long(SWITCHES, LINKS - (SWITCHES - 1)).plain());
+    for places in [2 * LINKS - 1, 2 * LINKS, Plant::MAX_HOPS] {
+        out.put(long.placed(places))?;
+    }
+    out.put(round_trail(
+        &make::listing_of(&make::longest_listing()),
+        2 * LINKS,
+    ))
+}
+
+/// A listing that most often is sound, else apart or damaged, with both trails
+/// of the plant that was meant.
+fn some_pair(chance: &mut Chance, sound: usize) -> Pair {
+    if chance.percent(sound) {
+        Pair::new(any_joined(chance).mixed(chance))
+    } else {
+        Pair::of(subject(chance, 0))
+    }
+}
+
+/// One case of a round trail, drawn by chance.
+fn drawn_round_trail(chance: &mut Chance) -> Case {
+    let pair = some_pair(chance, 88);
+    let places = trail_places(chance, pair.labels());
+    pair.placed(places)
+}
+
+/// The cases of round runs that do not wait for chance.
+fn fixed_round_runs(chance: &mut Chance, out: &mut Out) -> io::Result<()> {
+    fixed_round_states(chance, out)?;
+    fixed_round_lent(chance, out)?;
+    fixed_round_refused(chance, out)?;
+    fixed_round_limits(chance, out)
+}
+
+/// Round runs of three parallel links and of small plants, from every switch
+/// and with every kind of states.
+fn fixed_round_states(chance: &mut Chance, out: &mut Out) -> io::Result<()> {
+    let three = Pair::new(make::bundle(3).plain());
+    for begin in [0, 1] {
+        out.put(three.run(begin, &[1; 6]))?;
+        for label in 0..6 {
+            let states = three.down(chance, &[label]);
+            out.put(three.run(begin, &states))?;
+        }
+    }
+    for (turn, pair) in small_pairs(chance).into_iter().enumerate() {
+        let labels = pair.labels();
+        for begin in 0..pair.plant.switches {
+            let states = pair.up(chance);
+            out.put(pair.run(begin, &states))?;
+        }
+        // Each direction down in turn, and both of some links.
+        let mut begin = pair.some_switch(chance);
+        for label in 0..labels {
+            begin = pair.after(begin);
+            let states = pair.down(chance, &[label]);
+            out.put(pair.run(begin, &states))?;
+        }
+        for link in (turn % 3..labels / 2).step_by(3) {
+            begin = pair.after(begin);
+            let states = pair.down(chance, &[2 * link, 2 * link + 1]);
+            out.put(pair.run(begin, &states))?;
+        }
+        // Many, and all.
+        let down: Vec<usize> = (0..labels).filter(|_| chance.percent(40)).collect();
+        let states = pair.down(chance, &down);
+        out.put(pair.run(begin, &states))?;
+        out.put(pair.run(pair.after(begin), &vec![0; labels]))?;
+        // More bytes than labels.
+        for filler in [0, 1] {
+            let mut states = pair.up(chance);
+            states.extend(vec![filler; chance.of(&[1, 2, labels + 1])]);
+            out.put(pair.run(begin, &states))?;
+        }
+        // Too few: by one, by half, by all.
+        for length in [labels.saturating_sub(1), labels / 2, 0] {
+            let states = pair.up(chance);
+            out.put(pair.run(begin, &states[..length]))?;
+        }
+    }
+    Ok(())
+}
+
+/// Round runs with spare places, with hops that are changed, and with the other
+/// trail.
+fn fixed_round_lent(chance: &mut Chance, out: &mut Out) -> io::Result<()> {
+    for sketch in [
+        make::bundle(3),
+        make::tailed(chance, 3, 5),
+        make::tree(chance, 5),
+        make::long(4, 4),
+        make::table_one(),
+    ] {
+        let pair = Pair::new(sketch.mixed(chance));
+        let labels = pair.labels();
+        for way in 0..SPARES {
+            let more = chance.of(&[1, 2, labels]);
+            let round = pair.spared(chance, &pair.round, more, way);
+            let begin = pair.some_switch(chance);
+            let down = [chance.below(labels)];
+            let states = pair.down(chance, &down[..way % 2]);
+            out.put(pair.run_lent(begin, &round, &states))?;
+        }
+        for way in 0..CHANGES {
+            let round = pair.changed(chance, &pair.round, way);
+            let begin = pair.some_switch(chance);
+            let states = pair.up(chance);
+            out.put(pair.run_lent(begin, &round, &states))?;
+        }
+        // Changed hops with spare places after them.
+        for way in [0, 1, 2, 4] {
+            let changed = pair.changed(chance, &pair.round, way);
+            let round = pair.stretched(chance, &changed, labels + 3);
+            let states = pair.up(chance);
+            out.put(pair.run_lent(pair.plant.start, &round, &states))?;
+        }
+        // The trail of document 01, as it is and with as many places.
+        let trail = pair.stretched(chance, &pair.trail, labels);
+        for round in [&pair.trail, &trail] {
+            let states = pair.up(chance);
+            out.put(pair.run_lent(pair.plant.start, round, &states))?;
+        }
+        // The round trail from another start.
+        let mut plant = pair.plant.clone();
+        plant.start = pair.after(plant.start);
+        let states = pair.up(chance);
+        out.put(pair.run_lent(plant.start, &round_of(&plant), &states))?;
+    }
+    // No hop: any labels are spare places, and any states are past the labels.
+    let one = Pair::new(make::path(1).plain());
+    for (round, states) in [
+        (&[][..], &[][..]),
+        (&[], &[0]),
+        (&[0], &[]),
+        (&[0, 1, 0xffff], &[0, 1]),
+    ] {
+        out.put(one.run_lent(0, round, states))?;
+        out.put(one.run_lent(chance.of(&[1, 255]), round, states))?;
+    }
+    Ok(())
+}
+
+/// Round runs that meet one refusal, and several at once.
+fn fixed_round_refused(chance: &mut Chance, out: &mut Out) -> io::Result<()> {
+    let triangle = Pair::new(make::cycle(3).plain());
+    for refusal in 1..=9 {
+        for (begin, hops, states) in [(0, 6, 6), (255, 6, 6), (0, 5, 6), (0, 6, 5), (64, 0, 0)] {
+            let listing = refused(chance, refusal, (5, 8), 0);
+            let round = &triangle.round[..hops];
+            out.put(round_run(&listing, begin, round, &[1; 6][..states]))?;
+        }
+    }
+    // Any of 11, 12 and 13.
+    for pair in [
+        triangle,
+        Pair::new(make::bundle(3).mixed(chance)),
+        Pair::new(make::tree(chance, 5).mixed(chance)),
+        Pair::new(make::tailed(chance, 3, 5).mixed(chance)),
+        Pair::new(make::table_one().mixed(chance)),
+    ] {
+        let (labels, count) = (pair.labels(), pair.plant.switches);
+        for bad in 1..8 {
+            let mut begin = pair.some_switch(chance);
+            let mut round = pair.round.clone();
+            let mut states = pair.up(chance);
+            if bad & 1 != 0 {
+                begin = chance.of(&[count, count, count + 1, 64, 255]);
+            }
+            if bad & 2 != 0 {
+                round[chance.below(labels)] ^= 1;
+            }
+            if bad & 4 != 0 {
+                states.truncate(chance.of(&[labels - 1, labels / 2, 0]));
+            }
+            out.put(pair.run_lent(begin, &round, &states))?;
+        }
+    }
+    Ok(())
+}
+
+/// Round runs of plants at the limits.
+fn fixed_round_limits(chance: &mut Chance, out: &mut Out) -> io::Result<()> {
+    let most = Pair::new(make::exact(chance, SWITCHES, LINKS).mixed(chance));
+    let begin = most.some_switch(chance);
+    let last = usize::from(most.round[2 * LINKS - 1]);
+    for down in [vec![], vec![last], vec![last ^ 1]] {
+        let states = most.down(chance, &down);
+        out.put(most.run(begin, &states))?;
+        out.put(most.run(most.plant.start, &states))?;
+    }
+    let states = most.up(chance);
+    out.put(most.run(begin, &states[..2 * LINKS - 1]))?;
+    let spared = most.spared(chance, &most.round, 1, 0);
+    out.put(most.run_lent(SWITCHES as u8 - 1, &spared, &states))?;
+    out.put(most.run_lent(begin, &most.round[..2 * LINKS - 1], &states))?;
+
+    let bundle = Pair::new(make::bundle(LINKS).plain());
+    for down in [vec![], vec![2 * LINKS - 1], vec![2 * LINKS - 2]] {
+        let states = bundle.down(chance, &down);
+        out.put(bundle.run(1, &states))?;
+    }
+    let states = bundle.up(chance);
+    out.put(bundle.run(0, &states[..LINKS]))?;
+    for sketch in [
+        make::cycle(SWITCHES),
+        make::tree(chance, SWITCHES),
+        make::tailed(chance, 20, SWITCHES),
+    ] {
+        let pair = Pair::new(sketch.mixed(chance));
+        let begin = pair.some_switch(chance);
+        let down = [chance.below(pair.labels())];
+        for down in [&[][..], &down] {
+            let states = pair.down(chance, down);
+            out.put(pair.run(begin, &states))?;
+        }
+    }
+    Ok(())
+}
+
+/// Hops as they are lent: most often right, at times with spare places.
+fn lent_hops(chance: &mut Chance, pair: &Pair, hops: &[u16]) -> Vec<u16> {
+    let (way, more) = (chance.below(CHANGES), chance.within(1, 6));
+    match chance.weighed(&[52, 38, 6, 4]) {
+        0 => hops.to_vec(),
+        1 => pair.stretched(chance, hops, hops.len() + more),
+        2 => pair.changed(chance, hops, way),
+        _ => {
+            let changed = pair.changed(chance, hops, way);
+            pair.stretched(chance, &changed, hops.len() + more)
+        }
+    }
+}
+
+/// States of so many labels: most often enough of them.
+fn label_states(chance: &mut Chance, labels: usize) -> Vec<u8> {
+    let mut states = states(chance, labels);
+    if labels > 0 && states.len() >= labels {
+        match chance.below(20) {
+            // As many as links.
+            0 => states.truncate(labels / 2),
+            // Both directions of a link.
+            1..=3 => {
+                let link = chance.below(labels / 2);
+                states.fill(some_up(chance));
+                states[2 * link..2 * link + 2].fill(0);
+            }
+            4..=7 => states.fill(some_up(chance)),
+            _ => {}
+        }
+    }
+    states
+}
+
+/// One case of a round run, drawn by chance.
+fn drawn_round_run(chance: &mut Chance) -> Case {
+    let pair = some_pair(chance, 92);
+    let begin = switch(chance, &pair.plant);
+    let round = lent_hops(chance, &pair, &pair.round);
+    let states = label_states(chance, pair.labels());
+    pair.run_lent(begin, &round, &states)
+}
+
+/// A joined plant with links, at most so many switches and links, of which the
+/// trail has fewer hops than the round trail, as many, or more.
+fn compared(
+    chance: &mut Chance,
+    wanted: Ordering,
+    (switches, links): (usize, usize),
+    most: usize,
+) -> Pair {
+    loop {
+        let sketch = if chance.percent(60) {
+            make::joined(chance, switches, links)
+        } else {
+            let switches = chance.within(2, switches);
+            let links = chance.within(switches, links);
+            make::exact(chance, switches, links)
+        };
+        if sketch.pairs.is_empty() {
+            continue;
+        }
+        let pair = Pair::new(sketch.mixed(chance));
+        if pair.trail.len() <= most && pair.trail.len().cmp(&pair.round.len()) == wanted {
+            return pair;
+        }
+    }
+}
+
+const ORDERINGS: [Ordering; 3] = [Ordering::Less, Ordering::Equal, Ordering::Greater];
+
+/// The cases of choices that do not wait for chance.
+fn fixed_choices(chance: &mut Chance, out: &mut Out) -> io::Result<()> {
+    fixed_compared(chance, out)?;
+    fixed_choice_lent(chance, out)?;
+    fixed_choice_refused(chance, out)?;
+    fixed_choice_limits(chance, out)
+}
+
+/// Choices of small plants from every switch, and of plants whose trail is the
+/// shorter one, as long, and the longer one.
+fn fixed_compared(chance: &mut Chance, out: &mut Out) -> io::Result<()> {
+    for pair in small_pairs(chance) {
+        for begin in 0..pair.plant.switches {
+            out.put(pair.choice(begin, &pair.trail, &pair.round))?;
+        }
+    }
+    // Of trees whose links are listed from the far end both trails are the
+    // same; of others they have as many hops.
+    let mut path = make::path(5);
+    path.pairs.reverse();
+    for sketch in [
+        path,
+        make::star(6),
+        make::long(4, 3),
+        make::long(3, 4),
+        make::long(6, 2),
+        // One hop apart.
+        make::long(5, 3),
+        make::long(3, 5),
+        make::long(3, 3),
+    ] {
+        let pair = Pair::new(sketch.plain());
+        out.put(pair.choice(0, &pair.trail, &pair.round))?;
+    }
+    for wanted in ORDERINGS {
+        for (limits, most, times) in [((5, 8), 40, 12), ((12, 24), 120, 8), ((32, 80), LENT, 2)] {
+            for turn in 0..times {
+                let pair = compared(chance, wanted, limits, most);
+                let (trail, round) = (pair.trail.len(), pair.round.len());
+                let both = trail.max(round) + 2;
+                // As they are; with spare places, so that either one is the
+                // longer slice; both slices of one length.
+                let (trail, round) = match turn % 4 {
+                    0 => (trail, round),
+                    1 => (round + 1, round),
+                    2 => (trail, trail + 1),
+                    _ => (both, both),
+                };
+                let trail = pair.stretched(chance, &pair.trail, trail);
+                let round = pair.stretched(chance, &pair.round, round);
+                out.put(pair.choice(pair.some_switch(chance), &trail, &round))?;
+            }
+        }
+    }
+    Ok(())
+}
+
+/// Choices with spare places, with hops that are changed, and with the trails
+/// in each other's place.
+fn fixed_choice_lent(chance: &mut Chance, out: &mut Out) -> io::Result<()> {
+    for wanted in ORDERINGS {
+        let pair = compared(chance, wanted, (5, 8), 40);
+        let (trail, round) = (&pair.trail, &pair.round);
+        let begin = pair.some_switch(chance);
+        for way in 0..SPARES {
+            let more = chance.of(&[1, 2, pair.labels()]);
+            let long_trail = pair.spared(chance, trail, more, way);
+            let long_round = pair.spared(chance, round, more, way);
+            match way % 3 {
+                0 => out.put(pair.choice(begin, &long_trail, round))?,
+                1 => out.put(pair.choice(begin, trail, &long_round))?,
+                _ => out.put(pair.choice(begin, &long_trail, &long_round))?,
+            }
+        }
+        for way in 0..CHANGES {
+            let changed = pair.changed(chance, trail, way);
+            out.put(pair.choice(begin, &changed, round))?;
+            let changed = pair.changed(chance, round, way);
+            out.put(pair.choice(begin, trail, &changed))?;
+        }
+        // Changed hops with spare places after them.
+        for way in [1, 4] {
+            let places = trail.len() + round.len();
+            let changed = pair.changed(chance, trail, way);
+            let changed = pair.stretched(chance, &changed, places);
+            out.put(pair.choice(begin, &changed, round))?;
+            let changed = pair.changed(chance, round, way);
+            let changed = pair.stretched(chance, &changed, places);
+            out.put(pair.choice(begin, trail, &changed))?;
+        }
+        // In each other's place, one in both, and so with spare places.
+        let places = trail.len().max(round.len()) + 1;
+        let long_trail = pair.stretched(chance, trail, places);
+        let long_round = pair.stretched(chance, round, places);
+        for (trail, round) in [(trail, round), (&long_trail, &long_round)] {
+            out.put(pair.choice(begin, round, trail))?;
+            out.put(pair.choice(begin, trail, trail))?;
+            out.put(pair.choice(begin, round, round))?;
+        }
+    }
+    // Of a ring the round trail begins with the trail.
+    let ring = Pair::new(make::cycle(4).plain());
+    for trail in [&ring.trail, &ring.round] {
+        for round in [&ring.trail, &ring.round] {
+            out.put(ring.choice(2, trail, round))?;
+        }
+    }
+    // No hop: any labels are spare places.
+    let one = Pair::new(make::path(1).plain());
+    for (trail, round) in [
+        (&[][..], &[][..]),
+        (&[0], &[]),
+        (&[], &[0]),
+        (&[7, 7], &[0xffff]),
+    ] {
+        out.put(one.choice(0, trail, round))?;
+    }
+    Ok(())
+}
+
+/// Choices that meet one refusal, and several at once.
+fn fixed_choice_refused(chance: &mut Chance, out: &mut Out) -> io::Result<()> {
+    let triangle = Pair::new(make::cycle(3).plain());
+    for refusal in 1..=9 {
+        for (begin, trail, round) in [(0, 3, 6), (255, 3, 6), (0, 2, 6), (0, 3, 5), (64, 0, 0)] {
+            let listing = refused(chance, refusal, (5, 8), 0);
+            let (trail, round) = (&triangle.trail[..trail], &triangle.round[..round]);
+            out.put(choice(&listing, begin, trail, round))?;
+        }
+    }
+    // Any of 11, and 12 of either trail.
+    for wanted in ORDERINGS {
+        let pair = compared(chance, wanted, (5, 8), 40);
+        let count = pair.plant.switches;
+        for bad in 1..8 {
+            let mut begin = pair.some_switch(chance);
+            let (mut trail, mut round) = (pair.trail.clone(), pair.round.clone());
+            if bad & 1 != 0 {
+                begin = chance.of(&[count, count, count + 1, 64, 255]);
+            }
+            if bad & 2 != 0 {
+                trail[chance.below(pair.trail.len())] ^= 1;
+            }
+            if bad & 4 != 0 {
+                round[chance.below(pair.round.len())] ^= 1;
+            }
+            out.put(pair.choice(begin, &trail, &round))?;
+        }
+    }
+    Ok(())
+}
+
+/// Choices of plants at the limits.
+fn fixed_choice_limits(chance: &mut Chance, out: &mut Out) -> io::Result<()> {
+    for sketch in [
+        make::exact(chance, SWITCHES, LINKS),
+        make::long(SWITCHES, LINKS - (SWITCHES - 1)),
+        make::bundle(LINKS),
+        make::cycle(SWITCHES),
+        make::star(SWITCHES),
+        make::tree(chance, SWITCHES),
+        make::tailed(chance, 20, SWITCHES),
+        make::rings(chance, &[16; 4]),
+        make::exact(chance, 20, 100),
+    ] {
+        let pair = Pair::new(sketch.plain());
+        let begin = pair.some_switch(chance);
+        out.put(pair.choice(begin, &pair.trail, &pair.round))?;
+    }
+    Ok(())
+}
+
+/// One case of a choice, drawn by chance: as often of plants whose trail is the
+/// shorter one as of those whose trail is as long, or longer.
+fn drawn_choice(chance: &mut Chance) -> Case {
+    let pair = if chance.percent(7) {
+        Pair::of(lending(chance, 0))
+    } else {
+        let wanted = chance.of(&ORDERINGS);
+        let (limits, most) = chance.of(&[
+            ((5, 8), 40),
+            ((5, 8), 40),
+            ((8, 14), 80),
+            ((12, 24), 120),
+            ((32, 80), LENT),
+        ]);
+        compared(chance, wanted, limits, most)
+    };
+    let begin = switch(chance, &pair.plant);
+    let trail = lent_hops(chance, &pair, &pair.trail);
+    let round = lent_hops(chance, &pair, &pair.round);
+    pair.choice(begin, &trail, &round)
+}
+
+/// How often each call is drawn, from call 1; the long run, the rules by switch,
+/// the pages and the calls of the round trail are drawn apart.
 const WEIGHTS: [usize; NAMES.len() - 1] = [
-    14, 9, 7, 5, 5, 9, 9, 7, 6, 8, 9, 7, 4, 2, 3, 6, 2, 7, 7, 1, 0, 0, 0, 0,
+    14, 9, 7, 5, 5, 9, 9, 7, 6, 8, 9, 7, 4, 2, 3, 6, 2, 7, 7, 1, 0, 0, 0, 0, 0, 0, 0,
 ];
 
-/// One case of any call but the long run, the rules by switch and the pages,
-/// drawn by chance.
+/// One case of any call but the long run, the rules by switch, the pages and
+/// those of the round trail, drawn by chance.
 fn drawn_any(chance: &mut Chance) -> Case {
     let call = 1 + chance.weighed(&WEIGHTS) as u8;
     drawn(chance, call)
@@ -2725,7 +3534,8 @@ fn make(folder: &Path, seed: u64, count: usize) -> io::Result<Out> {
         out.put(drawn_any(&mut chance))?;
     }
     // Packet runs are drawn by a chance of their own, and so are the rules by
-    // switch, the pages written, the pages read, the searches and the allowance.
+    // switch, the pages written, the pages read, the searches, the allowance,
+    // the round trails, the round runs and the choices.
     let mut other = Chance::new(!seed);
     out.most = count.min(FIRST + RUNS);
     fixed_runs(&mut other, &mut out)?;
@@ -2751,16 +3561,34 @@ fn make(folder: &Path, seed: u64, count: usize) -> io::Result<Out> {
         out.put(drawn_page_read(&mut fifth)?)?;
     }
     let mut sixth = Chance::new(seed ^ u64::from(PERFORM) << 32);
-    out.most = count.min(COUNT - ALLOWANCES);
+    out.most = count.min(KINDS);
     fixed_searches(&mut sixth, &mut out)?;
     while !out.full() {
         out.put(drawn_search(&mut sixth)?)?;
     }
     let mut seventh = Chance::new(seed ^ u64::from(ALLOWANCE) << 32);
-    out.most = count.min(COUNT);
+    out.most = count.min(KINDS + ALLOWANCES);
     fixed_allowances(&mut out)?;
     while !out.full() {
         out.put(allowed(seventh.word().into()))?;
+    }
+    let mut eighth = Chance::new(seed ^ u64::from(ROUND_TRAIL) << 32);
+    out.most = count.min(KINDS + ALLOWANCES + ROUND_TRAILS);
+    fixed_round_trails(&mut eighth, &mut out)?;
+    while !out.full() {
+        out.put(drawn_round_trail(&mut eighth))?;
+    }
+    let mut ninth = Chance::new(seed ^ u64::from(ROUND_RUN) << 32);
+    out.most = count.min(KINDS + ALLOWANCES + ROUND_TRAILS + ROUND_RUNS);
+    fixed_round_runs(&mut ninth, &mut out)?;
+    while !out.full() {
+        out.put(drawn_round_run(&mut ninth))?;
+    }
+    let mut tenth = Chance::new(seed ^ u64::from(CHOICE) << 32);
+    out.most = count.min(COUNT);
+    fixed_choices(&mut tenth, &mut out)?;
+    while !out.full() {
+        out.put(drawn_choice(&mut tenth))?;
     }
     out.most = count;
     while !out.full() {

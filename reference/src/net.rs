@@ -46,19 +46,20 @@ pub struct Net {
 }
 
 /// The links at each switch by rising number.
-struct Joins {
+pub(crate) struct Joins {
     at: [u16; Plant::MAX_SWITCHES + 1],
     join: [Join; Plant::MAX_ARCS],
 }
 
+/// A link at a switch, and the switch at its other end.
 #[derive(Clone, Copy, Default)]
-struct Join {
-    link: u16,
-    other: u8,
+pub(crate) struct Join {
+    pub(crate) link: u16,
+    pub(crate) other: u8,
 }
 
 impl Joins {
-    fn new(plant: &Plant) -> Joins {
+    pub(crate) fn new(plant: &Plant) -> Joins {
         let mut at = [0; Plant::MAX_SWITCHES + 1];
         for link in plant.records() {
             at[usize::from(link.first) + 1] += 1;
@@ -83,7 +84,7 @@ impl Joins {
     }
 
     /// The links at a switch.
-    fn of(&self, switch: usize) -> &[Join] {
+    pub(crate) fn of(&self, switch: usize) -> &[Join] {
         &self.join[usize::from(self.at[switch])..usize::from(self.at[switch + 1])]
     }
 }
@@ -189,6 +190,12 @@ impl Net {
         } else {
             (second, first)
         }
+    }
+
+    /// The label by which a link is crossed from a switch at one of its ends.
+    pub fn leaving(&self, link: u16, switch: usize) -> u16 {
+        let first = usize::from(self.plant.link[usize::from(link)].first);
+        2 * link + u16::from(first != switch)
     }
 
     /// The labels of the arcs in use, rising.

@@ -16,7 +16,7 @@ pub struct Run {
     /// Whether its list became empty; else it was lost.
     pub ended: bool,
     /// The labels before the first one that has no rule at the switch then
-    /// reached or whose link is down: all of them, if it ended.
+    /// reached or cannot be crossed by: all of them, if it ended.
     pub hops: usize,
     /// The switch last reached.
     pub last: usize,
@@ -51,18 +51,41 @@ pub fn run(
     labels: impl IntoIterator<Item = u16>,
     states: &[u8],
 ) -> Run {
+    follow(net, switch, labels, |label| {
+        (under == Under::BothArcs || net.used[label]) && states[label / 2] != 0
+    })
+}
+
+/// Runs a packet from a switch under both arcs of every link: states are those
+/// of the labels in turn, and there is one for each label.
+pub fn run_by_label(
+    net: &Net,
+    switch: usize,
+    labels: impl IntoIterator<Item = u16>,
+    states: &[u8],
+) -> Run {
+    follow(net, switch, labels, |label| states[label] != 0)
+}
+
+/// Runs a packet from a switch: `open` says of a label of the plant whether it
+/// has a rule and can be crossed by.
+fn follow(
+    net: &Net,
+    switch: usize,
+    labels: impl IntoIterator<Item = u16>,
+    open: impl Fn(usize) -> bool,
+) -> Run {
     let mut run = Run {
         ended: false,
         hops: 0,
         last: switch,
     };
     for label in labels {
-        let link = usize::from(label / 2);
-        if link >= net.links() || (under == Under::Page && !net.used[usize::from(label)]) {
+        if usize::from(label / 2) >= net.links() || !open(usize::from(label)) {
             return run;
         }
         let (from, to) = net.ends(label);
-        if from != run.last || states[link] == 0 {
+        if from != run.last {
             return run;
         }
         run.hops += 1;

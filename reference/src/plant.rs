@@ -23,13 +23,15 @@ pub enum Refusal {
     BytesRemain = 8,
     /// Some switch can't be reached from the start.
     NotConnected = 9,
-    /// The lent buffer has fewer places than the trail has hops.
+    /// The lent buffer has fewer places than the trail, or the round trail,
+    /// has hops.
     TrailBufferShort = 10,
     /// A named switch is not below S.
     SwitchOutOfRange = 11,
-    /// The lent trail differs from the listing's trail.
+    /// The lent trail, or round trail, differs from the listing's.
     TrailDiffers = 12,
-    /// There are fewer link-state bytes than E.
+    /// There are fewer link-state bytes than E, or fewer than 2×E where each
+    /// label has its own.
     StatesShort = 13,
     /// A search state that cannot be, or cannot be of this plant.
     SearchUnsound = 14,

@@ -187,6 +187,13 @@ impl<'n> Trail<'n> {
         lent.len() == self.hops && self.each(|label| places.next() == Some(&label))
     }
 
+    /// The hops of the lent trail, without spare places; none if they are not
+    /// those of this one.
+    pub fn hops_of<'t>(&self, lent: &'t [u16]) -> Option<&'t [u16]> {
+        let hops = lent.get(..self.hops)?;
+        self.is(hops).then_some(hops)
+    }
+
     pub fn to_vec(&self) -> Vec<u16> {
         let mut buffer = vec![0; self.hops];
         self.fill(&mut buffer);

@@ -1,15 +1,17 @@
-// Calls 7 to 12 and 21 of the program `cases`: packets and probes. Each is given a listing, a switch and labels, and then arguments of its own. Its main file has the
-// table of cases.
+// Calls 7 to 12, 21, 26 and 27 of the program `cases`: packets and probes. Each is given a listing, a switch and labels, and then arguments of its own. Its main file
+// has the table of cases.
 use answers::Verdict;
 use caseform::checksum;
 use caseform::input;
 use caseform::show;
+use choosing::Choice;
 use order::Order;
 use order::Span;
 use packet::End;
 use probing::Named;
 use probing::Outward;
 use probing::Ran;
+use probing::Shorter;
 use search::Outcome;
 
 // A word, the hops made and the switch last reached.
@@ -67,6 +69,32 @@ fn show_probe(r: Ran) {
 fn full_check(listing: &[u8], switch: u8, trail: &[u16], s: &[u8], at: usize) -> usize {
     show_probe(probing::full_check(listing, switch, trail, input::string(s, at)));
     input::past_string(s, at)
+}
+
+fn round_run(listing: &[u8], switch: u8, round: &[u16], s: &[u8], at: usize) -> usize {
+    show_probe(probing::round_run(listing, switch, round, input::string(s, at)));
+    input::past_string(s, at)
+}
+
+// Which of the two lent trails was chosen, and its hops.
+fn show_choice<'a>(trail: &'a [u16], round: &'a [u16], choice: Choice) {
+    match choice {
+        Choice::Trail(_) => show::word(b"trail "),
+        Choice::Round(_) => show::word(b"round "),
+    }
+    let hops = probing::chosen(trail, round, choice);
+    show::list(hops.len() as u64, checksum::with_labels(0, hops));
+}
+
+// The labels are the trail; the round trail is a second list.
+fn shorter_trail(listing: &[u8], switch: u8, trail: &[u16], s: &[u8], at: usize) -> usize {
+    let mut round = input::label_places();
+    let n = input::labels(s, at, &mut round);
+    match probing::shorter_trail(listing, switch, trail, &round[..n]) {
+        Shorter::Of(choice) => show_choice(trail, &round[..n], choice),
+        Shorter::Refused(k) => show::refusal(k),
+    }
+    input::past_labels(s, at)
 }
 
 fn show_order(o: Order) {
@@ -133,6 +161,8 @@ fn answer_with(call: u8, listing: &[u8], switch: u8, labels: &[u16], s: &[u8], a
         10 => outward(listing, switch, labels, s, at),
         11 => run_probe(listing, switch, labels, s, at),
         21 => long_run(listing, switch, labels, s, at),
+        26 => round_run(listing, switch, labels, s, at),
+        27 => shorter_trail(listing, switch, labels, s, at),
         _ => link_named(listing, switch, labels, s, at),
     }
 }

@@ -1,4 +1,4 @@
-// Calls 1 to 6, 18, 19 and 22 to 24 of the program `cases`: reading and writing a listing, its plan, and its buying page. Its main file has the table of cases.
+// Calls 1 to 6, 18, 19 and 22 to 25 of the program `cases`: reading and writing a listing, its plan, and its buying page. Its main file has the table of cases.
 use answers::Verdict;
 use caseform::checksum;
 use caseform::input;
@@ -135,23 +135,36 @@ fn by_switch(listing: &[u8]) {
     }
 }
 
-fn trail_into(listing: &[u8], buffer: &mut [u16]) {
-    checksum::fill_labels(buffer);
-    match planner::lay_trail(listing, buffer) {
+fn show_trailed(t: Trailed) {
+    match t {
         Trailed::Hops(hops) => show::number(hops as u64),
         Trailed::Refused(k) => show::refusal(k),
     }
+}
+
+// Call 6 or 25 with a lent buffer.
+fn show_trail(call: u8, listing: &[u8], buffer: &mut [u16]) {
+    match call {
+        6 => show_trailed(planner::lay_trail(listing, buffer)),
+        _ => show_trailed(planner::lay_round_trail(listing, buffer)),
+    }
+}
+
+// The same, and the buffer's checksum after it.
+fn trail_into(call: u8, listing: &[u8], buffer: &mut [u16]) {
+    checksum::fill_labels(buffer);
+    show_trail(call, listing, buffer);
     show::word(b" ");
     show::list(buffer.len() as u64, checksum::with_labels(0, buffer));
 }
 
 // The buffer's length follows the listing.
-fn trail(s: &[u8], at: usize) -> usize {
+fn trail(call: u8, s: &[u8], at: usize) -> usize {
     let listing = input::string(s, at);
     let from = input::past_string(s, at);
     let n = input::number(s, from) as usize;
     let mut buffer = input::label_places();
-    trail_into(listing, &mut buffer[0..n]);
+    trail_into(call, listing, &mut buffer[0..n]);
     input::past(s, from, 2)
 }
 
@@ -184,8 +197,8 @@ pub fn answer(call: u8, s: &[u8], at: usize) -> usize {
     if call == 2 || call == 19 {
         return call_lent(call, s, at, input::past_plant(s, at));
     }
-    if call == 6 {
-        return trail(s, at);
+    if call == 6 || call == 25 {
+        return trail(call, s, at);
     }
     if call == 18 {
         return call_lent(call, s, at, input::past_string(s, at));

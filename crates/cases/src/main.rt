@@ -30,6 +30,9 @@
 // 23 page written    listing, spare, buffer length            length
 // 24 page read       page                                     switches, total, quantity, checksums of a number for each
 //                                                             switch place: rules, and links
+// 25 round trail     listing, buffer length                   hops
+// 26 round run       listing, switch, round trail, states     returned or lost, hops, last switch
+// 27 shorter trail   listing, switch, trail, round trail      trail or round, checksum of the labels handed back
 //
 // A plant is its switches, links (two bytes) and start, a two-byte number of link places, and first end, second end and tag (two bytes) of each; the other link
 // places are zero. A refusal is the word `refused` and its number. The line of a call that is lent a buffer ends with the buffer's checksum after the call.
@@ -44,7 +47,7 @@ ghost use Prim.Native.Nat.{_≤_};
 ghost use lib.ListN.{length};
 
 // The most bytes of input that are read.
-const INPUT: usize = 1700000;
+const INPUT: usize = 1950000;
 
 // Prints the answer of the case at a place; the place after it. A byte that is no call ends the input.
 fn answer(s: &[u8], at: usize) -> usize {
@@ -53,7 +56,7 @@ fn answer(s: &[u8], at: usize) -> usize {
     if call < 7 {
         return caseplans::answer(call, s, from);
     }
-    if call < 13 || call == 21 {
+    if call < 13 || call == 21 || call == 26 || call == 27 {
         return casepackets::answer(call, s, from);
     }
     if call == 18 || call == 19 || 22 <= call {

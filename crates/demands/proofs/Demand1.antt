@@ -8,7 +8,7 @@ use Rattle.answers.specs.Checks.{Checked, answer, leaves, AnswersInto}
 use Rattle.answers.proofs.Checks.{answers, left-kept}
 use Rattle.listing.specs.Writing.{writing}
 use Rattle.listing.proofs.WriteRoundTrip.{buffer-refused}
-use Rattle.planner.specs.Calls.{rewriting, rewritten, rereading, trailing, laidOut, buying, boughtOut}
+use Rattle.planner.specs.Calls.{rewriting, rewritten, rereading, trailing, laidOut, roundTrailing, roundLaidOut, buying, boughtOut}
 use Rattle.demands.specs.Demands.{Demand1}
 
 into : {A : Type 0} (c : Checked A) (f : A → List ℕ) (b : List ℕ) → AnswersInto c b (leaves f b (answer c))
@@ -20,7 +20,7 @@ unfolding rereading
 reread-refused p b n e = answers (writing p b) .refusals n .1 (answers (rereading p b) .refusals n .0 e)
 
 pub demand-1 : Demand1
-unfolding rewritten laidOut boughtOut
+unfolding rewritten laidOut roundLaidOut boughtOut
 demand-1 = record {
   read = λ s. answers _;
   write = λ p b. record { answers = answers _; kept = buffer-refused p b };
@@ -31,6 +31,7 @@ demand-1 = record {
   forwarding-table = λ s. answers _;
   rules-by-switch = λ s. answers _;
   lay-trail = λ s b. into (trailing s b) _ b;
+  lay-round-trail = λ s b. into (roundTrailing s b) _ b;
   write-buying-page = λ s spare b. into (buying s spare b) _ b;
   read-buying-page = λ page. answers _;
   order-quantity = λ rules spare. answers _;
@@ -38,6 +39,9 @@ demand-1 = record {
   run = λ s x labels states. answers _;
   outcome-of = λ e. answers _;
   full-check = λ s x w states. answers _;
+  round-run = λ s x w states. answers _;
+  shorter-trail = λ s x w v. answers _;
+  chosen = λ w v c. answers _;
   order-of-links = λ s x w. answers _;
   outward-labels = λ s x w q. answers _;
   stretch = λ w b. answers _;

@@ -29,7 +29,7 @@ use Rattle.plan.proofs.Plan.{connected-is}
 use Rattle.plan.proofs.Trails.{trail-is, trail-closed}
 use Rattle.planning.specs.Planning.{planningFor, planning}
 use Rattle.planning.proofs.Plans.{for-joined, for-apart, plan-ready, at-given}
-use Rattle.planner.specs.Calls.{rewriting, rewritten, rereading, trailLeft}
+use Rattle.planner.specs.Calls.{rewriting, rewritten, rereading, trailLeft, trailing, laidOut}
 use Rattle.planner.proofs.Trailing.{lay-enough, trail-given, left-given}
 use Rattle.demands.specs.Demands.{PlanIs, Demand2}
 use Rattle.demands.proofs.Packets.{run-is, rules-are, injection-is}
@@ -80,7 +80,7 @@ module _ (s : List ℕ) (b : Bytes s) where
       go (refused n) d e = absurd (omega (arith, refusal-numbers s n d, refused-refused {A = Plant} n 9 (sym (read-off n d) ∙ e)))
 
 pub demand-2 : Demand2
-unfolding rewritten
+unfolding rewritten trailing laidOut
 demand-2 = record {
   read-write = read-write;
   write-read = write-read;
@@ -90,8 +90,8 @@ demand-2 = record {
   unreached = unreached;
   plan = λ s p b e. let r = plan-ready s p b e in plan-is p (r .0) (r .1);
   laid = λ s b p e h.
-      let r = lay-enough p b h (length (trailOf p)) refl in
-      (sym (r ∙ trail-given s b p e), sym (ap (trailLeft p b) r ∙ left-given s b p e));
+      let r = lay-enough (trailOf p) b h (length (trailOf p)) refl in
+      (sym (r ∙ trail-given trailOf s b p e), sym (ap (trailLeft (trailOf p) b) r ∙ left-given trailOf s b p e));
   run = run-is;
   rules = rules-are;
   injection = λ s x p b e.

@@ -7,3 +7,4 @@ pub mod Demand2
 pub mod Demand3
 pub mod BySwitches
 pub mod BuyingPages
+pub mod Rounds

@@ -7,7 +7,7 @@ use mathlib.Core.List.{List, [], _∷_, _++_, map, flatten}
 use Prim.Native.Nat.{ℕ, suc, _+_, _*_, _/_, _≤_, _<_}
 use lib.Dec.{T}
 use lib.ListN.{length, getD, take, drop}
-use Rattle.lists.specs.Members.{In, memb, Distinct}
+use Rattle.lists.specs.Members.{In, Each, memb, Distinct}
 use Rattle.lists.specs.Count.{count}
 use Rattle.lists.specs.Arrays.{at}
 use Rattle.lists.specs.Numbers.{range, keep}
@@ -31,11 +31,15 @@ use Rattle.rings.specs.Order.{nth}
 use Rattle.rings.specs.Probe.{upTo, back}
 use Rattle.rings.specs.Injection.{probeRules, placeOf, ringOf, orderOf, probeOf, probeRun}
 use Rattle.rings.specs.FirstDown.{FirstDown}
+use Rattle.rings.specs.Round.{upByLabel, EveryUp, Vouches, linkBytes}
 use Rattle.table.specs.Rules.{tableWith}
 use Rattle.senders.specs.Senders.{sentBy, pastSenders, bySwitch}
-use Rattle.plan.specs.Plan.{Connected, visited, used, distanceOf, trailOf, ruleOf, rulesOf, tableOf, inTable}
+use Rattle.plan.specs.Plan.{Connected, visited, used, distanceOf, trailOf, roundOf, ruleOf, rulesOf, tableOf, inTable}
 use Rattle.plan.specs.Totals.{Totals}
 use Rattle.plan.specs.Trails.{IsTrail}
+use Rattle.plan.specs.Rounds.{IsRound}
+use Rattle.choosing.specs.declared.Choice.{Choice}
+use Rattle.choosing.specs.Choice.{hopsIn}
 use Rattle.order.specs.declared.Span.{Span}
 use Rattle.order.specs.Span.{stretchOf, frontOf}
 use Rattle.packet.specs.Outcome.{outcomeOf}
@@ -43,17 +47,18 @@ use Rattle.allowance.specs.Allowance.{allowance, clipped}
 use Rattle.quantity.specs.Quantity.{orderQuantity}
 use Rattle.search.specs.declared.Search.{Search}
 use Rattle.search.specs.declared.Outcome.{Outcome}
-use Rattle.search.specs.Search.{newSearch, wanted, ask, give}
-use Rattle.search.specs.Calls.{Call, perform, begun}
+use Rattle.search.specs.declared.Outcome.the-variants.{Returned}
+use Rattle.search.specs.Search.{newSearch, wanted, ended, ask, give}
+use Rattle.search.specs.Calls.{Call, perform, begun, TrueSending, OneReturns}
 use Rattle.sheet.specs.declared.Sheet.{Sheet}
 use Rattle.sheet.specs.Columns.{lineColumns}
 use Rattle.sheet.specs.Page.{switchLine, totalLine, buyingPage}
 use Rattle.sheet.specs.Form.{formed, readingPage}
 use Rattle.sheet.specs.Shown.{ThreeDigits, Shown}
 use Rattle.planning.specs.Planning.{planning, planningAt}
-use Rattle.planner.specs.Calls.{rewriting, rewritten, rereading, summing, bridging, tabling, counting, trailing, laidOut, buying, boughtOut}
-use Rattle.probing.specs.Calls.{running, checking, ordering, outLabels, outgoing, probing, naming, beginning, performing}
-use Rattle.probing.specs.Searches.{actualOutcome, Searches}
+use Rattle.planner.specs.Calls.{rewriting, rewritten, rereading, summing, bridging, tabling, counting, trailing, laidOut, roundTrailing, roundLaidOut, buying, boughtOut}
+use Rattle.probing.specs.Calls.{running, checking, roundRunning, choosing, ordering, outLabels, outgoing, probeEnd, probing, naming, beginning, performing}
+use Rattle.probing.specs.Searches.{sentOver, actualOutcome, Says, Searches}
 
 -- ---- demand 1: each call answers its result, or a refusal exactly under its condition, and a refusal leaves a lent buffer as it was
 
@@ -69,14 +74,18 @@ pub record Demand1 : Type 0 where
   pub forwarding-table : (s : List ℕ) → Answers (tabling s)
   pub rules-by-switch : (s : List ℕ) → Answers (counting s)
   pub lay-trail : (s b : List ℕ) → AnswersInto (trailing s b) b (laidOut s b)
+  pub lay-round-trail : (s b : List ℕ) → AnswersInto (roundTrailing s b) b (roundLaidOut s b)
   pub write-buying-page : (s : List ℕ) (spare : ℕ) (b : List ℕ) → AnswersInto (buying s spare b) b (boughtOut s spare b)
   pub read-buying-page : (page : List ℕ) → Answers (readingPage page)
   pub order-quantity : (rules spare : ℕ) → Answers (orderQuantity rules spare)
   pub allowance : (n : ℕ) → Answers (check [] (allowance (clipped n)))
-  -- calls that are given a listing s and a switch x, with labels, link states, a lent trail w or a search q
+  -- calls that are given a listing s and a switch x, with labels, states, a lent trail w, a lent round trail or a search q
   pub run : (s : List ℕ) (x : ℕ) (labels states : List ℕ) → Answers (running s x labels states)
   pub outcome-of : (e : End) → Answers (check [] (outcomeOf e))
   pub full-check : (s : List ℕ) (x : ℕ) (w states : List ℕ) → Answers (checking s x w states)
+  pub round-run : (s : List ℕ) (x : ℕ) (w states : List ℕ) → Answers (roundRunning s x w states)
+  pub shorter-trail : (s : List ℕ) (x : ℕ) (w v : List ℕ) → Answers (choosing s x w v)
+  pub chosen : (w v : List ℕ) (c : Choice) → Answers (check [] (hopsIn w v c))
   pub order-of-links : (s : List ℕ) (x : ℕ) (w : List ℕ) → Answers (ordering s x w)
   pub outward-labels : (s : List ℕ) (x : ℕ) (w : List ℕ) (q : Search) → Answers (outgoing s x w q)
   pub stretch : (w : List ℕ) (b : Span) → Answers (check [] (stretchOf w b))
@@ -288,3 +297,56 @@ pub record PageForm (b : List ℕ) : Type 0 where
   -- what is accepted is written back as the same bytes, so that it is the only page with its counts
   pub written-back : (c : Sheet) → answer (readingPage b) ≡ given c → buyingPage c ≡ b
   pub only-one : (b′ : List ℕ) (c : Sheet) → answer (readingPage b) ≡ given c → answer (readingPage b′) ≡ given c → b ≡ b′
+
+-- ---- document 02, order 6: links that fail one way
+
+-- for every listing s that is read as a connected plant p: its round trail, of 2×E hops
+pub record RoundTrail (s : List ℕ) (p : Plant) : Type 0 where
+  -- "a round trail that crosses each of the 2×E arcs just once"
+  pub is : IsRound p (roundOf p)
+  -- "no closed walk with that property", that its packet comes home exactly if every direction is up, "has fewer hops", wherever the packet is injected
+  pub fewest : (x : ℕ) (w : List ℕ) → ClosedWalk p w → Vouches p x w → length (roundOf p) ≤ length w
+  -- a buffer with enough places begins with it, and places past it stay; one with fewer is 10
+  pub laid : (b : List ℕ) → 2 * liveLinks p ≤ length b
+      → (answer (roundTrailing s b) ≡ given (2 * liveLinks p)) × (roundLaidOut s b ≡ roundOf p ++ drop (2 * liveLinks p) b)
+  pub too-short : (b : List ℕ) → length b < 2 * liveLinks p → answer (roundTrailing s b) ≡ refused 10
+
+-- for every switch x of it: the round run
+pub record RoundRun (s : List ℕ) (p : Plant) (x : ℕ) : Type 0 where
+  -- it begins at the place of the switch on the round trail; at the start that is the round trail itself
+  pub place : 1 ≤ liveLinks p → FirstHop (tail p) x (roundOf p) (placeOf p (roundOf p) x)
+  pub at-start : x ≡ p .start → ringOf p (roundOf p) x ≡ roundOf p
+  -- "its packet comes home exactly if every direction is up"
+  pub vouches : Vouches p x (ringOf p (roundOf p) x)
+  -- "a lent trail may have spare places here": the round trail with any places after it is taken, with a byte for each label at least
+  pub taken : (spare states : List ℕ) → 2 * p .count ≤ length states → (e : End) × (answer (roundRunning s x (roundOf p ++ spare) states) ≡ given e)
+  -- and whatever was lent, the answer is of the round trail's own hops
+  pub home : (w states : List ℕ) (e : End) → answer (roundRunning s x w states) ≡ given e → (e .ended ≡ true) ↔ EveryUp p states
+  pub back-home : (w states : List ℕ) (e : End) → answer (roundRunning s x w states) ≡ given e → e .ended ≡ true
+      → e ≡ record { ended = true; hops = 2 * liveLinks p; last = x }
+  pub got-to : (w states : List ℕ) (e : End) → answer (roundRunning s x w states) ≡ given e
+      → GotTo (inAll p) (upByLabel states) (head p) x (ringOf p (roundOf p) x) e
+
+-- the choice "for the ordinary check", from a switch x
+pub record ShorterTrail (s : List ℕ) (p : Plant) (x : ℕ) : Type 0 where
+  -- both trails are taken with any places after them
+  pub taken : (spare spare′ : List ℕ) → (c : Choice) × (answer (choosing s x (trailOf p ++ spare) (roundOf p ++ spare′)) ≡ given c)
+  -- what is handed back of two lent trails is "the trail's own stretch of whichever of the two lent trails has fewer hops, document 01's if equal", and no spare place
+  pub trail : (w v : List ℕ) (c : Choice) → answer (choosing s x w v) ≡ given c → length (trailOf p) ≤ length (roundOf p) → hopsIn w v c ≡ trailOf p
+  pub round : (w v : List ℕ) (c : Choice) → answer (choosing s x w v) ≡ given c → length (roundOf p) < length (trailOf p) → hopsIn w v c ≡ roundOf p
+
+-- how probe m comes out by a byte for each label
+abbrev pub endByLabel : Plant → ℕ → List ℕ → ℕ → End
+endByLabel p x states m = probeRun p (used p) (trailOf p) x (liveLinks p) (upByLabel states) m
+
+-- "searches keep one byte a link, and their verdicts hold for links whose two directions are up or down together": from injection switch x, by such states
+pub record ByLabel (p : Plant) (x : ℕ) (states : List ℕ) : Type 0 where
+  -- a byte for each link tells of both its directions
+  pub links : (l : ℕ) → T (live p l) → (upBy (linkBytes p states) l ≡ upByLabel states (2 * l)) × (upBy (linkBytes p states) l ≡ upByLabel states (2 * l + 1))
+  -- so a run by label is the run by link
+  pub runs : (m : ℕ) → endByLabel p x states m ≡ probeEnd p x (linkBytes p states) m
+  -- and after any list of calls, with demand 3's two premises on its sendings by the runs by label, the verdict is demand 3's
+  pub says : (cs : List Call)
+      → Each (TrueSending (λ m. outcomeOf (endByLabel p x states m) ≡ Returned)) (sentOver p cs)
+      → OneReturns (λ m. outcomeOf (endByLabel p x states m) ≡ Returned) (sentOver p cs)
+      → ended (perform (begun (liveLinks p)) cs .state) ≡ true → Says p x (linkBytes p states) (perform (begun (liveLinks p)) cs .state)

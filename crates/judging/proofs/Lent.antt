@@ -1,7 +1,7 @@
 -- Refusals 12 and 13: of a lent trail and of state bytes. Assumes nothing.
 use mathlib.Core.Path.{_≡_, refl, ap, _∙_}
 use mathlib.Core.Bool.{Bool, true, false, not}
-use mathlib.Core.List.{List}
+use mathlib.Core.List.{List, _++_}
 use Prim.Native.Nat.{ℕ, _≤_}
 use lib.Dec.{eqb}
 use lib.ListN.{length, take}
@@ -10,7 +10,7 @@ use Rattle.plant.specs.declared.Plant.{Plant}
 use Rattle.plan.specs.Plan.{trailOf}
 use Rattle.trail.specs.declared.Compared.the-variants.{Same, Other}
 use Rattle.trail.specs.Filled.{Tells}
-use Rattle.trail.proofs.Filled.{same-is, front-is}
+use Rattle.trail.proofs.Filled.{same-is, front-is, begins-own}
 use Rattle.judging.specs.Conditions.{trailDiffers, hopsDiffer, statesShort}
 
 -- no refusal 13: there is a byte for each link
@@ -51,3 +51,8 @@ module _ (w lent : List ℕ) where
   pub hops-begin : hopsDiffer w lent ≡ false → take (length w) lent ≡ w
   unfolding hopsDiffer
   hops-begin f = front-is lent w (not-false _ f)
+
+-- a lent trail that has w at its front
+pub hops-own : (w spare : List ℕ) → hopsDiffer w (w ++ spare) ≡ false
+unfolding hopsDiffer
+hops-own w spare = rw (begins-own w spare) refl

@@ -1,3 +1,4 @@
 pub mod Plan
 pub mod Trails
 pub mod Totals
+pub mod Rounds

@@ -4,11 +4,11 @@
 use mathlib.Core.Path.{_≡_, refl, sym, ap, _∙_, subst}
 use mathlib.Core.Logic.{_⊎_, ⊎-elim, _↔_}
 use mathlib.Core.Bool.{Bool, true, false, not}
-use mathlib.Core.List.{List, [], map}
+use mathlib.Core.List.{List, [], _∷_, _++_, map, append-nil}
 use Prim.Native.Nat.{ℕ, _*_, _/_, _≤_}
 use native.Mathlib.Omega.{arith}
 use lib.Dec.{T, eqb}
-use lib.ListN.{length, getD}
+use lib.ListN.{length, getD, take, drop, length-append, take-append-drop}
 use borrow.Author.Tests.{eq-eqb, ne-eqb}
 use Rattle.lists.specs.Tests.{choose}
 use Rattle.lists.proofs.Tests.{not-both}
@@ -26,11 +26,20 @@ use Rattle.walks.proofs.Live.{live-below}
 use Rattle.walks.proofs.Labels.{even-or-odd, arc-below}
 use Rattle.rings.specs.Packet.{End, ends, run}
 use Rattle.rings.specs.Rules.{upBy, upByLink, inAll, allRules}
-use Rattle.rings.specs.Injection.{ringOf, probeRun}
+use Rattle.rings.specs.Ring.{readFrom, ring}
+use Rattle.rings.specs.Injection.{placeOf, ringOf, probeRun}
 use Rattle.rings.specs.Round.{upByLabel, EveryUp, Vouches, roundRun, Together, linkBytes}
-use Rattle.rings.proofs.Packet.{run-ended, run-same}
+use Rattle.rings.proofs.Packet.{run-ended, run-clear, run-same}
+use Rattle.rings.proofs.Ring.{place-is, ring-empty}
 use Rattle.rings.proofs.Rules.{all-arc, all-rules}
 use Rattle.rings.proofs.Injection.{RingAt, ring-labels, ring-closed, probe-agrees}
+
+-- the ring has as many labels as the walk
+ring-length : (p : Plant) (w : List ℕ) (s : ℕ) → length (ringOf p w s) ≡ length w
+unfolding ringOf ring readFrom
+ring-length p w s =
+    let k = placeOf p w s in
+    omega (arith, length-append (drop k w) (take k w), length-append (take k w) (drop k w), ap length (take-append-drop k w))
 
 -- ---- a closed walk from r that has each arc and no other label, and a switch that it leaves, unless it is empty
 
@@ -59,6 +68,21 @@ module _ (p : Plant) (w : List ℕ) (r : ℕ) (closed : Walk (tail p) (head p) w
     pub round-home : (states : List ℕ) → (roundRun p w s states .ended ≡ true) ↔ EveryUp p states
     unfolding roundRun run
     round-home = vouches
+
+    -- one that is home is back at its switch, after as many hops as there are labels
+    pub round-back : (states : List ℕ) → roundRun p w s states .ended ≡ true → roundRun p w s states ≡ record { ended = true; hops = length w; last = s }
+    unfolding roundRun run inAll
+    round-back states e =
+        run-clear (tail p) (head p) (λ a. live p (a / 2)) (upByLabel states) (ringOf p w s) s s 0 (ring-closed p w s ring-at) (λ a h. ring-whole a .0 h) (sym (ends-clear (upByLabel states)) ∙ e)
+        ∙ ap (λ (n : ℕ). record { ended = true; hops = n; last = s }) (omega (arith, ring-length p w s))
+
+-- from where a closed walk begins its ring is the walk itself
+pub ring-own : (p : Plant) (w : List ℕ) (r : ℕ) → Walk (tail p) (head p) w r r → ringOf p w r ≡ w
+unfolding ringOf ring readFrom
+ring-own p [] r q = ring-empty (tail p) r
+ring-own p (a ∷ w) r q =
+    ap (λ (k : ℕ). drop k (a ∷ w) ++ take k (a ∷ w)) (place-is (tail p) r (a ∷ w) 0 (record { inside = omega arith; leaves = q .0; before = λ i h. absurd (omega arith) }))
+    ∙ append-nil (a ∷ w)
 
 -- ---- no labels with that property are fewer
 

@@ -3,7 +3,7 @@
 use mathlib.Core.Path.{_≡_, refl, sym, ap, ap₂, _∙_, subst}
 use mathlib.Core.Logic.{_↔_}
 use mathlib.Core.Bool.{Bool, true, false, _&&_, and-assoc, false≢true}
-use mathlib.Core.List.{List, [], _∷_, _++_}
+use mathlib.Core.List.{List, [], _∷_, _++_, append-nil}
 use Prim.Native.Nat.{ℕ, _+_, _≤_, _<_}
 use native.Mathlib.Omega.{arith}
 use native.Mathlib.Numerals.{add-one}
@@ -131,10 +131,14 @@ whole (x ∷ l) (a ∷ w) e q =
     let h = and-true (eqb x a) (beginsWith l w) e in
     ap₂ (λ (z : ℕ) (zs : List ℕ). z ∷ zs) (eqb-true x a (h .0)) (whole l w (h .1) (omega arith))
 
-itself : (w : List ℕ) → beginsWith w w ≡ true
+-- a list begins with its front
+pub begins-own : (w v : List ℕ) → beginsWith (w ++ v) w ≡ true
 unfolding beginsWith
-itself [] = refl
-itself (a ∷ w) = rw (eq-eqb a a refl) (itself w)
+begins-own [] v = refl
+begins-own (a ∷ w) v = rw (eq-eqb a a refl) (begins-own w v)
+
+itself : (w : List ℕ) → beginsWith w w ≡ true
+itself w = rw (append-nil w) at (begins-own w [])
 
 pub same-is : (l w : List ℕ) → (beginsWith l w && eqb (length l) (length w) ≡ true) ↔ (l ≡ w)
 same-is l w = (
