@@ -4,7 +4,7 @@ use plant::Plant;
 use plant::head_of;
 use plant::tail_of;
 ghost use mathlib.Core.Path.{_≡_};
-ghost use Prim.Native.Nat.{_*_, _≤_, _<_};
+ghost use Prim.Native.Nat.{_*_, _≤_};
 ghost use Rattle.lists.specs.Arrays.{flag, at};
 ghost use Rattle.limits.specs.Limits.{maxLinks};
 ghost use Rattle.limits.specs.Sound.{Sound};
@@ -100,7 +100,6 @@ pub fn all_arcs(p: Plant) -> [bool; Plant::LABELS]
 
 // The label of the arc that crosses the same link the other way.
 pub fn opposite(a: u16) -> u16
-    requires { ⌜ a < 2 * maxLinks ⌝ }
     ensures { λ r. ⌜ r ≡ opposite a ⌝ }
 {
     if a % 2 == 0 { a + 1 } else { a - 1 }

@@ -170,8 +170,11 @@ module _ (s : List ℕ) (b : Bytes s) (p : Plant) (g : answer (planning s) ≡ g
   pub shorter-trail : ShorterTrail s p x
   unfolding choosing choiceIn
   shorter-trail = record {
-    taken = λ spare spare′. (choiceOf (length (trailOf p)) (length (roundOf p)), goes-on (planningAt s x) (choiceIn (trailOf p ++ spare) (roundOf p ++ spare′)) p (given-at s x p g h)
-        ∙ rw (hops-own (trailOf p) spare, hops-own (roundOf p) spare′) refl);
+    taken = λ spare spare′. (
+      choiceOf (length (trailOf p)) (length (roundOf p)),
+      goes-on (planningAt s x) (choiceIn (trailOf p ++ spare) (roundOf p ++ spare′)) p (given-at s x p g h)
+          ∙ rw (hops-own (trailOf p) spare, hops-own (roundOf p) spare′) refl,
+    );
     trail = λ w v c q l. chosen w v c q ∙ rw (le-ltb (length (roundOf p)) (length (trailOf p)) l) refl;
     round = λ w v c q l. chosen w v c q ∙ rw (lt-ltb (length (roundOf p)) (length (trailOf p)) l) refl;
   }

@@ -5,9 +5,12 @@ use Prim.Native.Nat.{ℕ, _*_}
 use lib.Dec.{eqb, ltb}
 use lib.ListN.{length}
 use Rattle.plant.specs.declared.Plant.{Plant}
+use Rattle.answers.specs.Answers.{Answer, given, refused, numberOf}
 use Rattle.answers.specs.Checks.{Conditions, Checked, check}
 use Rattle.plan.specs.Plan.{trailOf, roundOf}
 use Rattle.trail.specs.Filled.{beginsWith}
+use Rattle.judging.specs.declared.LentHops.{LentHops}
+use Rattle.judging.specs.declared.LentHops.the-variants as lent
 use Rattle.search.specs.declared.Search.{Search}
 use Rattle.search.specs.Search.{sound, soundFor, ended, wanted}
 
@@ -37,6 +40,15 @@ lentChecks p w states = (12, trailDiffers p w) ∷ (13, statesShort (p .count) s
 -- 12 and 13 of the round run: of the lent round trail, and of a byte for each label
 abbrev pub roundChecks : Plant → List ℕ → List ℕ → Conditions
 roundChecks p lent states = (12, hopsDiffer (roundOf p) lent) ∷ (13, statesShort (2 * p .count) states) ∷ []
+
+-- then its hops
+unfoldable pub roundLent : Plant → List ℕ → List ℕ → Checked ℕ
+roundLent p lent states = check (roundChecks p lent states) (length (roundOf p))
+
+-- what is answered of a lent trail: its hops, or the number of a refusal
+abbrev pub lentAnswer : LentHops → Answer ℕ
+lentAnswer (lent.Of n) = given n
+lentAnswer (lent.Refused k) = refused (numberOf k)
 
 -- 14, then 15: a probe is wanted of All up or Down
 abbrev pub wantedChecks : ℕ → Search → Conditions

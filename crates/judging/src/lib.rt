@@ -12,9 +12,15 @@ ghost use lib.Dec.{eqb};
 ghost use lib.ListN.{length};
 ghost use Rattle.answers.specs.Checks.{Judges, answer};
 ghost use Rattle.walks.specs.Graph.{liveLinks};
-ghost use Rattle.planning.specs.Plans.{Plan};
+ghost use Rattle.planning.specs.Plans.{FromStart, Plan};
 ghost use Rattle.search.specs.Search.{askedOf};
-ghost use Rattle.judging.specs.Conditions.{trailDiffers, statesShort, searchUnsound, lentChecks, probeWanted};
+ghost use Rattle.judging.specs.Conditions.{trailDiffers, statesShort, searchUnsound, lentChecks, roundLent, lentAnswer, probeWanted};
+
+// The hops of a lent trail that may have spare places, or a refusal.
+pub enum LentHops {
+    Of(usize),
+    Refused(Refusal),
+}
 
 // Has the lent trail another length than these hops?
 fn other_length(trail: &[u16], hops: usize) -> bool
@@ -60,6 +66,22 @@ pub fn judge_lent(
         return Verdict::Refused(Refusal::StatesShort);
     }
     Verdict::Accepted
+}
+
+// The hops of a lent round trail, with a state byte for each label: refusals 12, by the hops alone, and 13.
+pub fn judge_round(x: Parts, round: &[u16], states: &[u8]) -> LentHops
+    requires { ⌜ FromStart x ⌝ }
+    ensures { λ r. ⌜ lentAnswer r ≡ answer (roundLent (x .plant) (now (round .entry)) (now (states .entry))) ⌝ }
+{
+    match planning::compare_round(x, round) {
+        Compared::Same(hops) => {
+            if too_few(states, 2 * x.plant.count) {
+                return LentHops::Refused(Refusal::StatesShort);
+            }
+            LentHops::Of(hops)
+        }
+        Compared::Other => LentHops::Refused(Refusal::TrailDiffers),
+    }
 }
 
 // Refusal 14, in a call with a listing: a search is over the links that take part.

@@ -39,16 +39,6 @@ back-at (a ∷ w) i h = go (eq? i (length w)) (back-at w i)
 pub label-out : (b : Bool) (w : List ℕ) (i : ℕ) → b ≡ false → getD w i 0 ≡ getD (way b w) i 0
 label-out b w i t = rw t
 
--- ---- label i back: a stands so far from the end
-
-module _ (b : Bool) (w : List ℕ) (i a : ℕ) (t : b ≡ true) (h : i < length w) (e : a ≡ getD w (length w - 1 - i) 0) where
-  turned : opposite a ≡ getD (way b w) i 0
-  turned = rw t (ap opposite e ∙ sym (back-at w i h))
-
-  pub label-even : a % 2 ≡ 0 → a + 1 ≡ getD (way b w) i 0
-  unfolding opposite
-  label-even m = let o : a + 1 ≡ opposite a = omega arith in o ∙ turned
-
-  pub label-odd : (a % 2 ≡ 0 → ⊥) → a - 1 ≡ getD (way b w) i 0
-  unfolding opposite
-  label-odd m = let o : a - 1 ≡ opposite a = omega (arith, m) in o ∙ turned
+-- label i back: r is opposite to the one that stands so far from the end
+pub label-back : (b : Bool) (w : List ℕ) (i r : ℕ) → b ≡ true → i < length w → r ≡ opposite (getD w (length w - 1 - i) 0) → r ≡ getD (way b w) i 0
+label-back b w i r t h e = rw t (e ∙ sym (back-at w i h))

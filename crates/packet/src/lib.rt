@@ -18,6 +18,7 @@ ghost use Rattle.order.specs.Labels.{OverArcs};
 ghost use Rattle.packet.specs.Runs.{endOf, injectedAt, afterLabel, byteOf, goesBy, goesOn};
 ghost use Rattle.packet.specs.Outcome.{outcomeOf};
 ghost use Rattle.packet.specs.Asked.{CanRunBy, CanRun, CanProbe, CanRound, way, outAndBack};
+use arcs::opposite;
 use order::front;
 use order::place_of;
 use order::span_of;
@@ -65,8 +66,7 @@ fn label_at(labels: &[u16], i: usize, backward: bool) -> u16
     if !backward {
         return labels[i];
     }
-    let a = labels[labels.len() - 1 - i];
-    if a % 2 == 0 { a + 1 } else { a - 1 }
+    opposite(labels[labels.len() - 1 - i])
 }
 
 // The state byte of label a: its own, or that of its link.

@@ -222,8 +222,8 @@ fn put_round(x: Parts, buffer: &mut [u16]) -> Trailed
     ensures { λ _. ⌜ now (buffer .exit) ≡ trailLeft (roundOf (x .plant)) (now (buffer .entry)) (answer (laying (roundOf (x .plant)) (now (buffer .entry)))) ⌝ }
 {
     let r = planning::round_of(x);
-    let n = r.hops as usize;
-    if buffer.len() < n {
+    let hops = r.hops as usize;
+    if buffer.len() < hops {
         return Trailed::Refused(Refusal::TrailBufferShort);
     }
     round::lay(r, buffer);

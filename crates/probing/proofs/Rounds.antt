@@ -8,32 +8,52 @@ use lib.ListN.{length, take}
 use Rattle.lists.specs.Tests.{choose}
 use Rattle.plant.specs.declared.Plant.{Plant}
 use Rattle.limits.specs.Sound.{Sound}
-use Rattle.answers.specs.Answers.{Answer, given}
-use Rattle.answers.specs.Checks.{answer}
-use Rattle.answers.proofs.Checks.{refuse-given, given-given, came-from, result-given}
+use Rattle.answers.specs.Answers.{Answer, given, refused}
+use Rattle.answers.specs.Checks.{NoneHolds, answer}
+use Rattle.answers.proofs.Checks.{refuse-given, given-given, given-exactly, gives-so, refuses-so, came-from, result-given}
 use Rattle.plan.specs.Plan.{trailOf, roundOf}
-use Rattle.trail.specs.declared.Compared.the-variants.{Same}
-use Rattle.trail.specs.Filled.{Tells}
+use Rattle.rings.specs.Packet.{End}
+use Rattle.rings.specs.Round.{roundRun}
 use Rattle.packet.specs.Asked.{CanRound}
 use Rattle.planning.specs.Planning.{planningAt}
 use Rattle.planning.proofs.Rounds.{round-arc}
 use Rattle.choosing.specs.declared.Choice.{Choice}
 use Rattle.choosing.specs.declared.Choice.the-variants as choice
 use Rattle.choosing.specs.Choice.{shorterOf, choiceOf, hopsIn}
-use Rattle.judging.specs.Conditions.{hopsDiffer, statesShort}
-use Rattle.judging.proofs.Lent.{states-enough, hops-front, hops-begin}
+use Rattle.judging.specs.Conditions.{hopsDiffer, roundChecks, roundLent}
+use Rattle.judging.proofs.Lent.{states-enough, hops-begin}
 use Rattle.order.specs.Labels.{OverArcs}
-use Rattle.probing.specs.Calls.{choiceFrom, choiceIn, choosing, ChosenHops}
+use Rattle.probing.specs.Calls.{roundIn, choiceFrom, choiceIn, choosing, ChosenHops}
 
--- ---- the round run
+-- ---- the round run, over a lent round trail and state bytes of which the conditions were tried
 
--- what a round run asks, of the hops of a lent round trail that passes 12 and of bytes that pass 13
-pub can-round : (p : Plant) → Sound p → (lent states : List ℕ) (n : ℕ) → Tells lent (roundOf p) (Same n) → statesShort (2 * p .count) states ≡ false → CanRound p states (take n lent)
-can-round p sound lent states n e f = record {
-  sound = sound;
-  bytes = states-enough (2 * p .count) states f;
-  trail = subst (OverArcs p) (sym (hops-front (roundOf p) lent n e)) (round-arc p sound);
-}
+module _ (p : Plant) (lent states : List ℕ) where
+  module _ (n : ℕ) (e : answer (roundLent p lent states) ≡ given n) where
+    passed : NoneHolds (roundChecks p lent states) × (length (roundOf p) ≡ n)
+    unfolding roundLent
+    passed = given-exactly (roundChecks p lent states) (length (roundOf p)) n .0 e
+
+    -- its hops are the round trail
+    pub round-front : take n lent ≡ roundOf p
+    round-front = ap (λ (k : ℕ). take k lent) (sym (passed .1)) ∙ hops-begin (roundOf p) lent (passed .0 .0)
+
+    pub round-fits : n ≡ length (take n lent)
+    round-fits = sym (passed .1) ∙ ap length (sym round-front)
+
+    pub can-round : Sound p → CanRound p states (take n lent)
+    can-round sound = record {
+      sound = sound;
+      bytes = states-enough (2 * p .count) states (passed .0 .1 .0);
+      trail = subst (OverArcs p) (sym round-front) (round-arc p sound);
+    }
+
+    pub round-given : (x : ℕ) (d : End) → d ≡ roundRun p (take n lent) x states → given d ≡ answer (roundIn x lent states p)
+    unfolding roundLent roundIn
+    round-given x d f = ap given (f ∙ ap (λ (w : List ℕ). roundRun p w x states) round-front) ∙ sym (gives-so (roundLent p lent states) (λ _. roundRun p (roundOf p) x states) n e)
+
+  pub round-refused : (x k : ℕ) → answer (roundLent p lent states) ≡ refused k → refused k ≡ answer (roundIn x lent states p)
+  unfolding roundLent roundIn
+  round-refused x k e = sym (refuses-so (roundLent p lent states) (λ _. roundRun p (roundOf p) x states) k e)
 
 -- ---- the shorter of two lent trails
 

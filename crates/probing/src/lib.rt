@@ -3,6 +3,7 @@
 use answers::Refusal;
 use answers::Verdict;
 use choosing::Choice;
+use judging::LentHops;
 use order::Order;
 use order::Span;
 use packet::End;
@@ -158,14 +159,9 @@ fn round_in(x: Parts, switch: u8, round: &[u16], states: &[u8]) -> Ran
     requires { ⌜ FromStart x ⌝ }
     ensures { λ r. ⌜ ranAnswer r ≡ answer (roundIn switch (now (round .entry)) (now (states .entry)) (x .plant)) ⌝ }
 {
-    match planning::compare_round(x, round) {
-        Compared::Same(hops) => {
-            if judging::too_few(states, 2 * x.plant.count) {
-                return Ran::Refused(Refusal::StatesShort);
-            }
-            Ran::To(packet::round_run(x.plant, states, switch, &round[..hops]))
-        }
-        Compared::Other => Ran::Refused(Refusal::TrailDiffers),
+    match judging::judge_round(x, round, states) {
+        LentHops::Of(n) => Ran::To(packet::round_run(x.plant, states, switch, &round[..n])),
+        LentHops::Refused(k) => Ran::Refused(k),
     }
 }
 

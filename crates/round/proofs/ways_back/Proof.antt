@@ -4,6 +4,7 @@ use mathlib.Core.Logic.{⊎-elim}
 use mathlib.Core.Bool.{_&&_}
 use Prim.Native.Nat.{_-_, _*_, _/_, _<_}
 use native.Mathlib.Omega.{arith}
+use borrow.Author.Needs.{needs}
 use Rattle.lists.specs.Arrays.{flag}
 use Rattle.lists.proofs.Tests.{true-T, false-T}
 use Rattle.limits.specs.Limits.{maxLinks}
@@ -44,7 +45,7 @@ ways-back-spec =
     (λ c. omega (arith, place (c .before .before)))
     (λ c. place (c .before .before .before .before))
     (λ c. omega (arith, c .before .before .before .before .before .before .before .pre .1 .head-places (c .before .before .before .before .before .before .loop .a)))
-    (λ c κs. place (c .before .before .before .before .before))
+    (λ c κs. search needs)
     (λ c. omega (arith, c .before .before .before .before .before .before .before .before .pre .1 .head-places (c .before .before .before .before .before .before .before .loop .a)))
     (λ c. c .before .before .before .before .before .before .before .before .pre .1 .head-places (c .before .before .before .before .before .before .before .loop .a))
     (λ c. omega (arith, place (c .before .before)))
