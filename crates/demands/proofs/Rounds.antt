@@ -2,34 +2,36 @@
 -- Assumes a sound connected plant, and one of its switches where it speaks of one.
 use mathlib.Core.Path.{_≡_, refl, sym, ap, _∙_, subst}
 use mathlib.Core.Logic.{_⊎_, inl, inr}
-use mathlib.Core.Bool.{true, false}
+use mathlib.Core.Bool.{true}
 use mathlib.Core.List.{List, [], _∷_, _++_}
 use Prim.Native.Nat.{ℕ, _+_, _*_, _≤_, _<_}
 use native.Mathlib.Omega.{arith}
 use borrow.Author.Tests.{lt-ltb, le-ltb}
-use lib.Dec.{T, ltb}
+use lib.Dec.{T}
 use lib.ListN.{length, drop}
 use Rattle.lists.specs.Members.{In, Each}
 use Rattle.plant.specs.declared.Plant.{Plant}
 use Rattle.plant.specs.Links.{live}
 use Rattle.limits.specs.Sound.{Sound}
-use Rattle.answers.specs.Answers.{given, refused}
+use Rattle.answers.specs.Answers.{given}
 use Rattle.answers.specs.Checks.{answer}
-use Rattle.answers.proofs.Checks.{fails, goes-on, result-given}
+use Rattle.answers.proofs.Checks.{goes-on, result-given}
 use Rattle.codec.specs.Field.{Bytes}
 use Rattle.walks.specs.Arcs.{tail, head, Arc}
-use Rattle.walks.specs.Graph.{ClosedWalk, liveLinks}
+use Rattle.walks.specs.Graph.{liveLinks}
+use Rattle.walks.proofs.Round.{round-visits}
+use Rattle.walks.proofs.Valid.{sound-valid}
 use Rattle.walks.proofs.Labels.{even-half, odd-half, even-arc, odd-arc}
 use Rattle.plan.specs.Plan.{Connected, used, trailOf, roundOf}
 use Rattle.plan.specs.Rounds.{IsRound}
 use Rattle.plan.proofs.Plan.{used-arc, arc-used}
 use Rattle.plan.proofs.Rounds.{round-is}
 use Rattle.plan.proofs.Trails.{trail-is}
-use Rattle.rings.specs.Packet.{End, run}
+use Rattle.rings.specs.Packet.{End}
 use Rattle.rings.specs.Rules.{upBy, inAll}
 use Rattle.rings.specs.Ring.{FirstHop}
 use Rattle.rings.specs.Injection.{placeOf, ringOf}
-use Rattle.rings.specs.Round.{upByLabel, EveryUp, Vouches, roundRun, Together, linkBytes}
+use Rattle.rings.specs.Round.{upByLabel, EveryUp, roundRun, Together, linkBytes}
 use Rattle.rings.proofs.Ring.{place-first}
 use Rattle.rings.proofs.Round.{vouches, round-home, round-back, ring-own, vouched-fewest, label-link, probe-together}
 use Rattle.choosing.specs.declared.Choice.{Choice}
@@ -39,13 +41,13 @@ use Rattle.judging.proofs.Lent.{hops-own}
 use Rattle.packet.specs.Outcome.{outcomeOf}
 use Rattle.search.specs.declared.Outcome.the-variants.{Returned}
 use Rattle.search.specs.Search.{ended}
-use Rattle.search.specs.Calls.{Call, perform, begun, TrueSending, OneReturns}
+use Rattle.search.specs.Calls.{TrueSending, OneReturns}
 use Rattle.planning.specs.Planning.{planning, planningAt}
 use Rattle.planning.proofs.Plans.{plan-ready, given-at}
 use Rattle.planner.specs.Calls.{trailLeft, roundTrailing, roundLaidOut}
 use Rattle.planner.proofs.Trailing.{lay-short, lay-enough, trail-given, left-given}
 use Rattle.probing.specs.Calls.{roundIn, roundRunning, choiceIn, choosing, probeEnd}
-use Rattle.probing.specs.Searches.{actualOutcome, sentOver, Says}
+use Rattle.probing.specs.Searches.{actualOutcome, sentOver}
 use Rattle.probing.proofs.Injection.{ring-at}
 use Rattle.probing.proofs.Rounds.{chosen-hops}
 use Rattle.probing.proofs.Searching.{searches}
@@ -57,6 +59,7 @@ use Rattle.demands.proofs.GotTo.{got-to}
 pub round-trail : (s : List ℕ) → Bytes s → (p : Plant) → answer (planning s) ≡ given p → RoundTrail s p
 unfolding roundTrailing roundLaidOut
 round-trail s bytes p e = record {
+  visit = let ok = plan-ready s p bytes e .0 in round-visits p (sound-valid p ok) (p .start) (ok .start-in);
   is = is;
   fewest = λ x w c v. omega (arith, is .number, vouched-fewest p x w (λ states h. v states));
   laid = λ b h.

@@ -23,6 +23,7 @@ use Rattle.listing.specs.Writing.{writing, bufferAfter}
 use Rattle.walks.specs.Arcs.{tail, head}
 use Rattle.walks.specs.Graph.{Crosses, ClosedWalk, ClosedWalks, Bridge, bridge, liveLinks, bridges, linksAt}
 use Rattle.walks.specs.ByLinks.{visitLinks}
+use Rattle.walks.specs.Round.{tourFrom}
 use Rattle.routes.specs.Meaning.{Fewest}
 use Rattle.rings.specs.Packet.{End, leadsTo, run}
 use Rattle.rings.specs.Rules.{upBy, upByLink, inAll, allRules}
@@ -302,6 +303,8 @@ pub record PageForm (b : List ℕ) : Type 0 where
 
 -- for every listing s that is read as a connected plant p: its round trail, of 2×E hops
 pub record RoundTrail (s : List ℕ) (p : Plant) : Type 0 where
+  -- "visit as in document 01": the switches and the entered arcs that it goes by are those of the plan
+  pub visit : tourFrom p (p .start) .seen ≡ visited p
   -- "a round trail that crosses each of the 2×E arcs just once"
   pub is : IsRound p (roundOf p)
   -- "no closed walk with that property", that its packet comes home exactly if every direction is up, "has fewer hops", wherever the packet is injected

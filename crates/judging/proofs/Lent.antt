@@ -1,5 +1,5 @@
 -- Refusals 12 and 13: of a lent trail and of state bytes. Assumes nothing.
-use mathlib.Core.Path.{_≡_, refl, ap, _∙_}
+use mathlib.Core.Path.{_≡_, refl, _∙_}
 use mathlib.Core.Bool.{Bool, true, false, not}
 use mathlib.Core.List.{List, _++_}
 use Prim.Native.Nat.{ℕ, _≤_}
@@ -43,10 +43,6 @@ module _ (w lent : List ℕ) where
     pub hops-same : hopsDiffer w lent ≡ false
     unfolding hopsDiffer
     hops-same = rw (e .0) refl
-
-    -- its front of so many places is w
-    pub hops-front : take n lent ≡ w
-    hops-front = ap (λ (k : ℕ). take k lent) (e .1) ∙ front-is lent w (e .0)
 
   pub hops-begin : hopsDiffer w lent ≡ false → take (length w) lent ≡ w
   unfolding hopsDiffer

@@ -1,5 +1,5 @@
 -- The round trail of a plant is what document 02's order 6 says. Assumes a sound connected plant.
-use mathlib.Core.Path.{_≡_, _∙_}
+use mathlib.Core.Path.{_≡_}
 use mathlib.Core.Logic.{_↔_}
 use Prim.Native.Nat.{ℕ, _*_}
 use native.Mathlib.Omega.{arith}

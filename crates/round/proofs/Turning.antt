@@ -1,6 +1,5 @@
 -- Opposite labels, and the ways back place by place. Assumes nothing.
-use mathlib.Core.Path.{_≡_, sym, ap, _∙_}
-use mathlib.Core.Logic.{_⊎_, inl, inr, ⊎-elim}
+use mathlib.Core.Path.{_≡_, _∙_}
 use mathlib.Core.Bool.{Bool}
 use mathlib.Core.List.{List}
 use Prim.Native.Nat.{ℕ, _+_, _*_, _≤_, _<_}
@@ -8,8 +7,7 @@ use native.Mathlib.Omega.{arith}
 use lib.Dec.{T}
 use lib.ListN.{length, set, length-set}
 use lib.Seq.{getD-set-same, getD-set-other}
-use Rattle.lists.specs.Arrays.{flag, at}
-use Rattle.lists.proofs.Tests.{eq?}
+use Rattle.lists.specs.Arrays.{at}
 use Rattle.lists.proofs.Stepwise.{upto}
 use Rattle.limits.specs.Limits.{maxSwitches}
 use Rattle.walks.specs.Arcs.{opposite}

@@ -1,18 +1,17 @@
 -- The round trail of a plant from a root, by arrays that tell the visit, the leading arcs and their chains: hop by hop it is the definition's. Assumes a sound plant and a
 -- visit of it.
 use mathlib.Core.Path.{_≡_, refl, sym, ap, ap₂, _∙_, subst}
-use mathlib.Core.Logic.{_⊎_, inl, inr, ⊎-elim, _↔_}
+use mathlib.Core.Logic.{_⊎_, inl, inr, ⊎-elim}
 use mathlib.Core.Bool.{Bool, true, false, _&&_}
 use mathlib.Core.List.{List}
 use Prim.Native.Nat.{ℕ, suc, _+_, _-_, _*_, _/_, _≤_, _<_}
 use native.Mathlib.Omega.{arith}
 use lib.Dec.{T, eqb, ltb}
-use lib.ListN.{length, getD}
+use lib.ListN.{length}
 use Rattle.lists.specs.Tests.{choose}
 use Rattle.lists.specs.Arrays.{flag, at}
 use Rattle.lists.specs.Count.{bit, count}
 use Rattle.lists.specs.Least.{leastFrom}
-use Rattle.lists.specs.Members.{In, Distinct}
 use Rattle.lists.proofs.Tests.{T-or, T-true, true-T, not-true-false, and-left, and-right, and-both}
 use Rattle.lists.proofs.Count.{bit-true, bit-false, count-all, count-none, pairs, counts-le}
 use Rattle.lists.proofs.Members.{memb→in, in→memb}
@@ -20,23 +19,21 @@ use Rattle.plant.specs.declared.Plant.{Plant}
 use Rattle.plant.specs.Links.{first, live}
 use Rattle.limits.specs.Limits.{maxSwitches, maxLinks}
 use Rattle.limits.specs.Sound.{Sound}
-use Rattle.walks.specs.Walk.{Walk}
 use Rattle.walks.specs.Arcs.{opposite, tail, head, Arc, Valid}
 use Rattle.walks.specs.Graph.{reachedFrom, enteredFrom, visitedFrom, linksFrom}
 use Rattle.walks.specs.Inner.{takenFrom, leadingFrom, nextAt, Turns}
 use Rattle.walks.specs.Round.{roundFrom}
-use Rattle.walks.proofs.Labels.{even-half, odd-half, opposite-half, opposite-even, opposite-twice, tail-even, tail-odd, head-odd, arc-below, even-arc, odd-arc}
+use Rattle.walks.proofs.Labels.{even-half, odd-half, opposite-even, opposite-twice, tail-even, head-odd, arc-below, even-arc}
 use Rattle.walks.proofs.Valid.{sound-valid}
 use Rattle.walks.proofs.Visited.{visited-keeps}
 use Rattle.walks.proofs.Round.{leading-one, leading-pair, round-next, round-length}
 use Rattle.arcs.specs.declared.Visited.{Visited}
-use Rattle.arcs.specs.Chains.{Chained, TailsIn, leaving, following}
+use Rattle.arcs.specs.Chains.{Chained, TailsIn, following}
 use Rattle.arcs.specs.Flags.{Flags, countSet}
 use Rattle.arcs.specs.Net.{Ends}
 use Rattle.arcs.specs.Shows.{Visits}
 use Rattle.arcs.proofs.Ends.{tail-place, head-place}
 use Rattle.uses.proofs.Uses.{flags-count, taken-past}
-use Rattle.round.specs.declared.Round.{Round}
 use Rattle.round.specs.Round.{follow, labelsOf}
 use Rattle.round.specs.Inner.{orBack, Places, entersBy, EntersOnce, WaysBack, hopAfter, HopsAfter}
 use Rattle.round.proofs.Follow.{follow-walk}
@@ -204,9 +201,9 @@ module _ (p : Plant) (sound : Sound p) (tails heads : List ℕ) (ends : Ends p t
         turning : Turns p r (at up) (at next)
         turning = record { ups = up-is; enters = enters; turns = turns; resumes = resumes }
 
-        pub whole : (b : ℕ) → b ≡ orBack n (at first r) (at up r) → labelsOf (record { hops = 2 * countSet leading; begin = b; next = next }) ≡ roundFrom p r
+        pub whole : (m b : ℕ) → m ≡ 2 * countSet leading → b ≡ orBack n (at first r) (at up r) → labelsOf (record { hops = m; begin = b; next = next }) ≡ roundFrom p r
         unfolding labelsOf
-        whole b e =
+        whole m b f e =
             let from : b ≡ nextAt p r (at up) r 0 = e ∙ first-is r (omega (arith, visits .root-in, sound .few-switches)) in
-            let long : 2 * countSet leading ≡ length (roundFrom p r) = omega (arith, leading-count, round-length p ok r (visits .root-in)) in
+            let long : m ≡ length (roundFrom p r) = omega (arith, leading-count, round-length p ok r (visits .root-in)) in
             ap₂ (follow (at next)) from long ∙ follow-walk (at next) (roundFrom p r) (nextAt p r (at up) r 0) (at up r) (round-next p ok r (visits .root-in) (at up) (at next) turning)

@@ -75,9 +75,9 @@ fn hop_after(
     ensures { λ r. ⌜ r ≡ hopAfter n (now (tails .entry)) (now (heads .entry)) (now (leading .entry)) (now (entered .entry)) (now (first .entry)) (now (after .entry)) (now (up .entry)) a ⌝ }
 {
     let i = a as usize;
-    let b = opposite(a);
+    let back = opposite(a);
     if !leading[i] {
-        let j = b as usize;
+        let j = back as usize;
         let x = tails[j] as usize;
         return or_back(after[j], n, up[x]);
     }
@@ -85,7 +85,7 @@ fn hop_after(
         let x = heads[i] as usize;
         return or_back(first[x], n, up[x]);
     }
-    b
+    back
 }
 
 // The hop after each hop.

@@ -7,11 +7,11 @@ use mathlib.Core.List.{List}
 use Prim.Native.Nat.{ℕ, _+_, _-_, _*_, _/_, _≤_}
 use native.Mathlib.Omega.{arith}
 use lib.Dec.{T}
-use lib.ListN.{getD, replicate}
+use lib.ListN.{getD}
 use Rattle.lists.specs.Arrays.{flag}
 use Rattle.lists.specs.Count.{count}
 use Rattle.lists.proofs.Tests.{bool?, T-true, true-T, not-both, not-true-false, and-comm}
-use Rattle.lists.proofs.Members.{memb→in, in→memb, getD-same}
+use Rattle.lists.proofs.Members.{memb→in, in→memb}
 use Rattle.lists.proofs.Stepwise.{count-past}
 use Rattle.lists.proofs.Agree.{count-same}
 use Rattle.plant.specs.declared.Plant.{Plant}
@@ -126,5 +126,6 @@ module _ {p : Plant} {r : ℕ} {v : Visited} (sound : Sound p) (visits : Visits 
   unfolding takenFrom usedFrom
   in-use b u f g = record { places = g .places; tells = λ a. g .tells a ∙ agree (flag b) (bridge p) (λ l e. f .tells l ∙ rw e refl) a }
 
-  pub leading : (n : ℕ) (u : List Bool) → Flags (2 * maxLinks) (takenFrom p r (flag (replicate n false))) u → Flags (2 * maxLinks) (leadingFrom p r) u
-  leading n u g = record { places = g .places; tells = λ a. g .tells a ∙ agree (flag (replicate n false)) (λ l. false) (λ l e. getD-same n l false) a }
+  -- where no link has two
+  pub leading : (b u : List Bool) → ((l : ℕ) → flag b l ≡ false) → Flags (2 * maxLinks) (takenFrom p r (flag b)) u → Flags (2 * maxLinks) (leadingFrom p r) u
+  leading b u none g = record { places = g .places; tells = λ a. g .tells a ∙ agree (flag b) (λ l. false) (λ l e. none l) a }

@@ -45,6 +45,10 @@ module _ (tl hd : ℕ → ℕ) where
     tour zero v t = t
     tour (suc f) v t = walkAt (λ w u. tour f w u) v bs t
 
--- the round trail of the part of the plant that is reached from the switch r. The visit goes at most as deep as there are switches
+-- over the part of the plant that is reached from the switch r. The visit goes at most as deep as there are switches
+abbrev pub tourFrom : Plant → ℕ → Tour
+tourFrom p r = tour (tail p) (head p) (arcs p) (p .switches) r (record { seen = record { ord = r ∷ []; ent = [] }; hops = [] })
+
+-- its round trail
 unfoldable pub roundFrom : Plant → ℕ → List ℕ
-roundFrom p r = tour (tail p) (head p) (arcs p) (p .switches) r (record { seen = record { ord = r ∷ []; ent = [] }; hops = [] }) .hops
+roundFrom p r = tourFrom p r .hops

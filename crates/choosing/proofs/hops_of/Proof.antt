@@ -1,7 +1,5 @@
 -- `choosing::hops_of` meets its contract. Assumes nothing.
-use mathlib.Core.Path.{refl}
 use borrow.Author.Needs.{needs}
-use Rattle.choosing.specs.Choice.{hopsIn}
 use Rattle.choosing.proofs.hops_of.Statement.{statement}
 use Rattle.choosing.proofs.hops_of.Tie as tie
 

@@ -1,11 +1,13 @@
 -- Refusals 12, by the hops alone, and 13 of the round run. Assumes nothing.
-use mathlib.Core.Path.{sym, ap, subst, _∙_}
+use mathlib.Core.Path.{_≡_, sym, ap, subst, _∙_}
+use mathlib.Core.Bool.{true}
+use Prim.Native.Nat.{_*_}
 use Rattle.answers.specs.Answers.{given}
 use Rattle.answers.proofs.Checks.{holds, fails}
 use Rattle.plan.specs.Plan.{roundOf}
 use Rattle.trail.specs.Filled.{Tells}
 use Rattle.trail.specs.declared.Compared.the-variants.{Same}
-use Rattle.judging.specs.Conditions.{roundLent}
+use Rattle.judging.specs.Conditions.{statesShort, roundLent}
 use Rattle.judging.proofs.Lent.{hops-other, hops-same}
 use borrow.Author.Needs.{needs}
 use Rattle.judging.proofs.judge_round.Statement.{statement}
@@ -23,7 +25,9 @@ unfolding roundLent
 returns c =
     let f = c .before in
     let h = f .before .before .before in
-    fails 12 _ _ _ (hops-same _ _ _ (tells h)) (holds 13 _ _ (sym (f .too-few .ensures) ∙ c .if1 .taken))
+    let s = h .before .before .before .before .before .args in
+    let short : statesShort (2 * s .x .plant .count) (s .states .now) ≡ true = sym (f .too-few .ensures) ∙ c .if1 .taken in
+    fails 12 _ _ _ (hops-same _ _ _ (tells h)) (holds 13 _ _ short)
 
 returns-2 : tie.Need-returns-2
 unfolding roundLent

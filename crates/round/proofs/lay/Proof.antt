@@ -1,8 +1,6 @@
 -- `round::lay` meets its contract. The loop's invariant: what is left to store makes what the whole round trail makes. Assumes nothing.
-use mathlib.Core.Path.{refl, _∙_}
 use Prim.Native.Nat.{_-_}
 use native.Mathlib.Omega.{arith}
-use lib.ListN.{length}
 use Rattle.lists.specs.Arrays.{at}
 use Rattle.trail.proofs.Filled.{Stored, stored-none, stored-one, stored-all, laid-front}
 use Rattle.round.specs.Round.{labelsOf}

@@ -42,8 +42,8 @@ returns c =
     let k = w .before .before .before .before .before .before in
     let l = k .before .before in
     let h = l .before .before .pre in
-    rw (n .count-set .ensures)
-    (whole _ (h .0) _ _ (h .1 .0) _ (h .1 .1) _ (l .leading-arcs .ensures) _ _ _ _ (k .chains-of .ensures) (w .ways-back .ensures) (a .hops-after .ensures) _ (c .or-back .ensures))
+    whole _ (h .0) _ _ (h .1 .0) _ (h .1 .1) _ (l .leading-arcs .ensures) _ _ _ _ (k .chains-of .ensures) (w .ways-back .ensures) (a .hops-after .ensures) _ _
+    (omega (arith, n .count-set .ensures)) (c .or-back .ensures)
 
 pub round-of-spec : {M : Type 1} → statement M
 round-of-spec =

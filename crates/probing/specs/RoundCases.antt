@@ -1,0 +1,99 @@
+-- The calls of document 02's order 6 on three plants: a triangle, whose trail is shorter than its round trail, one link, whose two trails are equally long, and three switches in
+-- a row, whose round trail is shorter. Each row has what the definitions answer, and what is expected. One computed test over all rows. Assumes nothing.
+use mathlib.Core.Path.{_≡_, refl}
+use mathlib.Core.List.{List, [], _∷_, _++_, map}
+use Prim.Native.Nat.{ℕ}
+use lib.ListN.{replicate}
+use Rattle.lists.specs.Count.{bit, count}
+use Rattle.lists.specs.Numbers.{every}
+use Rattle.lists.specs.Least.{leastFrom}
+use Rattle.plant.specs.Links.{plantWith, live}
+use Rattle.answers.specs.Answers.{Answer, given, refused, _>>=_}
+use Rattle.answers.specs.Checks.{answer}
+use Rattle.walks.specs.Visit.{scan, visit}
+use Rattle.walks.specs.Arcs.{opposite, tail, head}
+use Rattle.walks.specs.Graph.{arcs, others, visitFrom, bridge, usedFrom}
+use Rattle.walks.specs.Round.{walkAt, tour, roundFrom}
+use Rattle.routes.specs.Distance.{sources, within, dist, hop, hops, route}
+use Rattle.routes.specs.Trail.{near, nearest, legs, trail}
+use Rattle.rings.specs.Packet.{run, rulesFor}
+use Rattle.rings.specs.Rules.{upBy, inAll}
+use Rattle.rings.specs.Ring.{readFrom, place, ring}
+use Rattle.rings.specs.Injection.{ringOf}
+use Rattle.rings.specs.Round.{roundRun}
+use Rattle.choosing.specs.declared.Choice.{Choice}
+use Rattle.choosing.specs.declared.Choice.the-variants.{Trail, Round}
+use Rattle.choosing.specs.Choice.{choiceOf, hopsIn}
+use Rattle.codec.specs.Part.{taken, valueOf, redundant, mapMissing, mapUndefined, fieldMissing, fieldRedundant, fieldValues, afterPart, part}
+use Rattle.listing.specs.Listing as listing
+use Rattle.trail.specs.Filled.{beginsWith}
+use Rattle.planning.specs.Planning.{notConnected, planning, planningAt, switchOutOfRange}
+use Rattle.judging.specs.Conditions.{hopsDiffer, statesShort}
+use Rattle.probing.specs.Calls.{roundIn, roundRunning, choiceIn, choosing}
+
+pub record Row : Type 0 where
+  pub got : Answer (List ℕ)
+  pub said : Answer (List ℕ)
+
+abbrev triangle : List ℕ
+triangle = 3 ∷ 3 ∷ 3 ∷ 0 ∷ 2 ∷ 1 ∷ 3 ∷ 1 ∷ 2 ∷ 3 ∷ 2 ∷ 0 ∷ []
+
+abbrev oneLink : List ℕ
+oneLink = 3 ∷ 2 ∷ 1 ∷ 0 ∷ 2 ∷ 1 ∷ []
+
+abbrev inRow : List ℕ
+inRow = 3 ∷ 3 ∷ 2 ∷ 0 ∷ 2 ∷ 1 ∷ 3 ∷ 1 ∷ 2 ∷ []
+
+-- the round trail of the triangle, and state bytes: all six up, and label 3 alone down
+abbrev whole : List ℕ
+whole = 0 ∷ 2 ∷ 4 ∷ 5 ∷ 3 ∷ 1 ∷ []
+
+abbrev allUp : List ℕ
+allUp = 1 ∷ 1 ∷ 255 ∷ 1 ∷ 1 ∷ 7 ∷ []
+
+abbrev down3 : List ℕ
+down3 = 1 ∷ 1 ∷ 1 ∷ 0 ∷ 1 ∷ 1 ∷ []
+
+-- ---- the round run in the triangle: 1 if the packet is home, and else 0, then the hops made and the switch last reached
+
+abbrev rounds : ℕ → List ℕ → List ℕ → Answer (List ℕ) → Row
+rounds x w states a = record { got = answer (roundRunning triangle x w states) >>= λ e. given (bit (e .ended) ∷ e .hops ∷ e .last ∷ []); said = a }
+
+-- ---- the shorter of two lent trails, from switch x: 0 for the trail, 1 for the round trail, and the part of it that is handed back
+
+abbrev which : Choice → ℕ
+which (Trail n) = 0
+which (Round n) = 1
+
+abbrev picks : List ℕ → ℕ → List ℕ → List ℕ → Answer (List ℕ) → Row
+picks s x w v a = record { got = answer (choosing s x w v) >>= λ c. given (which c ∷ hopsIn w v c); said = a }
+
+-- ---- the table, and the test
+
+abbrev table : List Row
+table =
+    rounds 0 whole allUp (given (1 ∷ 6 ∷ 0 ∷ []))
+    ∷ rounds 1 whole allUp (given (1 ∷ 6 ∷ 1 ∷ []))
+    ∷ rounds 0 whole down3 (given (0 ∷ 4 ∷ 2 ∷ []))
+    ∷ rounds 1 whole down3 (given (0 ∷ 3 ∷ 2 ∷ []))
+    ∷ rounds 1 (whole ++ (9 ∷ 9 ∷ [])) (allUp ++ (0 ∷ [])) (given (1 ∷ 6 ∷ 1 ∷ []))
+    ∷ rounds 3 [] [] (refused 11)
+    ∷ rounds 0 (0 ∷ 2 ∷ 4 ∷ 5 ∷ 3 ∷ []) [] (refused 12)
+    ∷ rounds 0 (0 ∷ 2 ∷ 4 ∷ 5 ∷ 3 ∷ 0 ∷ []) allUp (refused 12)
+    ∷ rounds 0 (0 ∷ 2 ∷ 4 ∷ []) allUp (refused 12)
+    ∷ rounds 0 whole (replicate 5 1) (refused 13)
+    ∷ rounds 0 whole (replicate 3 1) (refused 13)
+    ∷ picks triangle 2 (0 ∷ 2 ∷ 4 ∷ []) whole (given (0 ∷ 0 ∷ 2 ∷ 4 ∷ []))
+    ∷ picks triangle 2 (0 ∷ 2 ∷ 4 ∷ 7 ∷ 7 ∷ 7 ∷ 7 ∷ []) whole (given (0 ∷ 0 ∷ 2 ∷ 4 ∷ []))
+    ∷ picks oneLink 1 (0 ∷ 1 ∷ 7 ∷ []) (0 ∷ 1 ∷ []) (given (0 ∷ 0 ∷ 1 ∷ []))
+    ∷ picks inRow 0 (0 ∷ 1 ∷ 0 ∷ 2 ∷ 3 ∷ 1 ∷ []) (0 ∷ 2 ∷ 3 ∷ 1 ∷ []) (given (1 ∷ 0 ∷ 2 ∷ 3 ∷ 1 ∷ []))
+    ∷ picks inRow 0 (0 ∷ 1 ∷ 0 ∷ 2 ∷ 3 ∷ 1 ∷ []) (0 ∷ 2 ∷ 3 ∷ 1 ∷ 8 ∷ 8 ∷ 8 ∷ []) (given (1 ∷ 0 ∷ 2 ∷ 3 ∷ 1 ∷ []))
+    ∷ picks (0 ∷ []) 0 [] [] (given (0 ∷ []))
+    ∷ picks inRow 3 [] [] (refused 11)
+    ∷ picks inRow 0 (0 ∷ 1 ∷ 0 ∷ 2 ∷ 3 ∷ []) (0 ∷ 2 ∷ 3 ∷ 1 ∷ []) (refused 12)
+    ∷ picks inRow 0 (0 ∷ 1 ∷ 0 ∷ 2 ∷ 3 ∷ 1 ∷ []) (0 ∷ 2 ∷ 3 ∷ 0 ∷ []) (refused 12)
+    ∷ []
+
+as-said : map (λ r. r .got) table ≡ map (λ r. r .said) table
+unfolding roundIn roundRunning choiceIn choosing choiceOf hopsDiffer statesShort switchOutOfRange planningAt notConnected planning beginsWith plantWith taken valueOf redundant mapMissing mapUndefined fieldMissing fieldRedundant fieldValues afterPart part listing.valueOutOfRange listing.endOutOfRange listing.selfLink listing.bytesRemain listing.soundLink listing.header listing.link listing.links listing.withLinks listing.linked listing.ended listing.reading run roundRun ringOf readFrom place ring upBy inAll rulesFor trail legs nearest near route hops hop dist within sources arcs others visitFrom bridge usedFrom roundFrom tour walkAt opposite tail head scan visit live leastFrom count every
+as-said = refl
