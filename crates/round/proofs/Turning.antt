@@ -32,7 +32,7 @@ module _ (n : ℕ) (heads : List ℕ) (leading entered : List Bool) where
       places = length-set up (at heads a) o ∙ d .places;
       laid = upto {P = λ b. T (entersBy n heads leading entered b) → at (set up (at heads a) o) (at heads b) ≡ opposite b}
           (λ b l u. getD-set-other up (at heads a) (at heads b) o 0 (λ z. absurd (omega (arith, e .once b a u t z))) ∙ d .laid b l u)
-          (λ u. getD-set-same up (at heads a) o 0 (omega (arith, d .places, e .head-places a)) ∙ q);
+          (λ u. getD-set-same up (at heads a) o 0 (omega (arith, d .places, e .heads-in a)) ∙ q);
     }
 
     pub back-pass : (T (entersBy n heads leading entered a) → ⊥) → Back (a + 1) up

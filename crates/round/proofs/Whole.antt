@@ -23,7 +23,7 @@ use Rattle.walks.specs.Arcs.{opposite, tail, head, Arc, Valid}
 use Rattle.walks.specs.Graph.{reachedFrom, enteredFrom, visitedFrom, linksFrom}
 use Rattle.walks.specs.Inner.{takenFrom, leadingFrom, nextAt, Turns}
 use Rattle.walks.specs.Round.{roundFrom}
-use Rattle.walks.proofs.Labels.{even-half, odd-half, opposite-even, opposite-twice, tail-even, head-odd, arc-below, even-arc}
+use Rattle.walks.proofs.Labels.{even-half, odd-half, opposite-even, opposite-twice, tail-even, head-odd, head-opposite, arc-below, even-arc}
 use Rattle.walks.proofs.Valid.{sound-valid}
 use Rattle.walks.proofs.Visited.{visited-keeps}
 use Rattle.walks.proofs.Round.{leading-one, leading-pair, round-next, round-length}
@@ -35,7 +35,7 @@ use Rattle.arcs.specs.Shows.{Visits}
 use Rattle.arcs.proofs.Ends.{tail-place, head-place}
 use Rattle.uses.proofs.Uses.{flags-count, taken-past}
 use Rattle.round.specs.Round.{follow, labelsOf}
-use Rattle.round.specs.Inner.{orBack, Places, entersBy, EntersOnce, WaysBack, hopAfter, HopsAfter}
+use Rattle.round.specs.Inner.{orBack, HeadsIn, entersBy, EntersOnce, WaysBack, hopAfter, HopsAfter}
 use Rattle.round.proofs.Follow.{follow-walk}
 use Rattle.round.proofs.Turning.{opposite-below}
 
@@ -44,8 +44,8 @@ at-one : {A : Type 0} {f g : ℕ → A} → f ≡ g → (a : ℕ) → f a ≡ g 
 at-one e a = ap (λ h. h a) e
 
 module _ (p : Plant) (sound : Sound p) (tails heads : List ℕ) (ends : Ends p tails heads) where
-  pub places : Places tails heads
-  places = record { tail-places = tail-place p tails (ends .tails-are) sound; head-places = head-place p heads (ends .heads-are) sound }
+  pub heads-in : HeadsIn heads
+  heads-in = head-place p heads (ends .heads-are) sound
 
   -- the flags of leading arcs, from the visit v
   module _ (v : Visited) (visits : Visits p (v .root) v) (leading : List Bool) (flags : Flags (2 * maxLinks) (leadingFrom p (v .root)) leading) where
@@ -76,7 +76,7 @@ module _ (p : Plant) (sound : Sound p) (tails heads : List ℕ) (ends : Ends p t
     real a t = and-left (live p (a / 2)) _ (and-right (reachedFrom p r (tail p a)) _ t)
 
     pub tails-in : TailsIn n tails leading
-    tails-in a h t = places .tail-places a
+    tails-in a h t = tail-place p tails (ends .tails-are) sound a
 
     entering : (a : ℕ) → T (entersBy n heads leading (v .entered) a) → T (leadingFrom p r a) × T (enteredFrom p r (a / 2))
     entering a t = (
@@ -86,7 +86,7 @@ module _ (p : Plant) (sound : Sound p) (tails heads : List ℕ) (ends : Ends p t
 
     pub enters-once : EntersOnce n heads leading (v .entered)
     enters-once = record {
-      head-places = places .head-places;
+      heads-in = heads-in;
       once = λ a b s t e. let x = entering a s in let y = entering b t in leading-one p ok r (visits .root-in) a b (x .0) (y .0) (x .1) (y .1) (sym (at-one (ends .heads-are) a) ∙ e ∙ at-one (ends .heads-are) b);
     }
 
@@ -143,7 +143,7 @@ module _ (p : Plant) (sound : Sound p) (tails heads : List ℕ) (ends : Ends p t
     -- ---- hop by hop
 
     module _ (first after up next : List ℕ) (chained : Chained n (at tails) (flag leading) first after) (ways : WaysBack n heads leading (v .entered) up)
-        (hops : HopsAfter n tails heads leading (v .entered) first after up next)
+        (hops : HopsAfter n heads leading (v .entered) first after up next)
       where
         -- the next leading arc at x from label k on, or the way back
         next-is : (x k : ℕ) → orBack n (following n (at tails) (flag leading) x k) (at up x) ≡ nextAt p r (at up) x k
@@ -162,7 +162,7 @@ module _ (p : Plant) (sound : Sound p) (tails heads : List ℕ) (ends : Ends p t
           flagged = at-one leading-is a ∙ T-true (leadingFrom p r a) t
 
           head-in : head p a < maxSwitches
-          head-in = subst (λ (x : ℕ). x < maxSwitches) (at-one (ends .heads-are) a) (places .head-places a)
+          head-in = subst (λ (x : ℕ). x < maxSwitches) (at-one (ends .heads-are) a) (heads-in a)
 
           module _ (e : T (enteredFrom p r (a / 2))) where
             entered : flag (v .entered) (a / 2) ≡ true
@@ -194,7 +194,7 @@ module _ (p : Plant) (sound : Sound p) (tails heads : List ℕ) (ends : Ends p t
           resumes =
               hops (opposite a) (opposite-below a (p .count) below)
               ∙ rw (other, opposite-twice a)
-              (rw (at-one (ends .tails-are) a)
+              (rw (at-one (ends .heads-are) (opposite a) ∙ head-opposite p a)
               (ap (λ (k : ℕ). orBack n k (at up (tail p a))) (chained .afters a below (true-T (flag leading a) flagged) ∙ ap (λ (x : ℕ). following n (at tails) (flag leading) x (suc a)) (at-one (ends .tails-are) a))
               ∙ next-is (tail p a) (suc a)))
 

@@ -13,10 +13,9 @@ use Rattle.walks.specs.Arcs.{opposite}
 unfoldable pub orBack : ℕ → ℕ → ℕ → ℕ
 orBack n next up = choose (ltb next n) next up
 
--- the ends of every label are switches that there can be
-pub record Places (tails heads : List ℕ) : Type 0 where
-  pub tail-places : (a : ℕ) → at tails a < maxSwitches
-  pub head-places : (a : ℕ) → at heads a < maxSwitches
+-- every arc leads to a switch that there can be
+abbrev pub HeadsIn : List ℕ → Type 0
+HeadsIn heads = (a : ℕ) → at heads a < maxSwitches
 
 module _ (n : ℕ) (heads : List ℕ) (leading entered : List Bool) where
   -- a switch is entered by arc a
@@ -25,18 +24,18 @@ module _ (n : ℕ) (heads : List ℕ) (leading entered : List Bool) where
 
   -- each switch by one arc alone
   pub record EntersOnce : Type 0 where
-    pub head-places : (a : ℕ) → at heads a < maxSwitches
+    pub heads-in : HeadsIn heads
     pub once : (a b : ℕ) → T (entersBy a) → T (entersBy b) → at heads a ≡ at heads b → a ≡ b
 
   -- from each switch that is entered the way back is the opposite arc
   abbrev pub WaysBack : List ℕ → Type 0
   WaysBack up = (a : ℕ) → a < n → T (entersBy a) → at up (at heads a) ≡ opposite a
 
-module _ (n : ℕ) (tails heads : List ℕ) (leading entered : List Bool) (first after up : List ℕ) where
+module _ (n : ℕ) (heads : List ℕ) (leading entered : List Bool) (first after up : List ℕ) where
   unfoldable pub hopAfter : ℕ → ℕ
   hopAfter a =
       choose (flag leading a) (choose (flag entered (a / 2)) (orBack n (at first (at heads a)) (at up (at heads a))) (opposite a))
-      (orBack n (at after (opposite a)) (at up (at tails (opposite a))))
+      (orBack n (at after (opposite a)) (at up (at heads a)))
 
   abbrev pub HopsAfter : List ℕ → Type 0
   HopsAfter next = (a : ℕ) → a < n → at next a ≡ hopAfter a

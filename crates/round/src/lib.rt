@@ -14,7 +14,7 @@ ghost use Rattle.arcs.specs.Net.{Ends};
 ghost use Rattle.arcs.specs.Shows.{Visits};
 ghost use Rattle.trail.specs.Filled.{filledWith, Tells};
 ghost use Rattle.round.specs.Round.{labelsOf, Labels};
-ghost use Rattle.round.specs.Inner.{orBack, EntersOnce, WaysBack, Places, hopAfter, HopsAfter};
+ghost use Rattle.round.specs.Inner.{orBack, HeadsIn, EntersOnce, WaysBack, hopAfter, HopsAfter};
 
 // A round trail: the number of its hops, the label of the first, and for each label that of the hop after it.
 pub struct Round {
@@ -60,7 +60,6 @@ fn or_back(next: u16, n: u16, up: u16) -> u16
 // The hop after hop a. After a leading arc into a switch the first leading arc that leaves it; after any other leading arc the one back; after an arc back the leading
 // arc that follows at the same switch. Where no leading arc is left at a switch, the way back from it.
 fn hop_after(
-    tails: &[u8; Plant::LABELS],
     heads: &[u8; Plant::LABELS],
     leading: &[bool; Plant::LABELS],
     entered: &[bool; Plant::MAX_LINKS],
@@ -70,19 +69,17 @@ fn hop_after(
     n: u16,
     a: u16,
 ) -> u16
-    requires { ⌜ Places (now tails) (now heads) ⌝ }
+    requires { ⌜ HeadsIn (now heads) ⌝ }
     requires { ⌜ a < 2 * maxLinks ⌝ }
-    ensures { λ r. ⌜ r ≡ hopAfter n (now (tails .entry)) (now (heads .entry)) (now (leading .entry)) (now (entered .entry)) (now (first .entry)) (now (after .entry)) (now (up .entry)) a ⌝ }
+    ensures { λ r. ⌜ r ≡ hopAfter n (now (heads .entry)) (now (leading .entry)) (now (entered .entry)) (now (first .entry)) (now (after .entry)) (now (up .entry)) a ⌝ }
 {
     let i = a as usize;
+    let x = heads[i] as usize;
     let back = opposite(a);
     if !leading[i] {
-        let j = back as usize;
-        let x = tails[j] as usize;
-        return or_back(after[j], n, up[x]);
+        return or_back(after[back as usize], n, up[x]);
     }
     if entered[i / 2] {
-        let x = heads[i] as usize;
         return or_back(first[x], n, up[x]);
     }
     back
@@ -90,7 +87,6 @@ fn hop_after(
 
 // The hop after each hop.
 fn hops_after(
-    tails: &[u8; Plant::LABELS],
     heads: &[u8; Plant::LABELS],
     leading: &[bool; Plant::LABELS],
     entered: &[bool; Plant::MAX_LINKS],
@@ -99,15 +95,15 @@ fn hops_after(
     up: &[u16; Plant::PLACES],
     n: u16,
 ) -> [u16; Plant::LABELS]
-    requires { ⌜ Places (now tails) (now heads) ⌝ }
+    requires { ⌜ HeadsIn (now heads) ⌝ }
     requires { ⌜ n ≤ 2 * maxLinks ⌝ }
-    ensures { λ r. ⌜ HopsAfter n (now (tails .entry)) (now (heads .entry)) (now (leading .entry)) (now (entered .entry)) (now (first .entry)) (now (after .entry)) (now (up .entry)) r ⌝ }
+    ensures { λ r. ⌜ HopsAfter n (now (heads .entry)) (now (leading .entry)) (now (entered .entry)) (now (first .entry)) (now (after .entry)) (now (up .entry)) r ⌝ }
 {
     let mut next = [0u16; Plant::LABELS];
     let mut a: u16 = 0;
     while a < n {
         let i = a as usize;
-        next[i] = hop_after(tails, heads, leading, entered, first, after, up, n, a);
+        next[i] = hop_after(heads, leading, entered, first, after, up, n, a);
         a += 1;
     }
     next
@@ -132,7 +128,7 @@ pub fn round_of(
     let after = c.after;
     let entered = v.entered;
     let up = ways_back(heads, &leading, &entered, n);
-    let next = hops_after(tails, heads, &leading, &entered, &first, &after, &up, n);
+    let next = hops_after(heads, &leading, &entered, &first, &after, &up, n);
     let links = uses::count_set(&leading);
     let x = v.root as usize;
     let begin = or_back(first[x], n, up[x]);

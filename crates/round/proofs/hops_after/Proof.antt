@@ -8,10 +8,10 @@ use Rattle.round.proofs.hops_after.Statement.{statement}
 use Rattle.round.proofs.hops_after.Tie as tie
 
 abbrev Inv-loop : tie.InvT-loop
-Inv-loop tails heads leading entered first after up n next₀ a₀ next a = (a ≤ n) × Laid 0 (2 * maxLinks) (hopAfter n tails heads leading entered first after up) a next
+Inv-loop heads leading entered first after up n next₀ a₀ next a = (a ≤ n) × Laid 0 (2 * maxLinks) (hopAfter n heads leading entered first after up) a next
 
 abbrev μ-loop : tie.MeasureT-loop
-μ-loop tails heads leading entered first after up n next₀ a₀ next a = n - a
+μ-loop heads leading entered first after up n next₀ a₀ next a = n - a
 
 array-write-next : tie.Need-array-write-next Inv-loop μ-loop
 array-write-next c = omega (arith, c .before .loop-test .taken, c .before .before .before .pre .1)

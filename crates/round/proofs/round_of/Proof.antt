@@ -3,7 +3,7 @@ use Prim.Native.Nat.{_≤_, _<_}
 use native.Mathlib.Omega.{arith}
 use borrow.Author.Needs.{needs}
 use Rattle.limits.specs.Limits.{maxSwitches, maxLinks}
-use Rattle.round.proofs.Whole.{places, tails-in, enters-once, hops-few, whole}
+use Rattle.round.proofs.Whole.{heads-in, tails-in, enters-once, hops-few, whole}
 use Rattle.round.proofs.round_of.Statement.{statement}
 use Rattle.round.proofs.round_of.Tie as tie
 
@@ -22,7 +22,7 @@ ways-back-requires c κs =
 hops-after-requires : tie.Need-hops-after-requires
 hops-after-requires c κs =
     let h = c .before .before .before .before .before .before .before .before .before .before .before .before .before .before .before .pre in
-    (places _ (h .0) _ _ (h .1 .0), omega (arith, h .0 .few-links))
+    (heads-in _ (h .0) _ _ (h .1 .0), omega (arith, h .0 .few-links))
 
 root-place : (c : tie.After-struct-known2) → c .before .before .before .before .before .before .before .before .before .before .before .before .before .before .before .before .before .before .before .args .v .root < maxSwitches
 root-place c = let h = c .before .before .before .before .before .before .before .before .before .before .before .before .before .before .before .before .before .before .before .pre in omega (arith, h .1 .1 .root-in, h .0 .few-switches)

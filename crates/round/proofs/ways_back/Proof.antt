@@ -44,10 +44,10 @@ ways-back-spec =
     (λ c. place c)
     (λ c. omega (arith, place (c .before .before)))
     (λ c. place (c .before .before .before .before))
-    (λ c. omega (arith, c .before .before .before .before .before .before .before .pre .1 .head-places (c .before .before .before .before .before .before .loop .a)))
+    (λ c. omega (arith, c .before .before .before .before .before .before .before .pre .1 .heads-in (c .before .before .before .before .before .before .loop .a)))
     (λ c κs. search needs)
-    (λ c. omega (arith, c .before .before .before .before .before .before .before .before .pre .1 .head-places (c .before .before .before .before .before .before .before .loop .a)))
-    (λ c. c .before .before .before .before .before .before .before .before .pre .1 .head-places (c .before .before .before .before .before .before .before .loop .a))
+    (λ c. omega (arith, c .before .before .before .before .before .before .before .before .pre .1 .heads-in (c .before .before .before .before .before .before .before .loop .a)))
+    (λ c. c .before .before .before .before .before .before .before .before .pre .1 .heads-in (c .before .before .before .before .before .before .before .loop .a))
     (λ c. omega (arith, place (c .before .before)))
     (λ c. omega (arith, c .before .before .loop-test .taken))
     loop-again
