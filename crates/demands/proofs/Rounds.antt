@@ -19,7 +19,7 @@ use Rattle.answers.proofs.Checks.{goes-on, result-given}
 use Rattle.codec.specs.Field.{Bytes}
 use Rattle.walks.specs.Arcs.{tail, head, Arc}
 use Rattle.walks.specs.Graph.{liveLinks}
-use Rattle.walks.proofs.Round.{round-visits}
+use Rattle.walks.proofs.Round.{round-visits, first-met}
 use Rattle.walks.proofs.Valid.{sound-valid}
 use Rattle.walks.proofs.Labels.{even-half, odd-half, even-arc, odd-arc}
 use Rattle.plan.specs.Plan.{Connected, used, trailOf, roundOf}
@@ -59,9 +59,10 @@ use Rattle.demands.proofs.GotTo.{got-to}
 pub round-trail : (s : List ℕ) → Bytes s → (p : Plant) → answer (planning s) ≡ given p → RoundTrail s p
 unfolding roundTrailing roundLaidOut
 round-trail s bytes p e = record {
-  visit = let ok = plan-ready s p bytes e .0 in round-visits p (sound-valid p ok) (p .start) (ok .start-in);
+  visit = round-visits p (sound-valid p ok) (p .start) (ok .start-in);
+  first-met = first-met p (sound-valid p ok) (p .start) (ok .start-in);
   is = is;
-  fewest = λ x w c v. omega (arith, is .number, vouched-fewest p x w (λ states h. v states));
+  fewest = λ x w c v. omega (arith, is .number, vouched-fewest p x w v);
   laid = λ b h.
       let r = lay-enough (roundOf p) b (omega (arith, is .number)) (2 * liveLinks p) (sym (is .number)) in (
         sym (r ∙ trail-given roundOf s b p e),
@@ -70,8 +71,11 @@ round-trail s bytes p e = record {
   too-short = λ b h. sym (lay-short (roundOf p) b (omega (arith, is .number)) ∙ trail-given roundOf s b p e);
 }
   where
+    ok : Sound p
+    ok = plan-ready s p bytes e .0
+
     is : IsRound p (roundOf p)
-    is = let r = plan-ready s p bytes e in round-is p (r .0) (r .1)
+    is = round-is p ok (plan-ready s p bytes e .1)
 
 -- ---- its run, from a switch x
 

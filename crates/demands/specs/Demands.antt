@@ -20,8 +20,8 @@ use Rattle.limits.specs.Sound.{Sound}
 use Rattle.codec.specs.Field.{Bytes}
 use Rattle.listing.specs.Listing.{encode, reading}
 use Rattle.listing.specs.Writing.{writing, bufferAfter}
-use Rattle.walks.specs.Arcs.{tail, head}
-use Rattle.walks.specs.Graph.{Crosses, ClosedWalk, ClosedWalks, Bridge, bridge, liveLinks, bridges, linksAt}
+use Rattle.walks.specs.Arcs.{opposite, tail, head}
+use Rattle.walks.specs.Graph.{Crosses, ClosedWalk, ClosedWalks, Bridge, bridge, liveLinks, bridges, linksAt, enteredFrom, earlierFrom}
 use Rattle.walks.specs.ByLinks.{visitLinks}
 use Rattle.walks.specs.Round.{tourFrom}
 use Rattle.routes.specs.Meaning.{Fewest}
@@ -305,6 +305,9 @@ pub record PageForm (b : List ℕ) : Type 0 where
 pub record RoundTrail (s : List ℕ) (p : Plant) : Type 0 where
   -- "visit as in document 01": the switches and the entered arcs that it goes by are those of the plan
   pub visit : tourFrom p (p .start) .seen ≡ visited p
+  -- a link that is not entered "is crossed and crossed back from the end where it is first met": its later visited end, and at once
+  pub first-met : (x y : List ℕ) (a : ℕ) → roundOf p ≡ x ++ (a ∷ y) → (In (opposite a) x → ⊥) → (T (enteredFrom p (p .start) (a / 2)) → ⊥)
+      → T (earlierFrom p (p .start) (head p a) (tail p a)) × ((z : List ℕ) × (y ≡ opposite a ∷ z))
   -- "a round trail that crosses each of the 2×E arcs just once"
   pub is : IsRound p (roundOf p)
   -- "no closed walk with that property", that its packet comes home exactly if every direction is up, "has fewer hops", wherever the packet is injected

@@ -60,15 +60,18 @@ module _ (p : Plant) (w : List ℕ) (r : ℕ) (closed : Walk (tail p) (head p) w
     ends-clear up = run-ended (tail p) (head p) (λ a. live p (a / 2)) up (ringOf p w s) s s 0 (ring-closed p w s ring-at) (λ a h. ring-whole a .0 h)
 
     -- the packet comes home exactly if every direction is up
-    pub vouches : Vouches p s (ringOf p w s)
-    vouches states = (
+    home-exactly : (states : List ℕ) → (ends (inAll p) (upByLabel states) (head p) s (ringOf p w s) ≡ true) ↔ EveryUp p states
+    home-exactly states = (
       λ e a h. all-at (upByLabel states) (ringOf p w s) (sym (ends-clear (upByLabel states)) ∙ e) a (ring-whole a .1 h),
       λ f. ends-clear (upByLabel states) ∙ at-all (upByLabel states) (ringOf p w s) (λ a h. f a (ring-whole a .0 h)),
     )
 
+    pub vouches : Vouches p s (ringOf p w s)
+    vouches states h = home-exactly states
+
     pub round-home : (states : List ℕ) → (roundRun p w s states .ended ≡ true) ↔ EveryUp p states
     unfolding roundRun run
-    round-home = vouches
+    round-home = home-exactly
 
     -- one that is home is back at its switch, after as many hops as there are labels
     pub round-back : (states : List ℕ) → roundRun p w s states .ended ≡ true → roundRun p w s states ≡ record { ended = true; hops = length w; last = s }
@@ -104,40 +107,38 @@ module _ (p : Plant) where
   unfolding upBy
   one-down a h = rw (values-at (byteBut a) 0 (2 * p .count) a (arc-below p a h), eq-eqb a a refl)
 
-  -- whatever labels a packet carries that comes home exactly if every direction is up: there are two to each link. States of a byte for each label are enough to tell
-  module _ (s : ℕ) (w : List ℕ)
-      (vouched : (states : List ℕ) → length states ≡ 2 * p .count → (ends (inAll p) (upByLabel states) (head p) s w ≡ true) ↔ EveryUp p states)
-    where
-      told : (k : ℕ) → (ends (inAll p) (upByLabel (oneDown k)) (head p) s w ≡ true) ↔ EveryUp p (oneDown k)
-      told k = vouched (oneDown k) (values-length (byteBut k) 0 (2 * p .count))
+  -- whatever labels a packet carries that comes home exactly if every direction is up: there are two to each link
+  module _ (s : ℕ) (w : List ℕ) (vouched : Vouches p s w) where
+    told : (k : ℕ) → (ends (inAll p) (upByLabel (oneDown k)) (head p) s w ≡ true) ↔ EveryUp p (oneDown k)
+    told k = vouched (oneDown k) (omega (arith, values-length (byteBut k) 0 (2 * p .count)))
 
-      -- with every byte up it comes home
-      home : ends (inAll p) (upByLabel (oneDown (2 * p .count))) (head p) s w ≡ true
-      home = told (2 * p .count) .1 (λ a h. one-up (2 * p .count) a h (λ e. omega (arith, arc-below p a h)))
+    -- with every byte up it comes home
+    home : ends (inAll p) (upByLabel (oneDown (2 * p .count))) (head p) s w ≡ true
+    home = told (2 * p .count) .1 (λ a h. one-up (2 * p .count) a h (λ e. omega (arith, arc-below p a h)))
 
-      -- with label a alone down it would come home all the same, if it did not carry a
-      home-without : (a : ℕ) → (In a w → ⊥) → ends (inAll p) (upByLabel (oneDown a)) (head p) s w ≡ true
-      unfolding run
-      home-without a n = ap (λ (e : End). e .ended) (run-same (inAll p) (inAll p) (upByLabel (oneDown a)) (upByLabel (oneDown (2 * p .count))) (head p) w s 0 (λ x b h. refl) same) ∙ home
-        where
-          same : (x b : ℕ) → In b w → inAll p x b ≡ true → upByLabel (oneDown a) b ≡ upByLabel (oneDown (2 * p .count)) b
-          same x b h t =
-              let arc = all-arc p x b t in
-              one-up a b arc (λ e. n (subst (λ (c : ℕ). In c w) e h)) ∙ sym (one-up (2 * p .count) b arc (λ e. omega (arith, arc-below p b arc)))
+    -- with label a alone down it would come home all the same, if it did not carry a
+    home-without : (a : ℕ) → (In a w → ⊥) → ends (inAll p) (upByLabel (oneDown a)) (head p) s w ≡ true
+    unfolding run
+    home-without a n = ap (λ (e : End). e .ended) (run-same (inAll p) (inAll p) (upByLabel (oneDown a)) (upByLabel (oneDown (2 * p .count))) (head p) w s 0 (λ x b h. refl) same) ∙ home
+      where
+        same : (x b : ℕ) → In b w → inAll p x b ≡ true → upByLabel (oneDown a) b ≡ upByLabel (oneDown (2 * p .count)) b
+        same x b h t =
+            let arc = all-arc p x b t in
+            one-up a b arc (λ e. n (subst (λ (c : ℕ). In c w) e h)) ∙ sym (one-up (2 * p .count) b arc (λ e. omega (arith, arc-below p b arc)))
 
-      -- so it carries each arc
-      carries : (a : ℕ) → Arc p a → In a w
-      carries a h = ⊎-elim (λ i. i) (λ n. absurd (not-both (upByLabel (oneDown a) a) (told a .0 (home-without a n) a h) (one-down a h))) (in? a w)
+    -- so it carries each arc
+    carries : (a : ℕ) → Arc p a → In a w
+    carries a h = ⊎-elim (λ i. i) (λ n. absurd (not-both (upByLabel (oneDown a) a) (told a .0 (home-without a n) a h) (one-down a h))) (in? a w)
 
-      pub vouched-fewest : 2 * liveLinks p ≤ length w
-      unfolding allRules
-      vouched-fewest =
-          omega (
-            arith,
-            all-rules p,
-            count-le (2 * p .count) (λ a. live p (a / 2)) (λ a. memb a w) (λ a h t. in→memb a w (carries a t)),
-            count-memb (2 * p .count) w,
-          )
+    pub vouched-fewest : 2 * liveLinks p ≤ length w
+    unfolding allRules
+    vouched-fewest =
+        omega (
+          arith,
+          all-rules p,
+          count-le (2 * p .count) (λ a. live p (a / 2)) (λ a. memb a w) (λ a h t. in→memb a w (carries a t)),
+          count-memb (2 * p .count) w,
+        )
 
   -- the byte of an arc is not past those of all labels
   pub label-bytes : (states : List ℕ) (a : ℕ) → Arc p a → upByLabel states a ≡ upByLabel (take (2 * p .count) states) a

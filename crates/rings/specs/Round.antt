@@ -3,9 +3,9 @@ use mathlib.Core.Path.{_≡_}
 use mathlib.Core.Logic.{_↔_}
 use mathlib.Core.Bool.{Bool, true}
 use mathlib.Core.List.{List, map}
-use Prim.Native.Nat.{ℕ, _+_, _*_}
+use Prim.Native.Nat.{ℕ, _+_, _*_, _≤_}
 use lib.Dec.{T}
-use lib.ListN.{getD}
+use lib.ListN.{length, getD}
 use Rattle.lists.specs.Numbers.{range}
 use Rattle.plant.specs.declared.Plant.{Plant}
 use Rattle.plant.specs.Links.{live}
@@ -23,9 +23,10 @@ module _ (p : Plant) where
   abbrev pub EveryUp : List ℕ → Type 0
   EveryUp states = (a : ℕ) → Arc p a → upByLabel states a ≡ true
 
-  -- the packet over the labels w, injected at switch s, "comes home exactly if every direction is up", whichever those are. "All 2×E arcs have rules here"
+  -- the packet over the labels w, injected at switch s, "comes home exactly if every direction is up", whichever those are, by a byte for each label. "All 2×E arcs have rules
+  -- here"
   abbrev pub Vouches : ℕ → List ℕ → Type 0
-  Vouches s w = (states : List ℕ) → (ends (inAll p) (upByLabel states) (head p) s w ≡ true) ↔ EveryUp states
+  Vouches s w = (states : List ℕ) → 2 * p .count ≤ length states → (ends (inAll p) (upByLabel states) (head p) s w ≡ true) ↔ EveryUp states
 
   -- the run over the round trail w from the place of switch s: its ring
   unfoldable pub roundRun : List ℕ → ℕ → List ℕ → End

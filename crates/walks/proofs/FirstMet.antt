@@ -1,197 +1,119 @@
--- The links in the order in which the visit meets them: a link that is not entered is first met at its later end. Assumes a valid plant and a root that is a switch of it.
+-- What a tour makes: each link is crossed first by its leading arc, so that one which is not entered is first met at its later visited end, and it is crossed at once back; and the
+-- tails of the leading hops are where the tour began, or new. Assumes a valid plant and a root that is a switch of it.
 use mathlib.Core.Path.{_≡_, refl, sym, ap, _∙_, subst}
 use mathlib.Core.Logic.{_⊎_, inl, inr, ⊎-elim}
-use mathlib.Core.Bool.{Bool, true, false}
 use mathlib.Core.List.{List, [], _∷_, _++_}
-use Prim.Native.Nat.{ℕ, _/_, _≤_, _<_}
-use native.Mathlib.Omega.{arith}
-use lib.Dec.{T, not-T, eqb, eqb→eq, ltb, nltb→le}
-use Rattle.lists.specs.Tests.{choose}
-use Rattle.lists.proofs.Tests.{choose-true, choose-false, T-or, eq?, eq→eqb}
+use Prim.Native.Nat.{ℕ, _/_, _<_}
+use lib.Dec.{T}
 use Rattle.lists.specs.Members.{In}
 use Rattle.plant.specs.declared.Plant.{Plant}
-use Rattle.walks.specs.Visit.{St, push, rank}
-use Rattle.walks.specs.Inner.{Scan, done, skip, enter}
-use Rattle.walks.proofs.Visit.{rank-eq, rank-lt, rank-inj, Ext, ext, ext-refl, ext-push, ext-trans}
-use Rattle.walks.specs.Arcs.{opposite, tail, head, Arc, Valid}
-use Rattle.walks.specs.Graph.{arcs, visitedFrom, enteredFrom, earlierFrom}
-use Rattle.walks.proofs.Labels.{crosses, crossed-is, tail-opposite, opposite-arc, arcs-are, ends-apart}
-use Rattle.walks.proofs.Visited.{begin, visited-run, visited-keeps}
+use Rattle.walks.specs.Visit.{St, push}
+use Rattle.walks.specs.Inner.{leadingFrom}
+use Rattle.walks.specs.Arcs.{opposite, tail, head, Valid}
+use Rattle.walks.specs.Graph.{arcs, visitedFrom, enteredFrom}
+use Rattle.walks.proofs.Visit.{Ext, ext-trans}
+use Rattle.walks.proofs.Labels.{opposite-twice}
+use Rattle.walks.proofs.Leading.{lead-apart, lead-entered, entered-link}
+use Rattle.walks.proofs.Tour.{spread, Tours, stop, pass, both, through, visit-of, reaches}
+use Rattle.walks.proofs.Halfway.{Since, since, Here, here-rest, here-both, both-leads, here-push, Tails, here-next}
 
-module _ (tl hd : ℕ → ℕ) (arcs : List ℕ) where
-  -- the arcs that are tried at the switch that they leave, the last one first, after those of m
-  unfoldable pub met : {v : ℕ} {bs : List ℕ} {s t : St} → Scan tl hd arcs v bs s t → List ℕ → List ℕ
-  met done m = m
-  met {v} (skip {a = a} k d) m = met d (choose (eqb (tl a) v) (a ∷ m) m)
-  met (enter {a = a} e n d₁ d₂) m = met d₂ (met d₁ (a ∷ m))
+-- ---- each hop leads, or comes after the opposite one: among the hops h or in the list
 
-  tried : (v a b : ℕ) (m : List ℕ) → In b m → In b (choose (eqb (tl a) v) (a ∷ m) m)
-  tried v a b m h = go (eqb (tl a) v)
+module _ (p : Plant) (r : ℕ) where
+  abbrev pub Firsts : List ℕ → List ℕ → Type 0
+  Firsts h [] = Unit
+  Firsts h (a ∷ w) = (T (leadingFrom p r a) ⊎ In (opposite a) h) × Firsts (a ∷ h) w
+
+  more : (w h k : List ℕ) → ((b : ℕ) → In b h → In b k) → Firsts h w → Firsts k w
+  more [] h k f t = tt
+  more (a ∷ w) h k f t = (⊎-elim (λ l. inl l) (λ i. inr (f (opposite a) i)) (t .0), more w (a ∷ h) (a ∷ k) (λ b i. ⊎-elim (λ e. inl e) (λ j. inr (f b j)) i) (t .1))
+
+  join : (u w h : List ℕ) → Firsts h u → Firsts h w → Firsts h (u ++ w)
+  join [] w h s t = t
+  join (a ∷ u) w h s t = (s .0, join u w (a ∷ h) (s .1) (more w h (a ∷ h) (λ b i. inr i) t))
+
+  pub first-at : (x y h : List ℕ) (a : ℕ) → Firsts h (x ++ (a ∷ y)) → T (leadingFrom p r a) ⊎ (In (opposite a) x ⊎ In (opposite a) h)
+  first-at [] y h a t = ⊎-elim (λ l. inl l) (λ i. inr (inr i)) (t .0)
+  first-at (b ∷ x) y h a t = ⊎-elim (λ l. inl l) (⊎-elim (λ i. inr (inl (inr i))) (⊎-elim (λ e. inr (inl (inl e))) (λ i. inr (inr i)))) (first-at x y (b ∷ h) a (t .1))
+
+  -- ---- after a leading arc of a link that is not entered comes the opposite one
+
+  abbrev Begins : ℕ → List ℕ → Type 0
+  Begins b [] = ⊥
+  Begins b (c ∷ w) = c ≡ b
+
+  abbrev pub Turned : List ℕ → Type 0
+  Turned [] = Unit
+  Turned (a ∷ w) = (T (leadingFrom p r a) → (T (enteredFrom p r (a / 2)) → ⊥) → Begins (opposite a) w) × Turned w
+
+  turned-join : (u w : List ℕ) → Turned u → Turned w → Turned (u ++ w)
+  turned-join [] w s t = t
+  turned-join (a ∷ u) w s t = (λ l n. begins u (s .0 l n), turned-join u w (s .1) t)
     where
-      go : (c : Bool) → In b (choose c (a ∷ m) m)
-      go true = inr h
-      go false = h
+      begins : (v : List ℕ) → Begins (opposite a) v → Begins (opposite a) (v ++ w)
+      begins [] z = absurd z
+      begins (c ∷ v) e = e
 
-  grows : {v : ℕ} {bs : List ℕ} {s t : St} (d : Scan tl hd arcs v bs s t) (m : List ℕ) (b : ℕ) → In b m → In b (met d m)
-  unfolding met
-  grows done m b h = h
-  grows {v} (skip {a = a} k d) m b h = grows d (choose (eqb (tl a) v) (a ∷ m) m) b (tried v a b m h)
-  grows (enter {a = a} e n d₁ d₂) m b h = grows d₂ (met d₁ (a ∷ m)) b (grows d₁ (a ∷ m) b (inr h))
-
-  -- all arcs that leave x have been met
-  abbrev pub All : List ℕ → ℕ → Type 0
-  All m x = (b : ℕ) → In b arcs → tl b ≡ x → In b m
-
-  -- of v's arcs, those that are no longer in the list have been met
-  abbrev Left : ℕ → List ℕ → List ℕ → Type 0
-  Left v bs m = (b : ℕ) → In b arcs → tl b ≡ v → In b bs ⊎ In b m
-
-  left-skip : (v a : ℕ) (bs m : List ℕ) → Left v (a ∷ bs) m → Left v bs (choose (eqb (tl a) v) (a ∷ m) m)
-  left-skip v a bs m f b h e = ⊎-elim (⊎-elim (λ q. inr (rw (choose-true (eqb (tl a) v) (a ∷ m) m (eq→eqb (ap tl (sym q) ∙ e))) (inl q))) (λ i. inl i)) (λ i. inr (tried v a b m i)) (f b h e)
-
-  left-enter : (v a : ℕ) (bs m m′ : List ℕ) → In a m′ → ((b : ℕ) → In b m → In b m′) → Left v (a ∷ bs) m → Left v bs m′
-  left-enter v a bs m m′ i g f b h e = ⊎-elim (⊎-elim (λ q. inr (subst (λ (k : ℕ). In k m′) (sym q) i)) (λ j. inl j)) (λ j. inr (g b j)) (f b h e)
-
-  -- at the end all arcs of v have been met, and those of each switch that was visited on the way
-  pub record Whole (v : ℕ) (s t : St) (m : List ℕ) : Type 0 where
-    pub this : All m v
-    pub rest : (x : ℕ) → In x (t .ord) → In x (s .ord) ⊎ All m x
-
-  pub whole : {v : ℕ} {bs : List ℕ} {s t : St} (d : Scan tl hd arcs v bs s t) (m : List ℕ) → Left v bs m → Whole v s t (met d m)
-  unfolding met
-  whole {v} done m f = record { this = λ b h e. go b (f b h e); rest = λ x h. inl h }
+  pub turned-at : (x y : List ℕ) (a : ℕ) → Turned (x ++ (a ∷ y)) → T (leadingFrom p r a) → (T (enteredFrom p r (a / 2)) → ⊥) → (z : List ℕ) × (y ≡ opposite a ∷ z)
+  turned-at [] y a t l n = go y (t .0 l n)
     where
-      go : (b : ℕ) → ⊥ ⊎ In b m → In b m
-      go b (inl z) = absurd z
-      go b (inr i) = i
-  whole {v} (skip {a = a} {bs = bs} k d) m f = whole d (choose (eqb (tl a) v) (a ∷ m) m) (left-skip v a bs m f)
-  whole {v} {s = s} {t = t} (enter {a = a} {bs = bs} {m = u} e n d₁ d₂) m f =
-      go (whole d₁ (a ∷ m) (λ b h q. inl h)) (whole d₂ (met d₁ (a ∷ m)) (left-enter v a bs m (met d₁ (a ∷ m)) (grows d₁ (a ∷ m) a (inl refl)) (λ b h. grows d₁ (a ∷ m) b (inr h)) f))
-    where
-      go : Whole (hd a) (push tl hd a s) u (met d₁ (a ∷ m)) → Whole v u t (met d₂ (met d₁ (a ∷ m))) → Whole v s t (met d₂ (met d₁ (a ∷ m)))
-      go w₁ w₂ = record { this = w₂ .this; rest = λ x h. new x (w₂ .rest x h) }
-        where
-          low : (x : ℕ) → In x (hd a ∷ s .ord) ⊎ All (met d₁ (a ∷ m)) x → In x (s .ord) ⊎ All (met d₂ (met d₁ (a ∷ m))) x
-          low x (inl (inl q)) = inr (λ b h z. grows d₂ (met d₁ (a ∷ m)) b (w₁ .this b h (z ∙ q)))
-          low x (inl (inr h)) = inl h
-          low x (inr g) = inr (λ b h z. grows d₂ (met d₁ (a ∷ m)) b (g b h z))
+      go : (v : List ℕ) → Begins (opposite a) v → (z : List ℕ) × (v ≡ opposite a ∷ z)
+      go [] b = absurd b
+      go (c ∷ v) e = (v, ap (λ (k : ℕ). k ∷ v) e)
+  turned-at (b ∷ x) y a t l n = turned-at x y a (t .1) l n
 
-          new : (x : ℕ) → In x (u .ord) ⊎ All (met d₂ (met d₁ (a ∷ m))) x → In x (s .ord) ⊎ All (met d₂ (met d₁ (a ∷ m))) x
-          new x (inl h) = low x (w₁ .rest x h)
-          new x (inr g) = inr g
-
-  module _ (rev : ℕ → ℕ) (F : St) where
-    -- each arc that was met at the earlier visited end of its link was entered, or the opposite one was met before
-    abbrev pub Late : List ℕ → Type 0
-    Late [] = Unit
-    Late (b ∷ m) = (rank (tl b) (F .ord) < rank (hd b) (F .ord) → In b (F .ent) ⊎ In (rev b) m) × Late m
-
-    pub late-at : (xs ys : List ℕ) (b : ℕ) → Late (xs ++ (b ∷ ys)) → Late (b ∷ ys)
-    late-at [] ys b l = l
-    late-at (x ∷ xs) ys b l = late-at xs ys b (l .1)
-
-    module _ (tl-rev : (a : ℕ) → tl (rev a) ≡ hd a) (rev-in : (a : ℕ) → In a arcs → In (rev a) arcs) where
-      -- each visited switch was visited before v, or all its arcs have been met
-      abbrev Before : ℕ → St → List ℕ → Type 0
-      Before v s m = (y : ℕ) → In y (s .ord) → (rank y (s .ord) ≤ rank v (s .ord)) ⊎ All m y
-
-      before-push : (a : ℕ) (s : St) (m : List ℕ) → Before (hd a) (push tl hd a s) m
-      before-push a s m y h = inl (omega (arith, rank-lt y (hd a ∷ s .ord) h, rank-eq (hd a) (hd a) (s .ord) refl))
-
-      before-next : (v a : ℕ) (s t : St) (m m′ : List ℕ) → In v (s .ord) → Ext s t → ((b : ℕ) → In b m → In b m′)
-          → Whole (hd a) (push tl hd a s) t m′ → Before v s m → Before v t m′
-      before-next v a s t m m′ i x g w f y h = go (w .rest y h)
-        where
-          old : (rank y (s .ord) ≤ rank v (s .ord)) ⊎ All m y → In y (s .ord) → (rank y (t .ord) ≤ rank v (t .ord)) ⊎ All m′ y
-          old (inl k) j = inl (omega (arith, x .ranks y j, x .ranks v i))
-          old (inr k) j = inr (λ b l z. g b (k b l z))
-
-          go : In y (hd a ∷ s .ord) ⊎ All m′ y → (rank y (t .ord) ≤ rank v (t .ord)) ⊎ All m′ y
-          go (inl (inl q)) = inr (λ b l z. w .this b l (z ∙ q))
-          go (inl (inr j)) = old (f y j) j
-          go (inr k) = inr k
-
-      -- at v the arc a arrives at a visited switch
-      late-skip : (v a : ℕ) (s : St) (m : List ℕ) → In a arcs → (tl a ≡ v → In (hd a) (s .ord)) → In v (s .ord) → Ext s F → Before v s m → Late m → Late (choose (eqb (tl a) v) (a ∷ m) m)
-      late-skip v a s m r k i x f l = go (eq? (tl a) v)
-        where
-          first : tl a ≡ v → (rank (hd a) (s .ord) ≤ rank v (s .ord)) ⊎ All m (hd a) → rank (tl a) (F .ord) < rank (hd a) (F .ord) → In a (F .ent) ⊎ In (rev a) m
-          first e (inl h) lt = absurd (omega (arith, x .ranks (hd a) (k e), x .ranks v i, ap (λ (y : ℕ). rank y (F .ord)) e))
-          first e (inr g) lt = inr (g (rev a) (rev-in a r) (tl-rev a))
-
-          go : (tl a ≡ v) ⊎ (tl a ≡ v → ⊥) → Late (choose (eqb (tl a) v) (a ∷ m) m)
-          go (inl e) = rw (choose-true (eqb (tl a) v) (a ∷ m) m (eq→eqb e)) (first e (f (hd a) (k e)), l)
-          go (inr n) = rw (choose-false (eqb (tl a) v) (a ∷ m) m (λ t. n (eqb→eq (tl a) v t))) l
-
-      before-skip : (v a : ℕ) (s : St) (m : List ℕ) → Before v s m → Before v s (choose (eqb (tl a) v) (a ∷ m) m)
-      before-skip v a s m f y h = ⊎-elim (λ k. inl k) (λ g. inr (λ b l z. tried v a b m (g b l z))) (f y h)
-
-      pub late : {v : ℕ} {bs : List ℕ} {s t : St} (d : Scan tl hd arcs v bs s t) (m : List ℕ) → ((b : ℕ) → In b bs → In b arcs) → In v (s .ord) → Ext t F → Before v s m → Late m → Late (met d m)
-      unfolding met
-      late done m u i x f l = l
-      late {v} {s = s} (skip {a = a} k d) m u i x f l =
-          late d (choose (eqb (tl a) v) (a ∷ m) m) (λ b h. u b (inr h)) i x (before-skip v a s m f)
-          (late-skip v a s m (u a (inl refl)) k i (ext-trans (ext tl hd arcs d) x) f l)
-      late {v} {s = s} (enter {a = a} {m = c} e n d₁ d₂) m u i x f l =
-          late d₂ (met d₁ (a ∷ m)) (λ b h. u b (inr h)) (x₁ .ords v i) x
-          (before-next v a s c m (met d₁ (a ∷ m)) i x₁ (λ b h. grows d₁ (a ∷ m) b (inr h)) (whole d₁ (a ∷ m) (λ b h q. inl h)) f)
-          (late d₁ (a ∷ m) (λ b h. h) (inl refl) x₂ (before-push a s (a ∷ m)) ((λ lt. inl (x₂ .ents a (ext tl hd arcs d₁ .ents a (inl refl)))), l))
-        where
-          x₁ : Ext s c
-          x₁ = ext-trans (ext-push tl hd a s n) (ext tl hd arcs d₁)
-
-          x₂ : Ext c F
-          x₂ = ext-trans (ext tl hd arcs d₂) x
-
--- ---- the visit of a plant from r
+-- ---- along the tour
 
 module _ (p : Plant) (ok : Valid p) (r : ℕ) (r-in : r < p .switches) where
-  -- the arcs that the visit tries at the switch that they leave, the last one first
-  unfoldable pub meetings : List ℕ
-  meetings = met (tail p) (head p) (arcs p) (visited-run p ok r r-in) []
+  -- what holds of the hops w that are made at v from state s on
+  pub record Made (v : ℕ) (s : St) (w : List ℕ) : Type 0 where
+    pub tails : Tails p ok r r-in v s w
+    pub firsts : Firsts p r [] w
+    pub turned : Turned p r w
 
-  -- it tries each arc of each switch that it visits
-  pub meets-all : (a : ℕ) → Arc p a → In (tail p a) (visitedFrom p r .ord) → In a meetings
-  unfolding meetings
-  meets-all a h i = go (w .rest (tail p a) i)
+  made-both : {v : ℕ} (a : ℕ) {s : St} {w : List ℕ} → tail p a ≡ v → T (leadingFrom p r a) → Made v s w → Made v s (a ∷ opposite a ∷ w)
+  made-both {v} a {s} {w} e t c = record {
+    tails = tails;
+    firsts = (inl t, (inr (inl (opposite-twice a)), more p r w [] (opposite a ∷ a ∷ []) (λ b z. absurd z) (c .firsts)));
+    turned = (λ _ _. refl, (λ l _. absurd (lead-apart p r a t l), c .turned));
+  }
     where
-      w : Whole (tail p) (head p) (arcs p) r (begin r) (visitedFrom p r) (met (tail p) (head p) (arcs p) (visited-run p ok r r-in) [])
-      w = whole (tail p) (head p) (arcs p) (visited-run p ok r r-in) [] (λ b j e. inl j)
+      tails : (b : ℕ) → (b ≡ a) ⊎ ((b ≡ opposite a) ⊎ In b w) → T (leadingFrom p r b) → (tail p b ≡ v) ⊎ (In (tail p b) (s .ord) → ⊥)
+      tails b (inl q) x = inl (ap (tail p) q ∙ e)
+      tails b (inr (inl q)) x = absurd (lead-apart p r a t (subst (λ (k : ℕ). T (leadingFrom p r k)) q x))
+      tails b (inr (inr i)) x = c .tails b i x
 
-      go : In (tail p a) (r ∷ []) ⊎ All (tail p) (head p) (arcs p) (met (tail p) (head p) (arcs p) (visited-run p ok r r-in) []) (tail p a)
-          → In a (met (tail p) (head p) (arcs p) (visited-run p ok r r-in) [])
-      go (inl (inl e)) = w .this a (arcs-are p a .1 h) e
-      go (inl (inr z)) = absurd z
-      go (inr f) = f a (arcs-are p a .1 h) refl
-
-  -- where the link of a has not been entered, and was not met before (among ys) from the other end, there a leaves the later visited end
-  pub first-met : (xs ys : List ℕ) (a : ℕ) → meetings ≡ xs ++ (a ∷ ys) → Arc p a → In (tail p a) (visitedFrom p r .ord)
-      → (T (enteredFrom p r (a / 2)) → ⊥) → (In (opposite a) ys → ⊥) → T (earlierFrom p r (head p a) (tail p a))
-  unfolding meetings
-  first-met xs ys a e h i n k = go (eq? (rank (tail p a) ord) (rank (head p a) ord)) (T-or (ltb (rank (head p a) ord) (rank (tail p a) ord)))
+  made-through : {v : ℕ} (a : ℕ) {s m : St} {u w : List ℕ} → tail p a ≡ v → (In (head p a) (s .ord) → ⊥) → T (leadingFrom p r a) → T (enteredFrom p r (a / 2))
+      → Ext (push (tail p) (head p) a s) m → Made (head p a) (push (tail p) (head p) a s) u → Made v m w → Made v s (a ∷ (u ++ (opposite a ∷ w)))
+  made-through {v} a {s} {m} {u} {w} e n t link x c₁ c₂ = record {
+    tails = λ b j y. tails b y (spread b a (opposite a) u w j);
+    firsts = (
+      inl t,
+      join p r u (opposite a ∷ w) (a ∷ []) (more p r u [] (a ∷ []) (λ b z. absurd z) (c₁ .firsts))
+          (inr (inl (opposite-twice a)), more p r w [] (opposite a ∷ a ∷ []) (λ b z. absurd z) (c₂ .firsts)),
+    );
+    turned = (λ _ f. absurd (f link), turned-join p r u (opposite a ∷ w) (c₁ .turned) (λ l _. absurd (lead-apart p r a t l), c₂ .turned));
+  }
     where
-      ord : List ℕ
-      ord = visitedFrom p r .ord
+      below : (b : ℕ) → (tail p b ≡ head p a) ⊎ (In (tail p b) (head p a ∷ s .ord) → ⊥) → In (tail p b) (s .ord) → ⊥
+      below b (inl q) j = n (subst (λ (k : ℕ). In k (s .ord)) q j)
+      below b (inr g) j = g (inr j)
 
-      back : (b : ℕ) → In b (arcs p) → In (opposite b) (arcs p)
-      back b j = arcs-are p (opposite b) .1 (opposite-arc p b (arcs-are p b .0 j))
+      tails : (b : ℕ) → T (leadingFrom p r b) → ((b ≡ a) ⊎ (b ≡ opposite a)) ⊎ (In b u ⊎ In b w) → (tail p b ≡ v) ⊎ (In (tail p b) (s .ord) → ⊥)
+      tails b y (inl (inl q)) = inl (ap (tail p) q ∙ e)
+      tails b y (inl (inr q)) = absurd (lead-apart p r a t (subst (λ (k : ℕ). T (leadingFrom p r k)) q y))
+      tails b y (inr (inl j)) = inr (below b (c₁ .tails b j y))
+      tails b y (inr (inr j)) = ⊎-elim (λ q. inl q) (λ g. inr (λ k. g (x .ords (tail p b) (inr k)))) (c₂ .tails b j y)
 
-      only : (y : ℕ) → (y ≡ r) ⊎ ⊥ → (rank y (r ∷ []) ≤ rank r (r ∷ [])) ⊎ All (tail p) (head p) (arcs p) [] y
-      only y (inl q) = inl (omega (arith, ap (λ (z : ℕ). rank z (r ∷ [])) q))
-      only y (inr z) = absurd z
-
-      pick : In a (visitedFrom p r .ent) ⊎ In (opposite a) ys → ⊥
-      pick (inl j) = n (crossed-is (a / 2) (visitedFrom p r .ent) .1 (crosses a (a / 2) (visitedFrom p r .ent) j refl))
-      pick (inr j) = k j
-
-      all-late : Late (tail p) (head p) (arcs p) opposite (visitedFrom p r) (a ∷ ys)
-      all-late =
-          late-at (tail p) (head p) (arcs p) opposite (visitedFrom p r) xs ys a
-          (subst (λ (m : List ℕ). Late (tail p) (head p) (arcs p) opposite (visitedFrom p r) m) e
-          (late (tail p) (head p) (arcs p) opposite (visitedFrom p r) (tail-opposite p) back (visited-run p ok r r-in) [] (λ b j. j) (inl refl) (ext-refl (visitedFrom p r)) only tt))
-
-      go : (rank (tail p a) ord ≡ rank (head p a) ord) ⊎ (rank (tail p a) ord ≡ rank (head p a) ord → ⊥)
-          → T (ltb (rank (head p a) ord) (rank (tail p a) ord)) ⊎ (T (ltb (rank (head p a) ord) (rank (tail p a) ord)) → ⊥) → T (ltb (rank (head p a) ord) (rank (tail p a) ord))
-      go q (inl t) = t
-      go (inl q) (inr t) = absurd (ends-apart p ok a h (rank-inj (tail p a) (head p a) ord i (visited-keeps p ok r r-in a h i) q))
-      go (inr q) (inr t) = absurd (pick (all-late .0 (omega (arith, q, nltb→le (rank (head p a) ord) (rank (tail p a) ord) (not-T (ltb (rank (head p a) ord) (rank (tail p a) ord)) t)))))
+  pub made : {v : ℕ} {bs : List ℕ} {s t : St} {h k w : List ℕ} → Tours (tail p) (head p) (arcs p) v bs s h t k w → Here p r v bs s h → Ext t (visitedFrom p r) → Since p r t → Made v s w
+  made stop c x o = record { tails = λ b z. absurd z; firsts = tt; turned = tt }
+  made (pass {a = a} f d) c x o = made d (here-rest p r a c) x o
+  made (both {a = a} e i n d) c x o =
+      let t = both-leads p ok r r-in a c e i n (ext-trans (reaches (tail p) (head p) (arcs p) d) x) (since p r (visit-of (tail p) (head p) (arcs p) d) o) .0 in
+      made-both a e t (made d (here-both p r a c e i t) x o)
+  made (through {a = a} e n d₁ d₂) c x o =
+      let x₁ = ext-trans (reaches (tail p) (head p) (arcs p) d₂) x in
+      let i = x₁ .ents a (reaches (tail p) (head p) (arcs p) d₁ .ents a (inl refl)) in
+      let t = lead-entered p ok r r-in a i in
+      let c₁ = made d₁ (here-push p ok r r-in a c e n t) x₁ (since p r (visit-of (tail p) (head p) (arcs p) d₂) o) in
+      made-through a e n t (entered-link p r a i) (reaches (tail p) (head p) (arcs p) d₁) c₁ (made d₂ (here-next p ok r r-in a c e n t d₁ (c₁ .tails)) x o)

@@ -7,7 +7,6 @@ pub mod Visited
 pub mod Tests
 pub mod Orientation
 pub mod Counting
-pub mod FirstMet
 pub mod Cycles
 pub mod Fewest
 pub mod ByLinks
@@ -20,5 +19,6 @@ pub mod Hops
 pub mod Leading
 pub mod NextAt
 pub mod Halfway
+pub mod FirstMet
 pub mod NextHop
 pub mod Round

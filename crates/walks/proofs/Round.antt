@@ -1,12 +1,12 @@
 -- The round trail from a root: it leads back to the root, has each arc that is reached once and no other hop, so two hops to a link, and follows `next`. Of each link that is
--- reached one arc leads. Assumes a valid plant and a root that is a switch of it.
+-- reached one arc leads; by it the link is first crossed. Assumes a valid plant and a root that is a switch of it.
 use mathlib.Core.Path.{_≡_, refl, sym, ap, subst}
 use mathlib.Core.Logic.{_⊎_, inl, inr, ⊎-elim, _↔_}
 use mathlib.Core.Bool.{Bool, _&&_}
-use mathlib.Core.List.{List, [], _∷_}
-use Prim.Native.Nat.{ℕ, _+_, _*_, _<_, _≤_}
+use mathlib.Core.List.{List, [], _∷_, _++_}
+use Prim.Native.Nat.{ℕ, _+_, _*_, _/_, _<_, _≤_}
 use native.Mathlib.Omega.{arith}
-use lib.Dec.{T}
+use lib.Dec.{T, lt→ltb}
 use lib.ListN.{length}
 use Rattle.lists.proofs.Tests.{and-left, and-right, and-both}
 use Rattle.lists.specs.Members.{In, memb, Distinct}
@@ -18,8 +18,8 @@ use Rattle.plant.specs.Links.{first, live}
 use Rattle.walks.specs.Walk.{Walk}
 use Rattle.walks.specs.Visit.{St, rank}
 use Rattle.walks.specs.Arcs.{opposite, tail, head, Arc, Valid}
-use Rattle.walks.specs.Graph.{arcs, visitedFrom, reachedFrom, linksFrom}
-use Rattle.walks.specs.Inner.{nextAt, Turns}
+use Rattle.walks.specs.Graph.{arcs, visitedFrom, reachedFrom, enteredFrom, earlierFrom, linksFrom}
+use Rattle.walks.specs.Inner.{leadingFrom, nextAt, Turns}
 use Rattle.walks.specs.Round.{Tour, tour, roundFrom}
 use Rattle.walks.proofs.Visit.{ext-refl}
 use Rattle.walks.proofs.Labels.{even-half, opposite-even, opposite-odd, opposite-twice, tail-even, tail-opposite, head-opposite, arc-below, even-arc, opposite-arc, arcs-are, head-in}
@@ -29,6 +29,8 @@ use Rattle.walks.proofs.NextAt.{first-all, from-first}
 use Rattle.walks.proofs.Tour.{Met, Tours, Toured, tours, visit-of, hops-are, paired, real-hops, All, Whole, whole}
 use Rattle.walks.proofs.Hops.{closes, ends, once}
 use Rattle.walks.proofs.Halfway.{Here}
+use Rattle.walks.proofs.Leading.{leads}
+use Rattle.walks.proofs.FirstMet.{Firsts, first-at, Turned, turned-at, Made, made}
 use Rattle.walks.proofs.NextHop.{after}
 pub use Rattle.walks.proofs.Leading.{leading-one, leading-pair}
 
@@ -150,3 +152,20 @@ module _ (p : Plant) (ok : Valid p) (r : ℕ) (r-in : r < p .switches) where
   round-next up next t =
       subst (λ (a : ℕ). Walk (λ b. b) next (roundFrom p r) a (up r)) (first-all p r up r)
       (after p ok r r-in up next t run first-here (ext-refl (visitedFrom p r)) (λ b i j. i) .walk)
+
+  -- ---- where a link is first met
+
+  all-made : Made p ok r r-in r (begin r) (roundFrom p r)
+  all-made = made p ok r r-in run first-here (ext-refl (visitedFrom p r)) (λ b i j. i)
+
+  module _ (x y : List ℕ) (a : ℕ) (e : roundFrom p r ≡ x ++ (a ∷ y)) (n : In (opposite a) x → ⊥) where
+    -- the hop by which it is first crossed leads
+    round-first : T (leadingFrom p r a)
+    round-first = ⊎-elim (λ t. t) (λ i. absurd (⊎-elim n (λ z. z) i)) (first-at p r x y [] a (subst (λ (w : List ℕ). Firsts p r [] w) e (all-made .firsts)))
+
+    -- so a link that is not entered is first met at its later visited end, and it is crossed at once back
+    pub first-met : (T (enteredFrom p r (a / 2)) → ⊥) → T (earlierFrom p r (head p a) (tail p a)) × ((z : List ℕ) × (y ≡ opposite a ∷ z))
+    first-met f = (
+      ⊎-elim (λ w. absurd (f (w .0))) (λ w. lt→ltb _ _ (w .1)) (leads p r a round-first .way),
+      turned-at p r x y a (subst (λ (w : List ℕ). Turned p r w) e (all-made .turned)) round-first f,
+    )
