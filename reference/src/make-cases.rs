@@ -1460,6 +1460,19 @@ fn parted(chance: &mut Chance, switches: usize) -> Vec<usize> {
     sizes
 }
 
+/// A tree, a ring, a ring with tails or rings joined by one cable, in turn by
+/// the number of switches.
+fn in_turn(chance: &mut Chance, switches: usize) -> Sketch {
+    let ring = chance.within(1, switches);
+    let sizes = parted(chance, switches);
+    match switches % 4 {
+        0 => make::tree(chance, switches),
+        1 => make::cycle(switches),
+        2 => make::tailed(chance, ring, switches),
+        _ => make::rings(chance, &sizes),
+    }
+}
+
 /// A listing of so many bytes at least that meets a refusal, 1 to 9, of a plant
 /// with at most so many switches and links.
 fn refused(
@@ -1714,14 +1727,7 @@ fn fixed_pages_lent(chance: &mut Chance, out: &mut Out) -> io::Result<()> {
 /// The pages of plants of every number of switches, and of a known shape.
 fn fixed_pages_of_shapes(chance: &mut Chance, out: &mut Out) -> io::Result<()> {
     for switches in 1..=SWITCHES {
-        let ring = chance.within(1, switches);
-        let sizes = parted(chance, switches);
-        let sketch = match switches % 4 {
-            0 => make::tree(chance, switches),
-            1 => make::cycle(switches),
-            2 => make::tailed(chance, ring, switches),
-            _ => make::rings(chance, &sizes),
-        };
+        let sketch = in_turn(chance, switches);
         let plant = sketch.mixed(chance);
         out.put(taken_page(chance, &plant))?;
     }
@@ -3002,14 +3008,7 @@ fn fixed_round_shapes(chance: &mut Chance, out: &mut Out) -> io::Result<()> {
 /// The round trails of plants of every number of switches, and of the limits.
 fn fixed_round_sizes(chance: &mut Chance, out: &mut Out) -> io::Result<()> {
     for switches in 1..=SWITCHES {
-        let ring = chance.within(1, switches);
-        let sizes = parted(chance, switches);
-        let sketch = match switches % 4 {
-            0 => make::tree(chance, switches),
-            1 => make::cycle(switches),
-            2 => make::tailed(chance, ring, switches),
-            _ => make::rings(chance, &sizes),
-        };
+        let sketch = in_turn(chance, switches);
         let pair = Pair::new(sketch.mixed(chance));
         let more = chance.of(&[0, 0, 0, 1, 2, 40]);
         out.put(pair.placed(pair.labels() + more))?;
