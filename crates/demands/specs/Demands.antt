@@ -345,7 +345,8 @@ pub record ShorterTrail (s : List ℕ) (p : Plant) (x : ℕ) : Type 0 where
 abbrev pub endByLabel : Plant → ℕ → List ℕ → ℕ → End
 endByLabel p x states m = probeRun p (used p) (trailOf p) x (liveLinks p) (upByLabel states) m
 
--- "searches keep one byte a link, and their verdicts hold for links whose two directions are up or down together": from injection switch x, by such states
+-- "searches keep one byte a link, and their verdicts hold for links whose two directions are up or down together": from injection switch x, by states of labels that are so
+-- (`Together` of rings/specs/Round)
 pub record ByLabel (p : Plant) (x : ℕ) (states : List ℕ) : Type 0 where
   -- a byte for each link tells of both its directions
   pub links : (l : ℕ) → T (live p l) → (upBy (linkBytes p states) l ≡ upByLabel states (2 * l)) × (upBy (linkBytes p states) l ≡ upByLabel states (2 * l + 1))

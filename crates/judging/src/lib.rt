@@ -41,10 +41,10 @@ pub fn differs(x: Parts, t: &[[u8; Plant::PLACES]; Plant::PLACES], trail: &[u16]
 }
 
 // Refusal 13: are there fewer state bytes than links, or than labels?
-pub fn too_few(states: &[u8], most: u16) -> bool
-    ensures { λ r. ⌜ r ≡ statesShort most (now (states .entry)) ⌝ }
+pub fn too_few(states: &[u8], needed: u16) -> bool
+    ensures { λ r. ⌜ r ≡ statesShort needed (now (states .entry)) ⌝ }
 {
-    states.len() < most as usize
+    states.len() < needed as usize
 }
 
 // Refusals 12 and 13 of a lent trail and state bytes.

@@ -1,6 +1,6 @@
 -- Laws of membership: as a relation, as a test, at a place; a test at all members, and what holds of each. Assumes nothing.
 use mathlib.Core.Path.{_≡_, refl, sym, ap, _∙_}
-use mathlib.Core.Logic.{_⊎_, inl, inr}
+use mathlib.Core.Logic.{_⊎_, inl, inr, ⊎-elim}
 use mathlib.Core.Bool.{Bool, true, _&&_, _||_, and-assoc, or-assoc}
 use mathlib.Core.List.{List, [], _∷_, _++_, map}
 use Prim.Native.Nat.{ℕ, zero, suc, _<_}
@@ -8,7 +8,7 @@ use native.Mathlib.Omega.{arith}
 use lib.Dec.{T, eqb, eqb→eq}
 use lib.ListN.{length, getD, replicate}
 use Rattle.lists.proofs.Tests.{T-or, eq→eqb, or-left, or-right, or-cases, and-true}
-use Rattle.lists.specs.Members.{In, memb, all, Each}
+use Rattle.lists.specs.Members.{In, memb, all, Each, Distinct}
 
 pub memb→in : (x : ℕ) (l : List ℕ) → T (memb x l) → In x l
 memb→in x [] t = t
@@ -49,6 +49,11 @@ in-append x (y ∷ l) m (inr h) = go (in-append x l m h)
     go : In x l ⊎ In x m → In x (y ∷ l) ⊎ In x m
     go (inl i) = inl (inr i)
     go (inr i) = inr i
+
+-- two lists without a common member, each without one twice
+pub distinct-append : (l m : List ℕ) → Distinct l → Distinct m → ((x : ℕ) → In x l → In x m → ⊥) → Distinct (l ++ m)
+distinct-append [] m d e f = e
+distinct-append (y ∷ l) m d e f = (λ h. ⊎-elim (d .0) (f y (inl refl)) (in-append y l m h), distinct-append l m (d .1) e (λ x h. f x (inr h)))
 
 pub memb-append : (x : ℕ) (l m : List ℕ) → memb x (l ++ m) ≡ memb x l || memb x m
 memb-append x [] m = refl

@@ -4,7 +4,7 @@ use mathlib.Core.Logic.{_⊎_, inl, inr, ⊎-elim}
 use mathlib.Core.List.{List, [], _∷_, _++_}
 use Prim.Native.Nat.{ℕ}
 use Rattle.lists.specs.Members.{In, Distinct}
-use Rattle.lists.proofs.Members.{in-append, in-append-left, in-append-right}
+use Rattle.lists.proofs.Members.{in-append, in-append-left, in-append-right, distinct-append}
 use Rattle.walks.specs.Walk.{Walk}
 use Rattle.walks.proofs.Walk.{walk-append}
 use Rattle.walks.specs.Visit.{St, push}
@@ -12,10 +12,6 @@ use Rattle.walks.specs.Arcs.{opposite}
 use Rattle.walks.proofs.Visit.{Ext, ext-push, ext-trans}
 use Rattle.walks.proofs.Labels.{opposite-twice}
 use Rattle.walks.proofs.Tour.{Met, met-more, met-back, opposite-apart, spread, Tours, stop, pass, both, through, reaches, grows, adds, parts}
-
-distinct-append : (u w : List ℕ) → Distinct u → Distinct w → ((b : ℕ) → In b u → In b w → ⊥) → Distinct (u ++ w)
-distinct-append [] w d e f = e
-distinct-append (a ∷ u) w d e f = (λ i. ⊎-elim (d .0) (f a (inl refl)) (in-append a u w i), distinct-append u w (d .1) e (λ b i. f b (inr i)))
 
 module _ (tl hd : ℕ → ℕ) (arcs : List ℕ) (tl-opp : (a : ℕ) → tl (opposite a) ≡ hd a) (hd-opp : (a : ℕ) → hd (opposite a) ≡ tl a) where
   -- the hops lead from v back to v
@@ -99,13 +95,13 @@ module _ (tl hd : ℕ → ℕ) (arcs : List ℕ) (tl-opp : (a : ℕ) → tl (opp
       go (inr (inr (inl q))) = subst (λ (c : ℕ). Inside s c) (sym q) (inside-back s a i)
       go (inr (inr (inr z))) = absurd z
 
-  -- ---- no link is crossed again
-
   -- after the tour beyond a, and back
   pub known-next : (a : ℕ) (h : List ℕ) {bs : List ℕ} {s m : St} {l u : List ℕ} → Tours tl hd arcs (hd a) bs (push tl hd a s) (h ++ (a ∷ [])) m l u → In (tl a) (s .ord) → (In (hd a) (s .ord) → ⊥)
       → Known s h → Known m (l ++ (opposite a ∷ []))
   known-next a h {s = s} {m = m} {l = l} d i n f =
       known-back a m l (grows tl hd arcs d a (in-append-right a h (a ∷ []) (inl refl))) (known-end d (inl refl) (known-push a s h i n f))
+
+  -- ---- no link is crossed again
 
   pub unmet : {v : ℕ} {bs : List ℕ} {s t : St} {h k w : List ℕ} → Tours tl hd arcs v bs s h t k w → In v (s .ord) → Known s h → (b : ℕ) → In b w → Met b h → ⊥
   unmet stop i f b z = absurd z
@@ -151,7 +147,7 @@ module _ (tl hd : ℕ → ℕ) (arcs : List ℕ) (tl-opp : (a : ℕ) → tl (opp
       go (inl q) = opposite-apart a q
       go (inr j) = new a j (inl refl)
   once {v} {s = s} {h = h} (through {a = a} {m = m} {l = l} {u = u} {w = w} e n d₁ d₂) i f =
-      (λ j. go (spread′ j), distinct-append u (opposite a ∷ w) (once d₁ (inl refl) k₁) (λ j. after (opposite a) j (in-append-right (opposite a) l (opposite a ∷ []) (inl refl)), once d₂ i′ k₂) apart)
+      (λ j. go (in-append a u (opposite a ∷ w) j), distinct-append u (opposite a ∷ w) (once d₁ (inl refl) k₁) (λ j. after (opposite a) j (in-append-right (opposite a) l (opposite a ∷ []) (inl refl)), once d₂ i′ k₂) apart)
     where
       low : In (tl a) (s .ord)
       low = subst (λ (x : ℕ). In x (s .ord)) (sym e) i
@@ -174,9 +170,6 @@ module _ (tl hd : ℕ → ℕ) (arcs : List ℕ) (tl-opp : (a : ℕ) → tl (opp
       apart : (b : ℕ) → In b u → (b ≡ opposite a) ⊎ In b w → ⊥
       apart b j (inl q) = unmet d₁ (inl refl) k₁ b j (inr (subst (λ (c : ℕ). In c (h ++ (a ∷ []))) (sym (ap opposite q ∙ opposite-twice a)) here))
       apart b j (inr o) = after b o (in-append-left b l (opposite a ∷ []) (adds tl hd arcs d₁ b j))
-
-      spread′ : In a (u ++ (opposite a ∷ w)) → In a u ⊎ ((a ≡ opposite a) ⊎ In a w)
-      spread′ j = in-append a u (opposite a ∷ w) j
 
       go : In a u ⊎ ((a ≡ opposite a) ⊎ In a w) → ⊥
       go (inl j) = unmet d₁ (inl refl) k₁ a j (inl here)
