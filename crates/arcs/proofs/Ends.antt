@@ -2,19 +2,31 @@
 use mathlib.Core.Path.{_≡_, ap, _∙_}
 use mathlib.Core.Logic.{⊎-elim}
 use mathlib.Core.List.{List}
-use Prim.Native.Nat.{ℕ, _*_, _/_, _<_}
+use Prim.Native.Nat.{ℕ, zero, suc, _*_, _/_, _%_, _<_}
 use native.Mathlib.Omega.{arith}
 use Rattle.lists.specs.Arrays.{at}
 use Rattle.lists.proofs.Tests.{below?}
 use Rattle.plant.specs.declared.Plant.{Plant}
-use Rattle.plant.specs.Links.{first, second}
+use Rattle.plant.specs.Links.{side, first, second}
 use Rattle.limits.specs.Limits.{maxSwitches}
 use Rattle.limits.specs.Sound.{Sound}
 use Rattle.walks.specs.Arcs.{tail, head}
-use Rattle.walks.proofs.Live.{below-live}
-use Rattle.walks.proofs.Labels.{tail-even, head-even, tail-in, head-in}
-use Rattle.walks.proofs.Valid.{sound-valid}
+use Rattle.walks.proofs.Labels.{tail-even, head-even}
 use Rattle.arcs.proofs.Past.{tail-past, head-past}
+
+-- the ends of each link of the listing are switches, out of service or not
+side-in : (k x y n : ℕ) → x < n → y < n → side k x y < n
+side-in zero x y n h i = h
+side-in (suc k) x y n h i = i
+
+module _ (p : Plant) (sound : Sound p) (a : ℕ) (h : a < 2 * p .count) where
+  tail-listed : tail p a < p .switches
+  unfolding tail
+  tail-listed = side-in (a % 2) (first p (a / 2)) (second p (a / 2)) (p .switches) (sound .first-in (a / 2) (omega arith)) (sound .second-in (a / 2) (omega arith))
+
+  head-listed : head p a < p .switches
+  unfolding head
+  head-listed = side-in (a % 2) (second p (a / 2)) (first p (a / 2)) (p .switches) (sound .second-in (a / 2) (omega arith)) (sound .first-in (a / 2) (omega arith))
 
 module _ (p : Plant) (xs : List ℕ) where
   module _ (e : at xs ≡ tail p) where
@@ -24,7 +36,7 @@ module _ (p : Plant) (xs : List ℕ) where
 
     pub tail-place : Sound p → (a : ℕ) → at xs a < maxSwitches
     tail-place sound a =
-        ⊎-elim (λ h. omega (arith, ap (λ (f : ℕ → ℕ). f a) e, sound .few-switches, tail-in p (sound-valid p sound) a (below-live p (a / 2) (omega arith))))
+        ⊎-elim (λ h. omega (arith, ap (λ (f : ℕ → ℕ). f a) e, sound .few-switches, tail-listed p sound a h))
         (λ h. omega (arith, ap (λ (f : ℕ → ℕ). f a) e, tail-past p a h sound)) (below? a (2 * p .count))
 
   module _ (e : at xs ≡ head p) where
@@ -34,5 +46,5 @@ module _ (p : Plant) (xs : List ℕ) where
 
     pub head-place : Sound p → (a : ℕ) → at xs a < maxSwitches
     head-place sound a =
-        ⊎-elim (λ h. omega (arith, ap (λ (f : ℕ → ℕ). f a) e, sound .few-switches, head-in p (sound-valid p sound) a (below-live p (a / 2) (omega arith))))
+        ⊎-elim (λ h. omega (arith, ap (λ (f : ℕ → ℕ). f a) e, sound .few-switches, head-listed p sound a h))
         (λ h. omega (arith, ap (λ (f : ℕ → ℕ). f a) e, head-past p a h sound)) (below? a (2 * p .count))

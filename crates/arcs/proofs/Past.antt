@@ -3,7 +3,6 @@ use mathlib.Core.Path.{_≡_, refl, ap, _∙_}
 use mathlib.Core.Bool.{false}
 use Prim.Native.Nat.{ℕ, zero, suc, _*_, _/_, _%_, _≤_}
 use native.Mathlib.Omega.{arith}
-use borrow.Author.Tests.{le-ltb}
 use Rattle.plant.specs.declared.Link.{Link}
 use Rattle.plant.specs.declared.Plant.{Plant}
 use Rattle.plant.specs.Links.{first, side, live}
@@ -11,6 +10,7 @@ use Rattle.limits.specs.Sound.{Sound}
 use Rattle.lists.proofs.Tests.{and-comm}
 use Rattle.walks.specs.Arcs.{tail, head}
 use Rattle.walks.specs.Graph.{reachedFrom, bridge, bridgeFrom}
+use Rattle.walks.proofs.Live as links
 
 side-same : (k x : ℕ) → side k x x ≡ x
 side-same zero x = refl
@@ -18,8 +18,7 @@ side-same (suc k) x = refl
 
 module _ (p : Plant) (a : ℕ) (past : 2 * p .count ≤ a) where
   pub dead-past : live p (a / 2) ≡ false
-  unfolding live
-  dead-past = le-ltb (a / 2) (p .count) (omega arith)
+  dead-past = links.dead-past p (a / 2) (omega arith)
 
   module _ (sound : Sound p) where
     pub tail-past : tail p a ≡ 0
@@ -32,5 +31,5 @@ module _ (p : Plant) (a : ℕ) (past : 2 * p .count ≤ a) where
 
 -- a link past them is no bridge at a switch that is reached
 pub bridge-past : (p : Plant) (r l : ℕ) → p .count ≤ l → bridgeFrom p r l ≡ false
-unfolding bridge live
-bridge-past p r l h = and-comm (reachedFrom p r (first p l)) (bridge p l) ∙ rw (le-ltb l (p .count) h)
+unfolding bridge
+bridge-past p r l h = and-comm (reachedFrom p r (first p l)) (bridge p l) ∙ rw (links.dead-past p l h)

@@ -1,4 +1,4 @@
-// The arcs of a plant as arrays: their tails and heads, which of them take part, and the flagged ones of each switch by rising label; and the values that the crates of the plan
+// The arcs of a plant as arrays: their tails and heads, which of them are of links in service, and the flagged ones of each switch by rising label; and the values that the crates of the plan
 // hand to one another. Inner: no call of document 01 is here.
 use plant::Plant;
 use plant::head_of;
@@ -8,7 +8,7 @@ ghost use Prim.Native.Nat.{_*_, _≤_};
 ghost use Rattle.lists.specs.Arrays.{flag, at};
 ghost use Rattle.limits.specs.Limits.{maxLinks};
 ghost use Rattle.limits.specs.Sound.{Sound};
-ghost use Rattle.plant.specs.Links.{live};
+ghost use Rattle.plant.specs.Links.{outOfService, live};
 ghost use Rattle.walks.specs.Arcs.{opposite};
 ghost use Rattle.walks.specs.Graph.{liveLinks};
 ghost use Rattle.arcs.specs.Net.{Ends, AllArcs};
@@ -68,22 +68,43 @@ pub fn ends_of(p: Plant) -> ArcEnds
     ArcEnds { tails, heads }
 }
 
-// Does link l take part in the plant?
+// Is link l marked out of service? What is no place of a plant has no mark.
+fn is_out_of_service(p: Plant, l: usize) -> bool
+    ensures { λ r. ⌜ r ≡ outOfService p l ⌝ }
+{
+    if Plant::MAX_LINKS <= l {
+        return false;
+    }
+    p.links[l].out_of_service
+}
+
+// Is link l in service?
 pub fn is_live(p: Plant, l: usize) -> bool
     ensures { λ r. ⌜ r ≡ live p l ⌝ }
 {
-    let e = p.count as usize;
-    l < e
+    if p.count as usize <= l {
+        return false;
+    }
+    !is_out_of_service(p, l)
 }
 
-// E, the number of links that take part: all that are listed.
+// E, the number of links in service.
 pub fn links_in_service(p: Plant) -> u16
     ensures { λ r. ⌜ r ≡ liveLinks p ⌝ }
 {
-    p.count
+    let n = p.count;
+    let mut e: u16 = 0;
+    let mut l: u16 = 0;
+    while l < n {
+        if is_live(p, l as usize) {
+            e += 1;
+        }
+        l += 1;
+    }
+    e
 }
 
-// A flag for each label: does its link take part in the plant?
+// A flag for each label: is its link in service?
 pub fn all_arcs(p: Plant) -> [bool; Plant::LABELS]
     requires { ⌜ Sound p ⌝ }
     ensures { λ r. ⌜ AllArcs p r ⌝ }

@@ -154,6 +154,7 @@ fn link(s: &[u8], at: usize) -> Link {
         first: byte(s, at),
         second: byte(s, past(s, at, 1)),
         tag: number(s, past(s, at, 2)),
+        out_of_service: false,
     }
 }
 
@@ -177,4 +178,26 @@ pub fn plant(s: &[u8], at: usize) -> Plant {
 
 pub fn past_plant(s: &[u8], at: usize) -> usize {
     past(s, past(s, at, 6), 4 * (number(s, past(s, at, 4)) as usize))
+}
+
+// The plant with those link places out of service whose byte is not 0.
+fn marked(plant: Plant, marks: &[u8]) -> Plant {
+    let mut p = plant;
+    let mut i: usize = 0;
+    while i < Plant::MAX_LINKS {
+        if i < marks.len() {
+            p.links[i].out_of_service = marks[i] != 0;
+        }
+        i += 1;
+    }
+    p
+}
+
+// A plant, and a byte string with a byte for each link place that is given.
+pub fn marked_plant(s: &[u8], at: usize) -> Plant {
+    marked(plant(s, at), string(s, past_plant(s, at)))
+}
+
+pub fn past_marked_plant(s: &[u8], at: usize) -> usize {
+    past_string(s, past_plant(s, at))
 }

@@ -1,4 +1,4 @@
-// Calls 1 to 6, 18, 19 and 22 to 25 of the program `cases`: reading and writing a listing, its plan, and its buying page. Its main file has the table of cases.
+// Calls 1 to 6, 18, 19, 22 to 25, 28 and 29 of the program `cases`: reading and writing a listing, its plan, and its buying page. Its main file has the table of cases.
 use answers::Verdict;
 use caseform::checksum;
 use caseform::input;
@@ -18,7 +18,7 @@ fn show_plant(p: Plant) {
     show::next(p.count as u64);
     show::next(p.start as u64);
     show::word(b" ");
-    show::list(3 * (p.count as u64), checksum::of_links(p));
+    show::list(checksum::numbers_of_links(p), checksum::of_links(p));
 }
 
 fn show_decoded(d: Decoded) {
@@ -45,12 +45,14 @@ fn show_page(s: &[u8], at: usize, buffer: &mut [u8]) {
     show_written(planner::write_buying_page(input::string(s, at), spare, buffer));
 }
 
-// Call 2, 18, 19 or 23 with a lent buffer.
+// Call 2, 18, 19, 23, 28 or 29 with a lent buffer.
 fn show_call(call: u8, s: &[u8], at: usize, buffer: &mut [u8]) {
     match call {
         2 => show_written(planner::write(input::plant(s, at), buffer)),
         18 => show_written(planner::rewrite(input::string(s, at), buffer)),
         23 => show_page(s, at, buffer),
+        28 => show_written(planner::write(input::marked_plant(s, at), buffer)),
+        29 => show_decoded(planner::reread(input::marked_plant(s, at), buffer)),
         _ => show_decoded(planner::reread(input::plant(s, at), buffer)),
     }
 }
@@ -63,7 +65,7 @@ fn call_into(call: u8, s: &[u8], at: usize, buffer: &mut [u8]) {
     show::list(buffer.len() as u64, checksum::of_bytes(buffer));
 }
 
-// The buffer's length follows the plant, the listing or the spare.
+// The buffer's length follows the plant, its marks, the listing or the spare.
 fn call_lent(call: u8, s: &[u8], at: usize, from: usize) -> usize {
     let n = input::number(s, from) as usize;
     let mut buffer = input::byte_places();
@@ -196,6 +198,9 @@ fn page_read(page: &[u8]) {
 pub fn answer(call: u8, s: &[u8], at: usize) -> usize {
     if call == 2 || call == 19 {
         return call_lent(call, s, at, input::past_plant(s, at));
+    }
+    if call == 28 || call == 29 {
+        return call_lent(call, s, at, input::past_marked_plant(s, at));
     }
     if call == 6 || call == 25 {
         return trail(call, s, at);

@@ -33,9 +33,12 @@
 // 25 round trail     listing, buffer length                   hops
 // 26 round run       listing, switch, round trail, states     returned or lost, hops, last switch
 // 27 shorter trail   listing, switch, trail, round trail      trail or round, checksum of the labels handed back
+// 28 write marked    plant, marks, buffer length              length
+// 29 reread marked   plant, marks, buffer length              as of read
 //
 // A plant is its switches, links (two bytes) and start, a two-byte number of link places, and first end, second end and tag (two bytes) of each; the other link
-// places are zero. A refusal is the word `refused` and its number. The line of a call that is lent a buffer ends with the buffer's checksum after the call.
+// places are zero. Marks are a byte string, a byte for each link place from the first on: it is out of service if its byte is not 0, and in service where there is
+// none. The links that are read print as first end, second end and tag of each, and after the tag 255 if it is out of service. A refusal is the word `refused` and its number. The line of a call that is lent a buffer ends with the buffer's checksum after the call.
 // A list prints as its count, a colon and its checksum.
 mod searches;
 
@@ -47,7 +50,7 @@ ghost use Prim.Native.Nat.{_≤_};
 ghost use lib.ListN.{length};
 
 // The most bytes of input that are read.
-const INPUT: usize = 1950000;
+const INPUT: usize = 2080000;
 
 // Prints the answer of the case at a place; the place after it. A byte that is no call ends the input.
 fn answer(s: &[u8], at: usize) -> usize {

@@ -8,7 +8,7 @@ ghost use Rattle.codec.specs.Field.{number};
 ghost use Rattle.codec.specs.Part.{taken, size, rest};
 ghost use Rattle.codec.specs.Layout.{fieldsOf, Proper, ReadsField, Refuses, ReadsFields, ReadsPart};
 
-// A field of a part: its width in bytes, and the value that its absence means.
+// A field of a part: its width in bytes, and the value that its absence means. A bit with no field is one of no bytes: where it is set its value is 0.
 pub struct Field {
     pub width: usize,
     pub absent: u32,
@@ -21,7 +21,7 @@ pub struct Layout {
 }
 
 impl Layout {
-    pub const MOST: usize = 3;
+    pub const MOST: usize = 4;
 }
 
 // The values of a part by rising bit, and the place after it. At a refusal the values are 0 and the place is that of the part.

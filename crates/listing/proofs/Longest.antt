@@ -1,5 +1,6 @@
 -- The longest sound listing has 1,285 bytes: none is longer, and one is as long. Assumes nothing.
 use mathlib.Core.Path.{_≡_, refl, ap}
+use mathlib.Core.Bool.{false}
 use mathlib.Core.List.{List, [], _∷_}
 use Prim.Native.Nat.{ℕ, zero, suc, _+_, _*_, _^_, _≤_, _<_}
 use native.Mathlib.Omega.{arith}
@@ -58,7 +59,7 @@ alternating zero a b = []
 alternating (suc n) a b = a ∷ alternating n b a
 
 unfoldable pub longestPlant : Plant
-longestPlant = record { switches = maxSwitches; count = maxLinks; start = 1; links = alternating maxLinks (linkOf 1 2 1) (linkOf 2 1 1) }
+longestPlant = record { switches = maxSwitches; count = maxLinks; start = 1; links = alternating maxLinks (linkOf 1 2 1 false) (linkOf 2 1 1 false) }
 
 alternating-tags : (n : ℕ) (a b : Link) → a .tag < 2 ^ 16 → b .tag < 2 ^ 16 → Each (λ l. l .tag < 2 ^ 16) (alternating n a b)
 alternating-tags zero a b h k = tt
@@ -68,7 +69,7 @@ longest-typed : Typed longestPlant
 unfolding longestPlant
 longest-typed = record {
   places = refl;
-  tags = each-at (λ l. l .tag < 2 ^ 16) (alternating maxLinks (linkOf 1 2 1) (linkOf 2 1 1)) zeroLink (alternating-tags maxLinks (linkOf 1 2 1) (linkOf 2 1 1) (omega arith) (omega arith));
+  tags = each-at (λ l. l .tag < 2 ^ 16) (alternating maxLinks (linkOf 1 2 1 false) (linkOf 2 1 1 false)) zeroLink (alternating-tags maxLinks (linkOf 1 2 1 false) (linkOf 2 1 1 false) (omega arith) (omega arith));
 }
 
 longest-sound : Sound longestPlant

@@ -5,6 +5,7 @@ use mathlib.Core.List.{List, [], _∷_, _++_, append-assoc, append-nil}
 use Prim.Native.Nat.{ℕ, suc, _+_, _-_, _^_, _≤_, _<_}
 use native.Mathlib.Omega.{arith}
 use borrow.Author.Tests.{lt-ltb, le-ltb}
+use lib.Dec.{eqb}
 use Rattle.lists.proofs.Padded.{padded-length, padded-put}
 use lib.ListN.{length, getD, take, drop, set, length-append, length-drop}
 use lib.Seq.{getD-take, getD-set-same}
@@ -26,20 +27,8 @@ use Rattle.codec.proofs.PartRoundTrip.{hold-at, hold-fits, bytes-drop, part-rea
 use Rattle.codec.proofs.PartLaws.{part-given, part-refused}
 use Rattle.listing.specs.declared.Record.{Record}
 use Rattle.listing.specs.declared.Record.the-variants as record-is
-use Rattle.listing.specs.Listing.{field, headerFields, linkFields, valueOutOfRange, headerOutOfRange, headerFrom, header, linkOf, linkFrom, soundLink, link, links, withLinks, linked, bytesRemain, ended}
+use Rattle.listing.specs.Listing.{field, noBytes, headerFields, linkFields, valueOutOfRange, headerOutOfRange, headerFrom, header, linkOf, linkFrom, soundLink, link, links, withLinks, linked, bytesRemain, ended}
 use Rattle.listing.specs.Steps.{recordAnswer, judgedLink}
-
--- ---- the first three values of a part
-
-module _ (vs : List ℕ) where
-  at-0 : getD (take 3 vs) 0 0 ≡ getD vs 0 0
-  at-0 = getD-take 3 vs 0 0 (omega arith)
-
-  at-1 : getD (take 3 vs) 1 0 ≡ getD vs 1 0
-  at-1 = getD-take 3 vs 1 0 (omega arith)
-
-  at-2 : getD (take 3 vs) 2 0 ≡ getD vs 2 0
-  at-2 = getD-take 3 vs 2 0 (omega arith)
 
 -- ---- the header at `at`, of which the code answers r
 
@@ -56,7 +45,7 @@ module _ {most : ℕ} {l : Layout} {s : List ℕ} {at : ℕ} {r : Part} (y : Lay
     unfolding header judgeHeader
     header-values =
         goes-on (part headerFields (drop at s)) judgeHeader (take 3 (r .values), drop (r .next) s) (part-given y p ok)
-        ∙ rw (at-0 (r .values), at-1 (r .values), at-2 (r .values), is) refl
+        ∙ rw (getD-take 3 (r .values) 0 0 (omega arith), getD-take 3 (r .values) 1 0 (omega arith), getD-take 3 (r .values) 2 0 (omega arith), is) refl
 
     pub header-range : b ≡ true → answer (header (drop at s)) ≡ refused 5
     header-range e = rw e at header-values
@@ -74,21 +63,28 @@ module _ (before : Link) {most : ℕ} {l : Layout} {s : List ℕ} {at : ℕ} {r 
   unfolding link judgeLink
   link-stops switches k e = sym (stops (part (linkFields before) (drop at s)) (judgeLink switches) (numberOf k) (part-refused y p k e))
 
+  -- the value of field i
+  abbrev value : ℕ → ℕ
+  value i = getD (r .values) i 0
+
+  value-at : (i : ℕ) → i < 4 → getD (take 4 (r .values)) i 0 ≡ value i
+  value-at i h = getD-take 4 (r .values) i 0 h
+
   module _ (ok : r .verdict ≡ verdict.Accepted) where
-    pub link-values : (switches : ℕ) → judgedLink switches (linkOf (getD (r .values) 0 0) (getD (r .values) 1 0) (getD (r .values) 2 0)) (drop (r .next) s) ≡ answer (link switches before (drop at s))
+    pub link-values : (switches : ℕ) → judgedLink switches (linkOf (value 0) (value 1) (value 2) (eqb (value 3) 0)) (drop (r .next) s) ≡ answer (link switches before (drop at s))
     unfolding link judgeLink
     link-values switches =
-        let k = linkFrom (take 3 (r .values)) in
+        let k = linkFrom (take 4 (r .values)) in
         sym
-        (goes-on (part (linkFields before) (drop at s)) (judgeLink switches) (take 3 (r .values), drop (r .next) s) (part-given y p ok)
+        (goes-on (part (linkFields before) (drop at s)) (judgeLink switches) (take 4 (r .values), drop (r .next) s) (part-given y p ok)
         ∙ then-is (soundLink switches k) (λ _. check [] (k, drop (r .next) s))
-        ∙ rw (at-0 (r .values), at-1 (r .values), at-2 (r .values)) refl)
+        ∙ rw (value-at 0 (omega arith), value-at 1 (omega arith), value-at 2 (omega arith), value-at 3 (omega arith)) refl)
 
     -- the tag fits two bytes
-    pub tag-fits : Bytes s → getD (r .values) 2 0 < 2 ^ 16
+    pub tag-fits : Bytes s → value 2 < 2 ^ 16
     tag-fits h =
-        let w = part-read (linkFields before) (drop at s) (take 3 (r .values)) (drop (r .next) s) (bytes-drop at s h) (part-given y p ok) in
-        rw (at-2 (r .values)) at (hold-fits (field 2 0) (getD (take 3 (r .values)) 2 0) (omega arith) (hold-at (linkFields before) (take 3 (r .values)) (w .hold) 2 (field 0 0) (omega arith)))
+        let w = part-read (linkFields before) (drop at s) (take 4 (r .values)) (drop (r .next) s) (bytes-drop at s h) (part-given y p ok) in
+        rw (value-at 2 (omega arith)) at (hold-fits (field 2 0) (getD (take 4 (r .values)) 2 0) (omega arith) (hold-at (linkFields before) (take 4 (r .values)) (w .hold) 2 noBytes (omega arith)))
 
 -- ---- the loop over the links: what is left of them, after those that are read, gives what all of them give
 

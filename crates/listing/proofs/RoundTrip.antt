@@ -1,16 +1,19 @@
 -- The round trip of listings: a plant that was read is sound and is written as the same bytes; a sound plant that was written is read as the same plant.
 -- Assumes nothing.
 use mathlib.Core.Path.{_≡_, refl, sym, ap, ap₂, _∙_, subst}
-use mathlib.Core.Logic.{inr}
+use mathlib.Core.Logic.{inl, inr}
+use mathlib.Core.Bool.{Bool, true, false, not}
 use mathlib.Core.List.{List, [], _∷_, _++_, append-assoc, append-nil}
 use Prim.Native.Nat.{ℕ, zero, suc, _-_, _≤_}
 use native.Mathlib.Omega.{arith}
-use lib.ListN.{length, replicate, take-append-drop}
+use lib.Dec.{eqb}
+use lib.ListN.{length, getD, replicate, take-append-drop}
 use lib.Seq.{take-at, drop-at}
 use Rattle.lists.specs.Members.{Each}
+use Rattle.lists.specs.Count.{bit}
 use Rattle.plant.specs.declared.Link.{Link}
 use Rattle.plant.specs.declared.Plant.{Plant}
-use Rattle.plant.specs.Links.{zeroLink, plantWith}
+use Rattle.plant.specs.Links.{zeroLink, marked, plantWith}
 use Rattle.answers.specs.Answers.{given}
 use Rattle.answers.specs.Checks.{NoneHolds, check, answer, _then_}
 use Rattle.answers.proofs.Checks.{none-append, none-trying, given-exactly, goes-on}
@@ -18,13 +21,25 @@ use Rattle.limits.specs.Limits.{maxSwitches, maxLinks}
 use Rattle.limits.specs.Sound.{Sound}
 use Rattle.codec.specs.Field.{Bytes}
 use Rattle.codec.specs.Part.{fieldValues, part, partBytes}
-use Rattle.codec.proofs.PartRoundTrip.{hold-fits, Whole, part-again, part-written, bytes-append, part-bytes}
-use Rattle.listing.specs.Listing.{field, headerFields, linkFields, headerOutOfRange, headerFrom, header, linkFrom, soundLink, link, links, bytesRemain, withLinks, linked, ended, reading, linksOf, headerBytes, linkBytes, linksBytes, encode}
+use Rattle.codec.proofs.PartRoundTrip.{CanHold, hold-fits, Whole, part-again, part-written, bytes-append, part-bytes}
+use Rattle.listing.specs.Listing.{field, noBytes, headerFields, linkFields, headerOutOfRange, headerFrom, header, linkFrom, soundLink, link, links, bytesRemain, withLinks, linked, ended, reading, linksOf, headerBytes, linkValues, linkBytes, linksBytes, encode}
 use Rattle.listing.proofs.ReadLaws.{places}
 use Rattle.listing.proofs.ConditionLaws.{no-byte-remains}
 use Rattle.listing.proofs.SoundLaws.{InRange, in-range, sound-ends, Fitting, Parts, length-links, sound-parts, parts-sound, range-in, ends-sound}
 
 -- ---- what was read is sound, and is written again as it stands
+
+-- a link is made from its values, and its values from those that a record can hold
+mark-read : (b : Bool) → eqb (bit (not b)) 0 ≡ b
+mark-read true = refl
+mark-read false = refl
+
+link-same : (l : Link) → linkFrom (linkValues l) ≡ l
+link-same l = ap (λ (b : Bool). marked b l) (mark-read (l .«out_of_service»))
+
+mark-same : (v : ℕ) → CanHold noBytes v → bit (not (eqb v 0)) ≡ v
+mark-same v (inl e) = rw e refl
+mark-same v (inr k) = let z : v ≡ 0 = omega arith in rw z refl
 
 -- one record
 record LinkRead (before : Link) (s : List ℕ) (switches : ℕ) (r : Link × List ℕ) : Type 0 where
@@ -40,7 +55,7 @@ link-read switches before s h c =
     let r = part-again (linkFields before) s h (q .0) in
     record {
       fitting = record { ends = sound-ends switches l (none-trying (soundLink switches l .checks) (given tt) (q .1)); tag-fits = hold-fits (field 2 0) (l .tag) (omega arith) (r .hold .1 .1 .0) };
-      again = r .again;
+      again = rw (mark-same (getD (fieldValues (linkFields before) s) 3 0) (r .hold .1 .1 .1 .0)) (r .again);
       bytes-after = r .bytes-after;
     }
 
@@ -154,7 +169,7 @@ read-write s p b e = let r = given-exactly (reading s .checks) (reading s .resul
 links-bytes : (before : Link) (ls : List Link) → Bytes (linksBytes before ls)
 unfolding linkBytes
 links-bytes before [] = tt
-links-bytes before (l ∷ ls) = bytes-append (linkBytes before l) (linksBytes l ls) (part-bytes (linkFields before) (l .first ∷ l .second ∷ l .tag ∷ []) (omega arith)) (links-bytes l ls)
+links-bytes before (l ∷ ls) = bytes-append (linkBytes before l) (linksBytes l ls) (part-bytes (linkFields before) (linkValues l) (omega arith)) (links-bytes l ls)
 
 pub encode-bytes : (p : Plant) → Bytes (encode p)
 unfolding encode headerBytes
@@ -163,11 +178,16 @@ encode-bytes p = bytes-append (headerBytes p) (linksBytes zeroLink (linksOf p)) 
 -- ---- what was written is read
 
 module _ (switches : ℕ) (few : switches ≤ maxSwitches) where
+  mark-held : (b : Bool) → CanHold noBytes (bit (not b))
+  mark-held true = inr (omega arith)
+  mark-held false = inl refl
+
   link-written : (before l : Link) (rest : List ℕ) → Fitting switches l → answer (link switches before (linkBytes before l ++ rest)) ≡ given (l, rest)
   unfolding link linkBytes
   link-written before l rest r =
-      goes-on (part (linkFields before) (linkBytes before l ++ rest)) (λ q. soundLink switches (linkFrom (q .0)) then λ _. check [] (linkFrom (q .0), q .1)) (l .first ∷ l .second ∷ l .tag ∷ [], rest)
-      (part-written (linkFields before) (l .first ∷ l .second ∷ l .tag ∷ []) rest (inr (omega (arith, r .ends .first-in)), (inr (omega (arith, r .ends .second-in)), (inr (omega (arith, r .tag-fits)), tt))))
+      goes-on (part (linkFields before) (linkBytes before l ++ rest)) (λ q. soundLink switches (linkFrom (q .0)) then λ _. check [] (linkFrom (q .0), q .1)) (linkValues l, rest)
+      (part-written (linkFields before) (linkValues l) rest (inr (omega (arith, r .ends .first-in)), (inr (omega (arith, r .ends .second-in)), (inr (omega (arith, r .tag-fits)), (mark-held (l .«out_of_service»), tt)))))
+      ∙ ap (λ (k : Link). answer (soundLink switches k then λ _. check [] (k, rest))) (link-same l)
       ∙ goes-on (soundLink switches l) (λ _. check [] (l, rest)) tt (ends-sound switches l (r .ends))
 
   links-written : (before : Link) (ls : List Link) → Each (Fitting switches) ls → answer (links switches (length ls) before (linksBytes before ls)) ≡ given (ls, [])

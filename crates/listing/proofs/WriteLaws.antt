@@ -24,16 +24,16 @@ use Rattle.codec.specs.declared.Layout.{Layout}
 use Rattle.codec.specs.Part.{partBytes}
 use Rattle.codec.specs.Layout.{fieldsOf, Lays}
 use Rattle.codec.proofs.Taken.{drop-next}
-use Rattle.listing.specs.Listing.{headerFields, linkFields, valueOutOfRange, soundLink, linksOf, headerBytes, linkBytes, linksBytes, encode}
+use Rattle.listing.specs.Listing.{headerFields, linkFields, valueOutOfRange, soundLink, linksOf, headerBytes, linkValues, linkBytes, linksBytes, encode}
 use Rattle.listing.specs.Writing.{isZero, plantOutOfRange, soundLinks, soundPlant, bufferShort, writing, bufferAfter}
 
 -- the bytes of a header and of a link with the values vs, by the layout
 module _ {most : ℕ} {l : Layout} {vs : List ℕ} where
-  pub header-by : (p : Plant) → Lays most headerFields l → vs ≡ p .switches ∷ p .count ∷ p .start ∷ [] → partBytes (fieldsOf l) vs ≡ headerBytes p
-  unfolding headerBytes
+  pub header-by : (p : Plant) → Lays most headerFields l → vs ≡ p .switches ∷ p .count ∷ p .start ∷ 0 ∷ [] → partBytes (fieldsOf l) vs ≡ headerBytes p
+  unfolding headerBytes partBytes
   header-by p y e = rw (y .fields, e) refl
 
-  pub link-by : (before k : Link) → Lays most (linkFields before) l → vs ≡ k .first ∷ k .second ∷ k .tag ∷ [] → partBytes (fieldsOf l) vs ≡ linkBytes before k
+  pub link-by : (before k : Link) → Lays most (linkFields before) l → vs ≡ linkValues k → partBytes (fieldsOf l) vs ≡ linkBytes before k
   unfolding linkBytes
   link-by before k y e = rw (y .fields, e) refl
 

@@ -5,7 +5,7 @@ use mathlib.Core.Bool.{true, false, not, _&&_}
 use mathlib.Core.List.{List, [], _∷_, _++_}
 use Prim.Native.Nat.{ℕ, zero, suc, _-_, _≤_, _<_}
 use native.Mathlib.Omega.{arith}
-use borrow.Author.Tests.{le-ltb, ltb-false, eqb-true, not-false}
+use borrow.Author.Tests.{le-ltb, ltb-false, eqb-true, not-true, not-false}
 use lib.Dec.{eqb}
 use lib.ListN.{length, getD, take, drop, replicate, length-append, length-drop}
 use lib.Seq.{take-at, getD-take}
@@ -50,9 +50,10 @@ writer-numbers p b n e = first-number OfWriter (writing p b .checks) n numbers (
 zero-is : (l : Link) → isZero l ≡ true → l ≡ zeroLink
 unfolding isZero
 zero-is l e =
-    let q = and-true (eqb (l .first) 0) (eqb (l .second) 0 && eqb (l .tag) 0) e in
-    let r = and-true (eqb (l .second) 0) (eqb (l .tag) 0) (q .1) in
-    λ i. record { first = eqb-true (l .first) 0 (q .0) i; second = eqb-true (l .second) 0 (r .0) i; tag = eqb-true (l .tag) 0 (r .1) i }
+    let q = and-true (eqb (l .first) 0) (eqb (l .second) 0 && (eqb (l .tag) 0 && not (l .«out_of_service»))) e in
+    let r = and-true (eqb (l .second) 0) (eqb (l .tag) 0 && not (l .«out_of_service»)) (q .1) in
+    let u = and-true (eqb (l .tag) 0) (not (l .«out_of_service»)) (r .1) in
+    λ i. record { first = eqb-true (l .first) 0 (q .0) i; second = eqb-true (l .second) 0 (r .0) i; tag = eqb-true (l .tag) 0 (u .0) i; «out_of_service» = not-true (l .«out_of_service») (u .1) i }
 
 all-zero : (ls : List Link) → all isZero ls ≡ true → ls ≡ replicate (length ls) zeroLink
 all-zero [] e = refl

@@ -1,9 +1,10 @@
--- The listing (document 01, "Listing bytes" and refusals 1 to 8): from bytes to a plant, and from a plant to bytes.
+-- The listing (document 01, "Listing bytes" and refusals 1 to 8; document 02, order 7, the mark of a link): from bytes to a plant, and from a plant to bytes.
 use mathlib.Core.Bool.{Bool, not, _&&_}
 use mathlib.Core.List.{List, [], _∷_, _++_}
 use Prim.Native.Nat.{ℕ, zero, suc}
 use lib.Dec.{eqb, leb, ltb}
 use lib.ListN.{length, getD, take}
+use Rattle.lists.specs.Count.{bit}
 use Rattle.lists.specs.Padded.{padded}
 use Rattle.plant.specs.declared.Link.{Link}
 use Rattle.plant.specs.declared.Plant.{Plant}
@@ -22,9 +23,13 @@ field width absent = record { width = width; absent = absent }
 abbrev pub headerFields : List Field
 headerFields = field 1 1 ∷ field 2 0 ∷ field 1 0 ∷ []
 
--- first end, second end, tag; an absent end is that of the record before
+-- a bit with no field: a field of no bytes, in which the number is 0; its absence means 1
+abbrev pub noBytes : Field
+noBytes = field 0 1
+
+-- first end, second end, tag; an absent end is that of the record before. Bit 3 has no field and marks the link out of service: the value is 0 then, and else 1
 abbrev pub linkFields : Link → List Field
-linkFields before = field 1 (before .first) ∷ field 1 (before .second) ∷ field 2 0 ∷ []
+linkFields before = field 1 (before .first) ∷ field 1 (before .second) ∷ field 2 0 ∷ noBytes ∷ []
 
 -- ---- the conditions of refusals 5 to 8
 
@@ -47,11 +52,11 @@ bytesRemain s = ltb 0 (length s)
 
 -- ---- reading: each step tries what concerns it and gives what it read, with the bytes after it
 
-abbrev pub linkOf : ℕ → ℕ → ℕ → Link
-linkOf first second tag = record { first = first; second = second; tag = tag }
+abbrev pub linkOf : ℕ → ℕ → ℕ → Bool → Link
+linkOf first second tag mark = record { first = first; second = second; tag = tag; «out_of_service» = mark }
 
 abbrev pub linkFrom : List ℕ → Link
-linkFrom vs = linkOf (getD vs 0 0) (getD vs 1 0) (getD vs 2 0)
+linkFrom vs = linkOf (getD vs 0 0) (getD vs 1 0) (getD vs 2 0) (eqb (getD vs 3 0) 0)
 
 abbrev pub headerOutOfRange : List ℕ → Bool
 headerOutOfRange vs = valueOutOfRange (getD vs 0 0) (getD vs 1 0) (getD vs 2 0)
@@ -105,8 +110,15 @@ linksOf p = take (p .count) (p .links)
 unfoldable pub headerBytes : Plant → List ℕ
 headerBytes p = partBytes headerFields (p .switches ∷ p .count ∷ p .start ∷ [])
 
+-- 1 in service, 0 out of service
+abbrev pub service : Link → ℕ
+service l = bit (not (l .«out_of_service»))
+
+abbrev pub linkValues : Link → List ℕ
+linkValues l = l .first ∷ l .second ∷ l .tag ∷ service l ∷ []
+
 unfoldable pub linkBytes : Link → Link → List ℕ
-linkBytes before l = partBytes (linkFields before) (l .first ∷ l .second ∷ l .tag ∷ [])
+linkBytes before l = partBytes (linkFields before) (linkValues l)
 
 abbrev pub linksBytes : Link → List Link → List ℕ
 linksBytes before [] = []

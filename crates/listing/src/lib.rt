@@ -8,8 +8,10 @@ use codec::read_part;
 use plant::Link;
 use plant::Plant;
 ghost use mathlib.Core.Path.{_≡_};
+ghost use mathlib.Core.Bool.{Bool};
 ghost use mathlib.Core.List.{List, [], _∷_};
 ghost use Prim.Native.Nat.{ℕ, _+_, _^_, _≤_, _<_};
+ghost use lib.Dec.{eqb};
 ghost use lib.ListN.{drop};
 ghost use Rattle.plant.specs.Links.{plantWith};
 ghost use Rattle.answers.specs.Answers.{Answer, refused, numberOf, verdictAnswer};
@@ -66,6 +68,18 @@ fn three(first: Field, second: Field, third: Field) -> Layout
     Layout { count: 3, fields }
 }
 
+// The same with four.
+fn four(first: Field, second: Field, third: Field, fourth: Field) -> Layout
+    requires { ⌜ (first .width ≤ 4) × (second .width ≤ 4) × (third .width ≤ 4) × (fourth .width ≤ 4) ⌝ }
+    ensures { λ r. do ⌜ Lays (← ⟦Layout::MOST⟧ .entry) (first ∷ second ∷ third ∷ fourth ∷ []) r ⌝ }
+{
+    let mut fields = [first; Layout::MOST];
+    fields[1] = second;
+    fields[2] = third;
+    fields[3] = fourth;
+    Layout { count: 4, fields }
+}
+
 // The fields of a header: switch count, link count, start.
 pub fn header_layout() -> Layout
     ensures { λ r. do ⌜ Lays (← ⟦Layout::MOST⟧ .entry) headerFields r ⌝ }
@@ -85,7 +99,7 @@ pub fn header_layout() -> Layout
     three(first, second, third)
 }
 
-// The fields of a link after the record `before`: first end, second end, tag.
+// The fields of a link after the record `before`: first end, second end, tag, and of no bytes whether it is in service.
 pub fn link_layout(before: Link) -> Layout
     ensures { λ r. do ⌜ Lays (← ⟦Layout::MOST⟧ .entry) (linkFields before) r ⌝ }
 {
@@ -101,7 +115,11 @@ pub fn link_layout(before: Link) -> Layout
         width: 2,
         absent: 0,
     };
-    three(first, second, third)
+    let fourth = Field {
+        width: 0,
+        absent: 1,
+    };
+    four(first, second, third, fourth)
 }
 
 // Refusal 5's condition on the values of a header.
@@ -165,7 +183,7 @@ pub fn read_header(s: &[u8], at: usize) -> Header
 
 // Refusals 6 and 7 of a link with these ends.
 pub fn judge_ends(first: u32, second: u32, switches: u8) -> Verdict
-    ensures { λ r. ⌜ ((tag : ℕ) → verdictAnswer r ≡ answer (soundLink switches (linkOf first second tag))) ⌝ }
+    ensures { λ r. ⌜ ((tag : ℕ) (mark : Bool) → verdictAnswer r ≡ answer (soundLink switches (linkOf first second tag mark))) ⌝ }
 {
     let most = switches as u32;
     if most <= first {
@@ -180,10 +198,10 @@ pub fn judge_ends(first: u32, second: u32, switches: u8) -> Verdict
     Verdict::Accepted
 }
 
-// The ends and the tag of a link, judged.
-fn judge_link(first: u32, second: u32, tag: u32, switches: u8, next: usize) -> Record
+// The values of a link, judged by its ends; a service of 0 is the mark.
+fn judge_link(first: u32, second: u32, tag: u32, service: u32, switches: u8, next: usize) -> Record
     requires { ⌜ tag < 2 ^ 16 ⌝ }
-    ensures { λ r. ⌜ ((s : List ℕ) → recordAnswer s r ≡ judgedLink switches (linkOf first second tag) (drop next s)) ⌝ }
+    ensures { λ r. ⌜ ((s : List ℕ) → recordAnswer s r ≡ judgedLink switches (linkOf first second tag (eqb service 0)) (drop next s)) ⌝ }
 {
     match judge_ends(first, second, switches) {
         Verdict::Accepted => {
@@ -191,6 +209,7 @@ fn judge_link(first: u32, second: u32, tag: u32, switches: u8, next: usize) -> R
                 first: first as u8,
                 second: second as u8,
                 tag: tag as u16,
+                out_of_service: service == 0,
             };
             Record::Link(l, next)
         }
@@ -206,7 +225,7 @@ fn read_link(s: &[u8], at: usize, before: Link, switches: u8) -> Record
     let verdict = part.verdict;
     let vs = part.values;
     match verdict {
-        Verdict::Accepted => judge_link(vs[0], vs[1], vs[2], switches, part.next),
+        Verdict::Accepted => judge_link(vs[0], vs[1], vs[2], vs[3], switches, part.next),
         Verdict::Refused(k) => Record::Refused(k),
     }
 }

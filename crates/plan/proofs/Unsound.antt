@@ -1,6 +1,7 @@
 -- A plant value that is not sound can have a rule whose sending switch is not one of its S, here of one switch and a link from it to another. The total over the S switches
 -- alone is then less than that over labels; the total over all that send is the same. Assumes nothing.
 use mathlib.Core.Path.{_≡_, refl}
+use mathlib.Core.Bool.{false}
 use mathlib.Core.List.{[], _∷_}
 use Rattle.lists.specs.Count.{count}
 use Rattle.lists.specs.Sum.{sum}
@@ -14,7 +15,7 @@ use Rattle.senders.specs.Senders.{sentBy, bySwitch}
 use Rattle.plan.specs.Plan.{arcsUsed, rulesOf, tableOf}
 
 abbrev outside : Plant
-outside = record { switches = 1; count = 1; start = 0; links = record { first = 0; second = 1; tag = 0 } ∷ [] }
+outside = record { switches = 1; count = 1; start = 0; links = record { first = 0; second = 1; tag = 0; «out_of_service» = false } ∷ [] }
 
 over-own : sum (outside .switches) (sentBy (rulesOf outside)) ≡ 1
 unfolding sum sentBy rulesIn usedFrom bridge visitFrom arcs others visit scan tail head live

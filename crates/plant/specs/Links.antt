@@ -1,13 +1,17 @@
--- The link places of a plant: the zero place, a plant with zeros in all places, and the ends of a link by its number.
+-- The link places of a plant: the zero place, a plant with zeros in all places, and by its number the ends of a link and whether it is in service.
 use Prim.Native.Nat.{ℕ, zero, suc}
-use mathlib.Core.Bool.{Bool}
+use mathlib.Core.Bool.{Bool, false, not, _&&_}
 use lib.Dec.{ltb}
 use lib.ListN.{getD, replicate}
 use Rattle.plant.specs.declared.Link.{Link}
 use Rattle.plant.specs.declared.Plant.{Plant}
 
 abbrev pub zeroLink : Link
-zeroLink = record { first = 0; second = 0; tag = 0 }
+zeroLink = record { first = 0; second = 0; tag = 0; «out_of_service» = false }
+
+-- the link with this mark
+abbrev pub marked : Bool → Link → Link
+marked b l = record { first = l .first; second = l .second; tag = l .tag; «out_of_service» = b }
 
 -- a plant with so many link places, all zero
 unfoldable pub plantWith : ℕ → ℕ → ℕ → ℕ → Plant
@@ -28,6 +32,10 @@ module _ (p : Plant) where
   abbrev pub second : ℕ → ℕ
   second l = linkAt l .second
 
-  -- does link l take part in the plant?
+  -- 'laid up' in document 02, order 7
+  abbrev pub outOfService : ℕ → Bool
+  outOfService l = linkAt l .«out_of_service»
+
+  -- is link l in service? It is one of the listing, and not marked: it takes part in the plant
   unfoldable pub live : ℕ → Bool
-  live l = ltb l (p .count)
+  live l = ltb l (p .count) && not (outOfService l)

@@ -4,11 +4,13 @@ ghost use mathlib.Core.Path.{_≡_};
 ghost use Prim.Native.Nat.{_%_};
 ghost use Rattle.plant.specs.Links.{zeroLink, plantWith, side};
 
-// A two-way link between two switches, with its cable tag. Label 2 * l crosses link l from its first end to its second, and 2 * l + 1 crosses it back.
+// A two-way link between two switches, with its cable tag. Label 2 * l crosses link l from its first end to its second, and 2 * l + 1 crosses it back. A link can be
+// out of service (document 02, order 7: laid up): it keeps its number and its labels, and joins nothing.
 pub struct Link {
     pub first: u8,
     pub second: u8,
     pub tag: u16,
+    pub out_of_service: bool,
 }
 
 // Switches are numbered from 0, and so are links. `count` places of `links` are in use; the others are zero.
@@ -28,6 +30,7 @@ impl Link {
             first: 0,
             second: 0,
             tag: 0,
+            out_of_service: false,
         }
     }
 }

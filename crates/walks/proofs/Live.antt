@@ -1,30 +1,42 @@
--- Which links take part in a plant: every link below its count. Assumes nothing.
--- The theory uses no more of `live` than `live-below`.
-use mathlib.Core.Path.{_≡_}
-use mathlib.Core.Logic.{_↔_}
-use mathlib.Core.Bool.{true}
-use Prim.Native.Nat.{ℕ, _<_}
-use lib.Dec.{T, ltb→lt, lt→ltb}
-use Rattle.lists.proofs.Tests.{T-true, true-T}
+-- Which links are in service: those of the listing that have no mark. Assumes nothing.
+-- Of a link in service the theory uses no more than that it is one of the listing (`live-below`).
+use mathlib.Core.Path.{_≡_, refl, _∙_}
+use mathlib.Core.Logic.{⊎-elim}
+use mathlib.Core.Bool.{Bool, true, false, not, _&&_}
+use Prim.Native.Nat.{ℕ, _≤_, _<_}
+use borrow.Author.Tests.{lt-ltb, le-ltb}
+use lib.Dec.{T, ltb, ltb→lt}
+use Rattle.lists.proofs.Tests.{and-left, and-comm, true-T, below?}
 use Rattle.lists.proofs.Count.{count-every}
 use Rattle.plant.specs.declared.Plant.{Plant}
-use Rattle.plant.specs.Links.{live}
+use Rattle.plant.specs.Links.{outOfService, live}
 use Rattle.walks.specs.Graph.{liveLinks}
 
 module _ (p : Plant) where
   pub live-below : (l : ℕ) → T (live p l) → l < p .count
   unfolding live
-  live-below l t = ltb→lt l (p .count) t
+  live-below l t = ltb→lt l (p .count) (and-left (ltb l (p .count)) (not (outOfService p l)) t)
 
-  -- ---- what holds while no link is left out
+  -- ---- which are not
 
-  pub below-live : (l : ℕ) → l < p .count → T (live p l)
+  pub dead-past : (l : ℕ) → p .count ≤ l → live p l ≡ false
   unfolding live
-  below-live l h = lt→ltb l (p .count) h
+  dead-past l h = rw (le-ltb l (p .count) h) refl
 
-  pub live-is : (l : ℕ) → (live p l ≡ true) ↔ (l < p .count)
-  live-is l = (λ e. live-below l (true-T (live p l) e), λ h. T-true (live p l) (below-live l h))
+  pub dead-marked : (l : ℕ) → outOfService p l ≡ true → live p l ≡ false
+  unfolding live
+  dead-marked l e = and-comm (ltb l (p .count)) (not (outOfService p l)) ∙ rw e refl
 
-  pub all-live : liveLinks p ≡ p .count
-  unfolding liveLinks
-  all-live = count-every (p .count) (live p) below-live
+  -- ---- of a plant without a mark every link of the listing is in service
+
+  module _ (none : (l : ℕ) → l < p .count → outOfService p l ≡ false) where
+    all-live : (l : ℕ) → live p l ≡ ltb l (p .count)
+    unfolding live
+    all-live l = ⊎-elim (λ h. rw (none l h, lt-ltb l (p .count) h) refl) (λ h. rw (le-ltb l (p .count) h) refl) (below? l (p .count))
+
+    pub live-all : live p ≡ λ l. ltb l (p .count)
+    live-all = λ j l. all-live l j
+
+    pub links-all : liveLinks p ≡ p .count
+    unfolding liveLinks
+    links-all = count-every (p .count) (live p) (λ l h. true-T (live p l) (all-live l ∙ lt-ltb l (p .count) h))

@@ -5,17 +5,22 @@ use mathlib.Core.List.{List, [], _∷_, map, reverse}
 use Prim.Native.Nat.{ℕ, _*_}
 use lib.ListN.{length}
 use Rattle.lists.specs.Count.{count}
+use Rattle.lists.specs.Members.{memb}
 use Rattle.lists.specs.Numbers.{range, keep, every}
 use Rattle.plant.specs.declared.Plant.{Plant}
-use Rattle.plant.specs.Links.{live}
+use Rattle.plant.specs.Links.{marked, linkAt, live}
 use Rattle.walks.specs.Visit.{scan, visit}
 use Rattle.walks.specs.Arcs.{opposite, tail, head}
 use Rattle.walks.specs.Graph.{arcs, others, visitFrom, bridge, visitedFrom, reachedFrom, usedFrom}
 use Rattle.walks.specs.Round.{walkAt, tour, roundFrom}
 
--- the ends of the links, first and second. Its start plays no part here
+-- the ends of the links, first and second, all in service. Its start plays no part here
 abbrev pub plantOf : ℕ → List (ℕ × ℕ) → Plant
-plantOf switches ends = record { switches = switches; count = length ends; start = 0; links = map (λ e. record { first = e .0; second = e .1; tag = 0 }) ends }
+plantOf switches ends = record { switches = switches; count = length ends; start = 0; links = map (λ e. record { first = e .0; second = e .1; tag = 0; «out_of_service» = false }) ends }
+
+-- the plant with these links out of service
+abbrev pub takenOut : List ℕ → Plant → Plant
+takenOut ls p = record { switches = p .switches; count = p .count; start = p .start; links = map (λ l. marked (memb l ls) (linkAt p l)) (range 0 (p .count)) }
 
 pub record Row : Type 0 where
   pub plant : Plant
@@ -135,8 +140,44 @@ apart = record {
   round = 0 ∷ 1 ∷ [];
 }
 
+-- the triangle of document 02's order 7, with its last link out of service
+abbrev pub openTriangle : Row
+openTriangle = record {
+  plant = takenOut (2 ∷ []) (triangle .plant);
+  root = 0;
+  joined = true;
+  bridging = 0 ∷ 1 ∷ [];
+  in-use = 0 ∷ 1 ∷ 2 ∷ 3 ∷ [];
+  order = 0 ∷ 1 ∷ 2 ∷ [];
+  round = 0 ∷ 2 ∷ 3 ∷ 1 ∷ [];
+}
+
+-- the one link that is left of three parallel ones is a bridge
+abbrev pub oneOfThree : Row
+oneOfThree = record {
+  plant = takenOut (0 ∷ 2 ∷ []) (threeParallel .plant);
+  root = 0;
+  joined = true;
+  bridging = 1 ∷ [];
+  in-use = 2 ∷ 3 ∷ [];
+  order = 0 ∷ 1 ∷ [];
+  round = 2 ∷ 3 ∷ [];
+}
+
+-- the tail of the ring is out of service: it joins nothing, and is no bridge
+abbrev pub tailOut : Row
+tailOut = record {
+  plant = takenOut (3 ∷ []) (ringWithTail .plant);
+  root = 0;
+  joined = false;
+  bridging = [];
+  in-use = 0 ∷ 2 ∷ 4 ∷ [];
+  order = 0 ∷ 1 ∷ 2 ∷ [];
+  round = 0 ∷ 2 ∷ 4 ∷ 5 ∷ 3 ∷ 1 ∷ [];
+}
+
 abbrev pub table : List Row
-table = triangle ∷ oneLink ∷ threeParallel ∷ alone ∷ path ∷ ringWithTail ∷ tableOne ∷ apart ∷ []
+table = triangle ∷ oneLink ∷ threeParallel ∷ alone ∷ path ∷ ringWithTail ∷ tableOne ∷ apart ∷ openTriangle ∷ oneOfThree ∷ tailOut ∷ []
 
 pub as-expected : map (λ r. rowOf (r .plant) (r .root)) table ≡ table
 unfolding rowOf bridge usedFrom visitFrom arcs others visit scan roundFrom tour walkAt opposite tail head live every

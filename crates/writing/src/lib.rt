@@ -23,24 +23,37 @@ ghost use Rattle.plant.specs.Links.{zeroLink};
 ghost use Rattle.answers.specs.Answers.{refused, numberOf, verdictAnswer};
 ghost use Rattle.answers.specs.Checks.{answer};
 ghost use Rattle.limits.specs.Limits.{maxLinks};
-ghost use Rattle.listing.specs.Listing.{linksOf, linksBytes, encode};
+ghost use Rattle.listing.specs.Listing.{service, linkValues, linksOf, linksBytes, encode};
 ghost use Rattle.listing.specs.Writing.{isZero, soundLinks, soundPlant, writing, bufferAfter};
 ghost use Rattle.listing.specs.Answers.{writeAnswer};
 
-// The values of a plant's header, and of a link.
+// The values of a plant's header; a header has no fourth field.
 fn header_values(p: Plant) -> [u32; Layout::MOST]
-    ensures { λ r. ⌜ r ≡ p .switches ∷ p .count ∷ p .start ∷ [] ⌝ }
+    ensures { λ r. ⌜ r ≡ p .switches ∷ p .count ∷ p .start ∷ 0 ∷ [] ⌝ }
 {
-    let mut vs = [p.switches as u32; Layout::MOST];
+    let mut vs = [0u32; Layout::MOST];
+    vs[0] = p.switches as u32;
     vs[1] = p.count as u32;
     vs[2] = p.start as u32;
     vs
 }
 
-fn link_values(l: Link) -> [u32; Layout::MOST]
-    ensures { λ r. ⌜ r ≡ l .first ∷ l .second ∷ l .tag ∷ [] ⌝ }
+// Is the link in service? 1 if it is, 0 if it is out of service.
+fn service_of(l: Link) -> u32
+    ensures { λ r. ⌜ r ≡ service l ⌝ }
 {
-    let mut vs = [l.first as u32; Layout::MOST];
+    if l.out_of_service {
+        return 0;
+    }
+    1
+}
+
+// The values of a link.
+fn link_values(l: Link) -> [u32; Layout::MOST]
+    ensures { λ r. ⌜ r ≡ linkValues l ⌝ }
+{
+    let mut vs = [service_of(l); Layout::MOST];
+    vs[0] = l.first as u32;
     vs[1] = l.second as u32;
     vs[2] = l.tag as u32;
     vs
@@ -59,7 +72,7 @@ fn is_zero(l: Link) -> bool
     if l.tag != 0 {
         return false;
     }
-    true
+    !l.out_of_service
 }
 
 // Is every link place past the links zero?

@@ -10,7 +10,7 @@ use Rattle.codec.proofs.read_fields.Statement.{statement}
 use Rattle.codec.proofs.read_fields.Tie as tie
 
 abbrev Inv-loop : tie.InvT-loop
-Inv-loop s at map layout n values₀ next₀ redundant₀ m₀ i₀ values next redundant m i = Read 3 layout s at map values next redundant m i
+Inv-loop s at map layout n values₀ next₀ redundant₀ m₀ i₀ values next redundant m i = Read 4 layout s at map values next redundant m i
 
 abbrev μ-loop : tie.MeasureT-loop
 μ-loop s at map layout n values₀ next₀ redundant₀ m₀ i₀ values next redundant m i = n - i

@@ -26,4 +26,4 @@ returns-2 c =
 pub read-link-spec : {M : Type 1} → statement M
 read-link-spec =
     tie.close (tie.spec (λ c κs. search needs) (λ c κs. search needs) (λ c. search needs) (λ c. search needs) (λ c. search needs)
-    (λ c. search needs) judge-link-requires (λ c. search needs) returns returns-2)
+    (λ c. search needs) (λ c. search needs) judge-link-requires (λ c. search needs) returns returns-2)

@@ -1,4 +1,5 @@
 -- `writing::is_zero` meets its contract. Assumes nothing.
+use mathlib.Core.Path.{refl}
 use borrow.Author.Tests.{eq-eqb, ne-eqb}
 use Rattle.listing.specs.Writing.{isZero}
 use Rattle.writing.proofs.is_zero.Statement.{statement}
@@ -18,7 +19,9 @@ returns-3 c = simp (eq-eqb _ _ (c .before .before .before .before .if1 .left), e
 
 returns-4 : tie.Need-returns-4
 unfolding isZero
-returns-4 c = simp (eq-eqb _ _ (c .before .before .before .before .if1 .left), eq-eqb _ _ (c .before .before .if2 .left), eq-eqb _ _ (c .if3 .left))
+returns-4 c =
+    let t = c .before in
+    simp (eq-eqb _ _ (t .before .before .before .before .if1 .left), eq-eqb _ _ (t .before .before .if2 .left), eq-eqb _ _ (t .if3 .left)) refl
 
 pub is-zero-spec : {M : Type 1} → statement M
 is-zero-spec = tie.close (tie.spec returns returns-2 returns-3 returns-4)

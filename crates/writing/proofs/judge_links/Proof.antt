@@ -25,7 +25,7 @@ returns : tie.Need-returns Inv-loop μ-loop
 returns c =
     let t = c .before .before .before .before .before .before .before in
     let k = t .before in
-    judge-refused (k .before .before .args .t1) (k .loop .i) _ (c .before .before .before .judge-ends .ensures _) (omega (arith, t .loop-test .taken, k .before .links-held .ensures .0)) _ (c .before .k .given .1)
+    judge-refused (k .before .before .args .t1) (k .loop .i) _ (c .before .before .before .judge-ends .ensures _ _) (omega (arith, t .loop-test .taken, k .before .links-held .ensures .0)) _ (c .before .k .given .1)
     ∙ k .loop .inv .1
 
 loop-again : tie.Need-loop-again Inv-loop μ-loop
@@ -33,7 +33,7 @@ loop-again c =
     let t = c .before .before .before .before .before .before in
     let k = t .before in (
       search needs,
-      judge-on (k .before .before .args .t1) (k .loop .i) _ (c .before .before .judge-ends .ensures _) (omega (arith, t .loop-test .taken, k .before .links-held .ensures .0)) (c .enum-told .given .1)
+      judge-on (k .before .before .args .t1) (k .loop .i) _ (c .before .before .judge-ends .ensures _ _) (omega (arith, t .loop-test .taken, k .before .links-held .ensures .0)) (c .enum-told .given .1)
           ∙ k .loop .inv .1,
     )
 

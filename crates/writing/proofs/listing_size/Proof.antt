@@ -13,7 +13,7 @@ use Rattle.writing.proofs.listing_size.Tie as tie
 
 abbrev Inv-loop : tie.InvT-loop
 Inv-loop p n size₀ before₀ i₀ size before i =
-    (i ≤ n) × (size ≤ 13 * i + 13) × (size + length (linksBytes before (drop i (linksOf p))) ≡ length (encode p))
+    (i ≤ n) × (size ≤ 17 * i + 17) × (size + length (linksBytes before (drop i (linksOf p))) ≡ length (encode p))
 
 abbrev μ-loop : tie.MeasureT-loop
 μ-loop p n size₀ before₀ i₀ size before i = n - i

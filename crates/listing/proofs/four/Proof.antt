@@ -1,0 +1,7 @@
+-- `listing::four` meets its contract. Assumes nothing.
+use borrow.Author.Needs.{needs}
+use Rattle.listing.proofs.four.Statement.{statement}
+use Rattle.listing.proofs.four.Tie as tie
+
+pub four-spec : {M : Type 1} → statement M
+four-spec = tie.close (tie.spec (λ c. search needs) (λ c. search needs) (λ c. search needs) (λ c. search needs))
