@@ -8,3 +8,4 @@ pub mod Demand3
 pub mod BySwitches
 pub mod BuyingPages
 pub mod Rounds
+pub mod Service

@@ -8,3 +8,4 @@ pub mod RoundTrip
 pub mod WriteRoundTrip
 pub mod Longest
 pub mod Front
+pub mod Marks

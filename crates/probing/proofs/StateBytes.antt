@@ -1,100 +1,91 @@
--- State bytes past the links of the listing are not looked at, and in the round run those past its labels. Assumes nothing.
+-- What is looked at of the state bytes: whether there is one for each link of the listing, in the round run one for each label, and what those of links in service tell.
+-- Bytes of links out of service, and bytes past the links or the labels, are looked at by nobody. Assumes nothing.
 use mathlib.Core.Path.{_≡_, refl, sym, ap, ap₂, _∙_}
-use mathlib.Core.Logic.{_⊎_, inl, inr}
-use mathlib.Core.Bool.{Bool, true, false}
+use mathlib.Core.Bool.{Bool}
 use mathlib.Core.List.{List, [], _∷_}
-use Prim.Native.Nat.{ℕ, _*_}
-use native.Mathlib.Omega.{arith}
-use lib.Dec.{ltb}
-use lib.ListN.{length, take}
-use lib.Seq.{take-all, length-take-le}
-use borrow.Author.Tests.{ltb-true, ltb-false, le-ltb}
-use Rattle.lists.proofs.Tests.{bool?}
+use Prim.Native.Nat.{ℕ, _*_, _/_}
+use lib.Dec.{T}
 use Rattle.plant.specs.declared.Plant.{Plant}
+use Rattle.plant.specs.Links.{live}
 use Rattle.answers.specs.Answers.{Answer, given, refused, _>>=_}
 use Rattle.answers.specs.Checks.{Checked, check, answer, _then_}
 use Rattle.answers.proofs.Checks.{then-is}
-use Rattle.walks.specs.Arcs.{head}
+use Rattle.walks.specs.Arcs.{head, Arc}
 use Rattle.walks.specs.Graph.{liveLinks}
 use Rattle.plan.specs.Plan.{used, trailOf, roundOf, inTable}
 use Rattle.plan.proofs.Plan.{used-arc}
 use Rattle.rings.specs.Packet.{End, run}
-use Rattle.rings.specs.Rules.{upByLink, inAll}
+use Rattle.rings.specs.Rules.{upBy, upByLink, inAll}
 use Rattle.rings.specs.Round.{upByLabel, roundRun}
-use Rattle.rings.proofs.Rules.{rule-arc, all-arc, run-agrees, bytes-past}
-use Rattle.rings.proofs.Round.{label-bytes}
+use Rattle.rings.proofs.Rules.{rule-arc, all-arc, run-agrees}
 use Rattle.rings.specs.Injection.{ringOf}
-use Rattle.rings.proofs.Injection as injection
+use Rattle.rings.proofs.Injection.{probe-agrees}
 use Rattle.search.specs.declared.Search.{Search}
+use Rattle.search.specs.Search.{wanted}
+use Rattle.planning.specs.Planning.{planningAt}
 use Rattle.judging.specs.Conditions.{trailDiffers, hopsDiffer, statesShort, wantedChecks}
 use Rattle.probing.specs.Calls.{runIn, running, checkIn, checking, roundIn, roundRunning, probeIn, probing}
-use Rattle.planning.specs.Planning.{planningAt}
-use Rattle.search.specs.Search.{wanted}
 
-short-first : (e : ℕ) (states : List ℕ) → statesShort e states ≡ statesShort e (take e states)
-unfolding statesShort
-short-first e states = go (bool? (ltb (length states) e))
-  where
-    go : (ltb (length states) e ≡ true) ⊎ (ltb (length states) e ≡ false) → ltb (length states) e ≡ ltb (length (take e states)) e
-    go (inl t) = ap (λ (v : List ℕ). ltb (length v) e) (sym (take-all e states (omega (arith, ltb-true (length states) e t))))
-    go (inr f) =
-        let k : length (take e states) ≡ e = length-take-le e states (ltb-false (length states) e f) in
-        f ∙ sym (rw k (le-ltb e e (omega arith)))
+-- two lists of bytes, one a link, both too short or neither, that tell the same of each link in service
+pub record ByLinkAlike (p : Plant) (states states′ : List ℕ) : Type 0 where
+  pub short : statesShort (p .count) states ≡ statesShort (p .count) states′
+  pub same : (l : ℕ) → T (live p l) → upBy states l ≡ upBy states′ l
 
-module _ (p : Plant) (x : ℕ) (states : List ℕ) where
-  abbrev first-bytes : List ℕ
-  first-bytes = take (p .count) states
+-- so with one a label
+pub record ByLabelAlike (p : Plant) (states states′ : List ℕ) : Type 0 where
+  pub short : statesShort (2 * p .count) states ≡ statesShort (2 * p .count) states′
+  pub same : (a : ℕ) → Arc p a → upByLabel states a ≡ upByLabel states′ a
 
-  table-bytes : (labels : List ℕ) → run (inTable p) (upByLink states) (head p) x 0 labels ≡ run (inTable p) (upByLink first-bytes) (head p) x 0 labels
-  table-bytes labels = bytes-past p (inTable p) (rule-arc p (used p) (used-arc p)) states (head p) labels x 0
+module _ (p : Plant) (x : ℕ) (states states′ : List ℕ) where
+  module _ (h : ByLinkAlike p states states′) where
+    by-link : (a : ℕ) → Arc p a → upByLink states a ≡ upByLink states′ a
+    by-link a = h .same (a / 2)
 
-  pub run-bytes : (labels : List ℕ) → runIn x labels states p ≡ runIn x labels first-bytes p
-  unfolding runIn
-  run-bytes labels = ap₂ (λ (t : Bool) (e : End). check ((13, t) ∷ []) e) (short-first (p .count) states) (table-bytes labels)
+    table-run : (labels : List ℕ) → run (inTable p) (upByLink states) (head p) x 0 labels ≡ run (inTable p) (upByLink states′) (head p) x 0 labels
+    table-run labels = run-agrees p (inTable p) (rule-arc p (used p) (used-arc p)) (upByLink states) (upByLink states′) by-link (head p) labels x 0
 
-  pub check-bytes : (w : List ℕ) → checkIn x w states p ≡ checkIn x w first-bytes p
-  unfolding checkIn
-  check-bytes w =
-      ap₂ (λ (t : Bool) (e : End). check ((12, trailDiffers p w) ∷ (13, t) ∷ []) e) (short-first (p .count) states) (table-bytes (ringOf p (trailOf p) x))
+    run-alike : (labels : List ℕ) → runIn x labels states p ≡ runIn x labels states′ p
+    unfolding runIn
+    run-alike labels = ap₂ (λ (t : Bool) (e : End). check ((13, t) ∷ []) e) (h .short) (table-run labels)
 
-  pub probe-bytes : (w : List ℕ) (q : Search) → probeIn x w states q p ≡ probeIn x w first-bytes q p
-  unfolding probeIn
-  probe-bytes w q =
-      ap₂ (λ (t : Bool) (e : End). check ((12, trailDiffers p w) ∷ (13, t) ∷ wantedChecks (liveLinks p) q) e)
-      (short-first (p .count) states) (injection.probe-bytes p (trailOf p) x (used p) (used-arc p) (liveLinks p) states (wanted q))
+    check-alike : (w : List ℕ) → checkIn x w states p ≡ checkIn x w states′ p
+    unfolding checkIn
+    check-alike w = ap₂ (λ (t : Bool) (e : End). check ((12, trailDiffers p w) ∷ (13, t) ∷ []) e) (h .short) (table-run (ringOf p (trailOf p) x))
 
-  pub round-bytes : (w : List ℕ) → roundIn x w states p ≡ roundIn x w (take (2 * p .count) states) p
+    probe-alike : (w : List ℕ) (q : Search) → probeIn x w states q p ≡ probeIn x w states′ q p
+    unfolding probeIn
+    probe-alike w q =
+        ap₂ (λ (t : Bool) (e : End). check ((12, trailDiffers p w) ∷ (13, t) ∷ wantedChecks (liveLinks p) q) e)
+        (h .short) (probe-agrees p (trailOf p) x (used p) (used-arc p) (liveLinks p) (upByLink states) (upByLink states′) by-link (wanted q))
+
+  round-alike : ByLabelAlike p states states′ → (w : List ℕ) → roundIn x w states p ≡ roundIn x w states′ p
   unfolding roundIn roundRun
-  round-bytes w =
-      ap₂ (λ (t : Bool) (e : End). check ((12, hopsDiffer (roundOf p) w) ∷ (13, t) ∷ []) e) (short-first (2 * p .count) states)
-      (run-agrees p (inAll p) (all-arc p) (upByLabel states) (upByLabel (take (2 * p .count) states)) (label-bytes p states) (head p) (ringOf p (roundOf p) x) x 0)
+  round-alike h w =
+      ap₂ (λ (t : Bool) (e : End). check ((12, hopsDiffer (roundOf p) w) ∷ (13, t) ∷ []) e) (h .short)
+      (run-agrees p (inAll p) (all-arc p) (upByLabel states) (upByLabel states′) (h .same) (head p) (ringOf p (roundOf p) x) x 0)
 
--- so two lists of bytes that begin alike, as far as there are links, have the same answer from each of these calls
+-- so the calls have the same answers
 module _ (s : List ℕ) (x : ℕ) (states states′ : List ℕ) where
-  -- k is the number of bytes that are looked at
-  bytes-alone : {B : Type 0} (k : Plant → ℕ) → ((p : Plant) → answer (planningAt s x) ≡ given p → take (k p) states ≡ take (k p) states′)
-      → (f : Plant → List ℕ → Checked B) → ((p : Plant) (bs : List ℕ) → f p bs ≡ f p (take (k p) bs))
-      → answer (planningAt s x then λ p. f p states) ≡ answer (planningAt s x then λ p. f p states′)
-  bytes-alone {B} k alike f first = then-is (planningAt s x) (λ p. f p states) ∙ go (answer (planningAt s x)) refl ∙ sym (then-is (planningAt s x) (λ p. f p states′))
+  planned-alike : {B : Type 0} (f g : Plant → Checked B) → ((p : Plant) → answer (planningAt s x) ≡ given p → f p ≡ g p) → answer (planningAt s x then f) ≡ answer (planningAt s x then g)
+  planned-alike {B} f g same = then-is (planningAt s x) f ∙ go (answer (planningAt s x)) refl ∙ sym (then-is (planningAt s x) g)
     where
-      go : (a : Answer Plant) → answer (planningAt s x) ≡ a → (a >>= λ p. answer (f p states)) ≡ (a >>= λ p. answer (f p states′))
-      go (given p) e = ap (λ (c : Checked B). answer c) (first p states ∙ ap (f p) (alike p e) ∙ sym (first p states′))
+      go : (a : Answer Plant) → answer (planningAt s x) ≡ a → (a >>= λ p. answer (f p)) ≡ (a >>= λ p. answer (g p))
+      go (given p) e = ap (λ (c : Checked B). answer c) (same p e)
       go (refused n) e = refl
 
-  pub rounding-bytes : ((p : Plant) → answer (planningAt s x) ≡ given p → take (2 * p .count) states ≡ take (2 * p .count) states′)
-      → (w : List ℕ) → answer (roundRunning s x w states) ≡ answer (roundRunning s x w states′)
+  pub rounding-bytes : ((p : Plant) → answer (planningAt s x) ≡ given p → ByLabelAlike p states states′) → (w : List ℕ) → answer (roundRunning s x w states) ≡ answer (roundRunning s x w states′)
   unfolding roundRunning
-  rounding-bytes alike w = bytes-alone (λ p. 2 * p .count) alike (λ p bs. roundIn x w bs p) (λ p bs. round-bytes p x bs w)
+  rounding-bytes h w = planned-alike (roundIn x w states) (roundIn x w states′) (λ p e. round-alike p x states states′ (h p e) w)
 
-module _ (s : List ℕ) (x : ℕ) (states states′ : List ℕ) (alike : (p : Plant) → answer (planningAt s x) ≡ given p → take (p .count) states ≡ take (p .count) states′) where
-  pub running-bytes : (labels : List ℕ) → answer (running s x labels states) ≡ answer (running s x labels states′)
-  unfolding running
-  running-bytes labels = bytes-alone s x states states′ (λ p. p .count) alike (λ p bs. runIn x labels bs p) (λ p bs. run-bytes p x bs labels)
+  module _ (h : (p : Plant) → answer (planningAt s x) ≡ given p → ByLinkAlike p states states′) where
+    pub running-bytes : (labels : List ℕ) → answer (running s x labels states) ≡ answer (running s x labels states′)
+    unfolding running
+    running-bytes labels = planned-alike (runIn x labels states) (runIn x labels states′) (λ p e. run-alike p x states states′ (h p e) labels)
 
-  pub checking-bytes : (w : List ℕ) → answer (checking s x w states) ≡ answer (checking s x w states′)
-  unfolding checking
-  checking-bytes w = bytes-alone s x states states′ (λ p. p .count) alike (λ p bs. checkIn x w bs p) (λ p bs. check-bytes p x bs w)
+    pub checking-bytes : (w : List ℕ) → answer (checking s x w states) ≡ answer (checking s x w states′)
+    unfolding checking
+    checking-bytes w = planned-alike (checkIn x w states) (checkIn x w states′) (λ p e. check-alike p x states states′ (h p e) w)
 
-  pub probing-bytes : (w : List ℕ) (q : Search) → answer (probing s x w states q) ≡ answer (probing s x w states′ q)
-  unfolding probing
-  probing-bytes w q = bytes-alone s x states states′ (λ p. p .count) alike (λ p bs. probeIn x w bs q p) (λ p bs. probe-bytes p x bs w q)
+    pub probing-bytes : (w : List ℕ) (q : Search) → answer (probing s x w states q) ≡ answer (probing s x w states′ q)
+    unfolding probing
+    probing-bytes w q = planned-alike (probeIn x w states q) (probeIn x w states′ q) (λ p e. probe-alike p x states states′ (h p e) w q)

@@ -22,14 +22,14 @@ use Rattle.walks.specs.Arcs.{tail, head, Arc}
 use Rattle.walks.specs.Graph.{ClosedWalk}
 use Rattle.walks.proofs.Labels.{tail-opposite, head-opposite, opposite-arc}
 use Rattle.rings.specs.Packet.{byLink, run, rulesFor}
-use Rattle.rings.specs.Rules.{upByLink, inAll}
+use Rattle.rings.specs.Rules.{inAll}
 use Rattle.rings.specs.Ring.{FirstHop, ring}
 use Rattle.rings.specs.Order.{order}
 use Rattle.rings.specs.Probe.{outward, back, probe}
 use Rattle.rings.proofs.FirstDown.{firstDown, first-take}
 use Rattle.rings.specs.Injection.{probeRules, placeOf, ringOf, orderOf, probeOf, probeRun}
 use Rattle.rings.proofs.Packet.{run-ended, run-clear, lost-at}
-use Rattle.rings.proofs.Rules.{rule-arc, all-arc, link-bytes, run-agrees}
+use Rattle.rings.proofs.Rules.{rule-arc, all-arc, run-agrees}
 use Rattle.rings.proofs.Ring.{place-first, ring-empty, read-labels, read-walk}
 use Rattle.rings.proofs.Order.{order-distinct, label-order, order-label}
 use Rattle.rings.proofs.Probe.{probe-clear, probe-all, probe-walk}
@@ -75,10 +75,6 @@ module _ (p : Plant) (w : List ℕ) (s : ℕ) where
         arc : (t : Bool) (x a : ℕ) → choose t (rulesFor table (tail p)) (inAll p) x a ≡ true → Arc p a
         arc true = rule-arc p table arcs
         arc false = all-arc p
-
-    -- state bytes past the links of the plant are not looked at
-    pub probe-bytes : (states : List ℕ) (m : ℕ) → probeRun p table w s e (upByLink states) m ≡ probeRun p table w s e (upByLink (take (p .count) states)) m
-    probe-bytes states = probe-agrees (upByLink states) (upByLink (take (p .count) states)) (link-bytes p states)
 
 -- ---- a closed walk and an injection switch
 

@@ -9,7 +9,6 @@ use Prim.Native.Nat.{ℕ, _*_, _/_, _≤_}
 use native.Mathlib.Omega.{arith}
 use lib.Dec.{T, eqb}
 use lib.ListN.{length, getD, take, drop, length-append, take-append-drop}
-use lib.Seq.{getD-take}
 use borrow.Author.Tests.{eq-eqb, ne-eqb}
 use Rattle.lists.specs.Tests.{choose}
 use Rattle.lists.proofs.Tests.{not-both}
@@ -139,11 +138,6 @@ module _ (p : Plant) where
           count-le (2 * p .count) (λ a. live p (a / 2)) (λ a. memb a w) (λ a h t. in→memb a w (carries a t)),
           count-memb (2 * p .count) w,
         )
-
-  -- the byte of an arc is not past those of all labels
-  pub label-bytes : (states : List ℕ) (a : ℕ) → Arc p a → upByLabel states a ≡ upByLabel (take (2 * p .count) states) a
-  unfolding upBy
-  label-bytes states a h = ap (λ (k : ℕ). not (eqb k 0)) (sym (getD-take (2 * p .count) states a 0 (arc-below p a h)))
 
   -- ---- links whose two directions are up or down together
 

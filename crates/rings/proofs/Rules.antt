@@ -1,12 +1,10 @@
--- Which rules there are: each is for an arc of the plant, and in all there are two to each link; state bytes past the links are not looked at. Assumes nothing.
-use mathlib.Core.Path.{_≡_, refl, sym, ap, _∙_}
-use mathlib.Core.Bool.{Bool, true, not}
+-- Which rules there are: each is for an arc of the plant, and in all there are two to each link in service; only the states of such arcs are looked at. Assumes nothing.
+use mathlib.Core.Path.{_≡_, refl, _∙_}
+use mathlib.Core.Bool.{Bool, true}
 use mathlib.Core.List.{List}
 use Prim.Native.Nat.{ℕ, _*_, _/_}
 use native.Mathlib.Omega.{arith}
 use lib.Dec.{T, eqb}
-use lib.ListN.{take}
-use lib.Seq.{getD-take}
 use Rattle.lists.proofs.Tests.{true-T, and-true}
 use Rattle.lists.specs.Count.{count}
 use Rattle.lists.proofs.Count.{pairs}
@@ -14,11 +12,10 @@ use Rattle.plant.specs.declared.Plant.{Plant}
 use Rattle.plant.specs.Links.{live}
 use Rattle.walks.specs.Arcs.{tail, Arc}
 use Rattle.walks.specs.Graph.{liveLinks}
-use Rattle.walks.proofs.Live.{live-below}
 use Rattle.walks.proofs.Labels.{even-half, odd-half}
 use Rattle.rings.specs.Packet.{run, rulesFor}
 use Rattle.rings.proofs.Packet.{run-same}
-use Rattle.rings.specs.Rules.{upBy, upByLink, inAll, allRules}
+use Rattle.rings.specs.Rules.{inAll, allRules}
 
 module _ (p : Plant) where
   -- where the arcs of a kind are arcs of the plant, so are those of their rules
@@ -30,12 +27,7 @@ module _ (p : Plant) where
   unfolding inAll
   all-arc = rule-arc (λ b. live p (b / 2)) (λ a t. t)
 
-  -- the state of an arc's link is not past the links
-  pub link-bytes : (states : List ℕ) (a : ℕ) → Arc p a → upByLink states a ≡ upByLink (take (p .count) states) a
-  unfolding upBy
-  link-bytes states a h = ap (λ (k : ℕ). not (eqb k 0)) (sym (getD-take (p .count) states (a / 2) 0 (live-below p (a / 2) h)))
-
-  -- two to each link
+  -- two to each link in service
   pub all-rules : allRules p ≡ 2 * liveLinks p
   unfolding allRules liveLinks
   all-rules = pairs (p .count) (λ a. live p (a / 2)) ∙ simp (even-half, odd-half) (omega arith)
@@ -47,6 +39,3 @@ module _ (p : Plant) where
     pub run-agrees : (up up′ : ℕ → Bool) → ((a : ℕ) → Arc p a → up a ≡ up′ a) → (hd : ℕ → ℕ) (w : List ℕ) (at n : ℕ) → run rule up hd at n w ≡ run rule up′ hd at n w
     run-agrees up up′ agree hd w at n = run-same rule rule up up′ hd w at n (λ x a h. refl) (λ x a h e. agree a (arc x a e))
 
-    -- bytes past those of its links are not looked at
-    pub bytes-past : (states : List ℕ) (hd : ℕ → ℕ) (w : List ℕ) (at n : ℕ) → run rule (upByLink states) hd at n w ≡ run rule (upByLink (take (p .count) states)) hd at n w
-    bytes-past states = run-agrees (upByLink states) (upByLink (take (p .count) states)) (link-bytes states)
