@@ -1,9 +1,9 @@
 -- What document 02's order 7 promises of links out of service holds: in a listing, of the plan, of packets and of searches. Assumes nothing of a listing and of the definitions
 -- that go by `live`, else a sound connected plant, and one of its switches where it speaks of one.
-use mathlib.Core.Path.{_≡_, refl, sym, ap, _∙_}
-use mathlib.Core.Logic.{_⊎_, inl, inr}
+use mathlib.Core.Path.{_≡_, refl, sym, _∙_}
+use mathlib.Core.Logic.{inl, inr}
 use mathlib.Core.Bool.{true, false}
-use mathlib.Core.List.{List, [], _∷_, _++_}
+use mathlib.Core.List.{List, _++_}
 use Prim.Native.Nat.{ℕ, _-_, _*_, _/_, _≤_, _<_}
 use native.Mathlib.Omega.{arith}
 use borrow.Author.Tests.{lt-ltb, le-ltb}
@@ -15,15 +15,15 @@ use Rattle.lists.proofs.Tests.{false-T, not-true-false}
 use Rattle.plant.specs.declared.Plant.{Plant}
 use Rattle.plant.specs.Links.{outOfService, live}
 use Rattle.limits.specs.Sound.{Sound}
-use Rattle.answers.specs.Answers.{given, refused}
+use Rattle.answers.specs.Answers.{given}
 use Rattle.answers.specs.Checks.{answer}
 use Rattle.answers.proofs.Checks.{given-given, goes-on, came-from}
 use Rattle.codec.specs.Field.{Bytes}
 use Rattle.listing.specs.Listing as listing
 use Rattle.listing.proofs.Marks.{bit-three, without, link-undefined, header-undefined, mark-past}
 use Rattle.listing.proofs.Longest.{longest}
-use Rattle.walks.specs.Arcs.{tail, Arc}
-use Rattle.walks.specs.Graph.{Crosses, bridge}
+use Rattle.walks.specs.Arcs.{Arc}
+use Rattle.walks.specs.Graph.{Crosses, bridge, liveLinks}
 use Rattle.walks.proofs.Live.{dead-marked, live-all, links-all}
 use Rattle.walks.proofs.Labels.{even-half, odd-half}
 use Rattle.plan.specs.Plan.{Connected, trailOf, roundOf}
@@ -33,14 +33,14 @@ use Rattle.plan.proofs.Trails.{trail-is}
 use Rattle.rings.specs.Order.{nth}
 use Rattle.rings.specs.FirstDown.{FirstDown}
 use Rattle.rings.specs.Rules.{upBy}
-use Rattle.rings.specs.Injection.{orderOf}
+use Rattle.rings.specs.Injection.{orderOf, probeOf}
 use Rattle.rings.proofs.Injection.{probe-arcs}
 use Rattle.planning.specs.Planning.{planning, planningAt}
 use Rattle.planning.proofs.Plans.{plan-ready, given-at, at-given}
 use Rattle.judging.specs.Conditions.{statesShort}
 use Rattle.judging.proofs.Lent.{hops-own}
 use Rattle.probing.specs.Calls.{runIn, running, roundIn, roundRunning, link, nameIn, naming}
-use Rattle.probing.specs.Searches.{NoneBroken, Says}
+use Rattle.probing.specs.Searches.{NoneBroken}
 use Rattle.probing.proofs.Injection.{ring-at, order-links}
 use Rattle.probing.proofs.NamedLinks.{named-live}
 use Rattle.probing.proofs.StateBytes.{ByLinkAlike, ByLabelAlike, running-bytes, checking-bytes, probing-bytes, rounding-bytes}
@@ -95,7 +95,7 @@ module _ (p : Plant) (l : ℕ) (out : outOfService p l ≡ true) where
       no-trail = no-crossing (trailOf p) trail-arc;
       no-round = no-crossing (roundOf p) (λ a. round-is p ok con .each a .0);
       no-closed-walk = λ w c. no-crossing w (c .arcs-alone);
-      no-probe = λ x h m. no-crossing _ (probe-arcs p (trailOf p) x (ring-at p ok con x h) _ m);
+      no-probe = λ x h m. no-crossing (probeOf p (trailOf p) x (liveLinks p) m) (probe-arcs p (trailOf p) x (ring-at p ok con x h) (liveLinks p) m);
       no-rule = λ a at e. (
         λ h. no-arc a e (trail-arc a (rule-page p ok con .crossed a .0 h)),
         not-true-false _ (λ t. no-arc a e (used-arc p a (rules-are p .table at a .0 t .0))),
