@@ -13,7 +13,8 @@ pub use crate::listing::{read, write};
 pub use crate::page::read as page_read;
 pub use crate::search::{allowance, quantity};
 
-/// What the first line of the program `rules` shows.
+/// What the first line of the program `rules` shows; the links are those in
+/// service.
 #[derive(Clone, Copy, Debug, PartialEq, Eq)]
 pub struct Summary {
     pub switches: usize,
@@ -56,34 +57,39 @@ fn round_hops<'t>(net: &Net, round: &'t [u16]) -> Answer<&'t [u16]> {
     Round::new(net).hops_of(round).ok_or(Refusal::TrailDiffers)
 }
 
-/// Refusal 13.
+/// Refusal 13: a state for each link of the listing.
 fn enough(net: &Net, states: &[u8]) -> Answer<()> {
-    if states.len() < net.links() {
+    if states.len() < net.listed() {
         Err(Refusal::StatesShort)
     } else {
         Ok(())
     }
 }
 
-/// Refusal 13, with a state for each label.
+/// Refusal 13, with a state for each label of the listing.
 fn enough_for_labels(net: &Net, states: &[u8]) -> Answer<()> {
-    if states.len() < 2 * net.links() {
+    if states.len() < 2 * net.listed() {
         Err(Refusal::StatesShort)
     } else {
         Ok(())
     }
+}
+
+/// Refusal 14: a search goes by the links in service.
+fn sound(net: &Net, search: Search) -> Answer<()> {
+    search.check_for(net.links as u16)
 }
 
 /// Refusals 14 and 15.
 fn wanted(net: &Net, search: Search) -> Answer<usize> {
-    search.check_for(net.plant.links)?;
+    sound(net, search)?;
     search.ask().map(usize::from)
 }
 
 fn summary_of(net: &Net, trail: &Trail) -> Summary {
     Summary {
         switches: usize::from(net.plant.switches),
-        links: net.links(),
+        links: net.links,
         bridges: net.bridges,
         rules: net.rule_count(),
         hops: trail.hops,
@@ -97,10 +103,10 @@ pub fn summary(listing: &[u8]) -> Answer<Summary> {
     Ok(summary_of(&net, &trail))
 }
 
-/// One flag for each link, and false past them; refusals 1 to 9.
+/// One flag for each link of the listing, and false past them; refusals 1 to 9.
 pub fn bridges(listing: &[u8]) -> Answer<(usize, [bool; Plant::MAX_LINKS])> {
     let net = net(listing)?;
-    Ok((net.links(), net.bridge))
+    Ok((net.listed(), net.bridge))
 }
 
 /// Refusals 1 to 9.
@@ -168,9 +174,9 @@ pub fn round_trail(listing: &[u8], buffer: &mut [u16]) -> Answer<usize> {
     Ok(labels.len())
 }
 
-/// The whole round trail from a switch, under both arcs of every link and with
-/// a state for each label; the lent one may have spare places. Refusals 1 to 9,
-/// 11, 12, 13.
+/// The whole round trail from a switch, under both arcs of every link in
+/// service and with a state for each label of the listing; the lent one may
+/// have spare places. Refusals 1 to 9, 11, 12, 13.
 pub fn round_run(listing: &[u8], switch: u8, round: &[u16], states: &[u8]) -> Answer<Run> {
     let net = net(listing)?;
     let switch = named(&net, switch)?;
@@ -262,7 +268,7 @@ pub fn link_named(listing: &[u8], switch: u8, trail: &[u16], search: Search) -> 
     let net = net(listing)?;
     let switch = named(&net, switch)?;
     same_trail(&net, trail)?;
-    search.check_for(net.plant.links)?;
+    sound(&net, search)?;
     Ok(match search {
         Search::Down(place) => {
             let order = Order::new(&net, trail, packet::place(&net, trail, switch));
@@ -277,7 +283,7 @@ pub fn link_named(listing: &[u8], switch: u8, trail: &[u16], search: Search) -> 
 pub fn new_search(listing: &[u8], switch: u8) -> Answer<Search> {
     let net = net(listing)?;
     named(&net, switch)?;
-    Ok(Search::new(net.plant.links))
+    Ok(Search::new(net.links as u16))
 }
 
 /// Performs a list of calls from a new search: 0 asks, 1 gives returned, any

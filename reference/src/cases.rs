@@ -10,7 +10,7 @@ use crate::search::Search;
 use std::io::Write;
 
 /// The calls by their number in the case format.
-pub const NAMES: [&str; 28] = [
+pub const NAMES: [&str; 30] = [
     "",
     "read",
     "write",
@@ -39,6 +39,8 @@ pub const NAMES: [&str; 28] = [
     "round trail",
     "round run",
     "choice",
+    "write marked",
+    "reread marked",
 ];
 
 /// The input does not follow the format at this byte.
@@ -117,6 +119,9 @@ impl std::fmt::Display for Search {
     }
 }
 
+/// What follows the tag of a link out of service in the checksum of the links.
+const OUT_OF_SERVICE: u32 = 255;
+
 /// A plant's header values, and its links by their checksum.
 struct Shown<'a>(&'a Plant);
 
@@ -124,11 +129,13 @@ impl std::fmt::Display for Shown<'_> {
     fn fmt(&self, f: &mut std::fmt::Formatter) -> std::fmt::Result {
         let Shown(plant) = self;
         let links = plant.records().iter().flat_map(|link| {
-            [
+            let fields = [
                 u32::from(link.first),
                 u32::from(link.second),
                 u32::from(link.tag),
-            ]
+            ];
+            let mark = link.out_of_service.then_some(OUT_OF_SERVICE);
+            fields.into_iter().chain(mark)
         });
         write!(
             f,
@@ -222,7 +229,18 @@ impl<'a> Input<'a> {
                 first: self.byte()?,
                 second: self.byte()?,
                 tag: self.word()?,
+                out_of_service: false,
             };
+        }
+        Ok(plant)
+    }
+
+    /// A plant, and a string that tells of each link place whether it is out of
+    /// service: any byte but 0 says so. Bytes past the last place tell nothing.
+    fn marked_plant(&mut self) -> Result<Plant, Malformed> {
+        let mut plant = self.plant()?;
+        for (place, mark) in plant.link.iter_mut().zip(self.string()?) {
+            place.out_of_service = *mark != 0;
         }
         Ok(plant)
     }
@@ -293,8 +311,12 @@ impl Answerer {
         let labels = &mut self.labels;
         Ok(match call {
             1 => calls::read(input.string()?).map(|plant| put(format_args!("{}", Shown(&plant)))),
-            2 => {
-                let plant = input.plant()?;
+            2 | 28 => {
+                let plant = if call == 2 {
+                    input.plant()?
+                } else {
+                    input.marked_plant()?
+                };
                 let buffer = lend(&mut self.bytes, input.word()?);
                 let answer = calls::write(&plant, buffer);
                 *lent = Some(Sum::of_bytes(buffer));
@@ -399,8 +421,12 @@ impl Answerer {
                 *lent = Some(Sum::of_bytes(buffer));
                 answer.map(|length| put(format_args!("{length}")))
             }
-            19 => {
-                let plant = input.plant()?;
+            19 | 29 => {
+                let plant = if call == 19 {
+                    input.plant()?
+                } else {
+                    input.marked_plant()?
+                };
                 let buffer = lend(&mut self.bytes, input.word()?);
                 let answer = calls::reread(&plant, buffer);
                 *lent = Some(Sum::of_bytes(buffer));
@@ -525,7 +551,8 @@ impl Case {
         numbers.byte(search.lost())
     }
 
-    /// A plant value of which only the first `given` link places are told.
+    /// A plant value of which only the first `given` link places are told, and
+    /// no mark.
     pub fn plant(self, plant: &Plant, given: usize) -> Case {
         let head = self
             .byte(plant.switches)
@@ -537,5 +564,11 @@ impl Case {
                 .byte(link.second)
                 .word(usize::from(link.tag))
         })
+    }
+
+    /// A plant value as above, and the bytes that tell of its link places
+    /// whether they are out of service.
+    pub fn marked_plant(self, plant: &Plant, given: usize, marks: &[u8]) -> Case {
+        self.plant(plant, given).string(marks)
     }
 }

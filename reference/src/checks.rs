@@ -471,7 +471,7 @@ fn rules_by_switch() {
         assert_eq!(by.total, page.count);
         assert_eq!(by, sending(&rules[..usize::from(plant.switches)]));
         let net = Net::new(plant).unwrap();
-        assert_eq!(by.total, net.links() + net.bridges);
+        assert_eq!(by.total, net.links + net.bridges);
     }
     // By the definition of the arcs in use.
     for plant in plants(15, 500, 4) {
@@ -561,7 +561,7 @@ fn rules_by_switch_refused() {
             _ => make::damaged(&mut chance, &plant),
         };
         let wanted = plain_read(&bytes).and_then(|plant| {
-            let whole = Plain::new(&plant).is_whole();
+            let whole = Plain::new(&left_out(&plant).0).is_whole();
             whole.then_some(()).ok_or(9)
         });
         let answer = calls::by_switch(&bytes).map(|_| ());
@@ -1629,9 +1629,12 @@ fn plain_read(bytes: &[u8]) -> Result<Plant, u8> {
         let Some((map, fields)) = rest.split_first() else {
             return Err(1);
         };
-        if *map >= 8 {
-            return Err(2);
-        }
+        // Bit 3 is the mark of a link out of service.
+        let (map, marked) = match map {
+            0..=7 => (*map, false),
+            8..=15 if part > 0 => (*map - 8, true),
+            _ => return Err(2),
+        };
         let widths = if part == 0 { [1, 2, 1] } else { [1, 1, 2] };
         let absent = if part == 0 {
             [1, 0, 0]
@@ -1677,6 +1680,7 @@ fn plain_read(bytes: &[u8]) -> Result<Plant, u8> {
                 first: first as u8,
                 second: second as u8,
                 tag: tag as u16,
+                out_of_service: marked,
             };
             before = [first, second];
         }
@@ -1694,7 +1698,10 @@ fn reading() {
     let mut seen = [0; 9];
     for round in 0..60_000 {
         let (switches, links) = chance.of(&[(3, 4), (6, 9), (12, 20)]);
-        let plant = make::joined(&mut chance, switches, links).mixed(&mut chance);
+        let mut plant = make::joined(&mut chance, switches, links).mixed(&mut chance);
+        if round % 2 == 0 {
+            plant = some_out(&mut chance, plant);
+        }
         let bytes = if round % 3 == 0 {
             make::noise(&mut chance)
         } else {
@@ -1722,7 +1729,8 @@ fn reading() {
 
 #[test]
 fn round_trips() {
-    for plant in plants(8, 2000, 50) {
+    let marked = plants_partly_out(8, 1000, 25);
+    for plant in plants(8, 1000, 50).into_iter().chain(marked) {
         let bytes = make::listing_of(&plant);
         assert_eq!(listing::read(&bytes), Ok(plant.clone()));
         let mut buffer = vec![7; bytes.len() + 3];
@@ -1736,16 +1744,29 @@ fn round_trips() {
         );
         assert!(short.iter().all(|byte| *byte == 7));
     }
-    let longest = make::listing_of(&make::longest_listing());
-    assert_eq!(longest.len(), 1285);
-    assert_eq!(longest.len(), Plant::MAX_LISTING);
+    let longest = make::longest_listing();
+    assert_eq!(make::listing_of(&longest).len(), 1285);
+    assert_eq!(make::listing_of(&longest).len(), Plant::MAX_LISTING);
+    // A mark takes no byte.
+    let all: Vec<usize> = (0..Plant::MAX_LINKS).collect();
+    let marked = make::marked(longest.clone(), &all);
+    let bytes = make::listing_of(&marked);
+    assert_eq!(bytes.len(), Plant::MAX_LISTING);
+    assert_eq!(listing::read(&bytes), Ok(marked));
+}
+
+/// The plant with some links out of service, joined or not.
+fn some_out(chance: &mut Chance, plant: Plant) -> Plant {
+    let way = chance.below(make::MARKINGS);
+    let marks = make::marking(chance, &plant, way);
+    make::marked(plant, &marks)
 }
 
 /// The writer restated: a field is given unless its value is what its absence
 /// means.
 fn plain_write(plant: &Plant) -> Result<Vec<u8>, u8> {
-    fn put(bytes: &mut Vec<u8>, fields: [(bool, &[u8]); 3]) {
-        let weighed = fields.iter().zip([1, 2, 4]);
+    fn put(bytes: &mut Vec<u8>, fields: [(bool, &[u8]); 4]) {
+        let weighed = fields.iter().zip([1, 2, 4, 8]);
         bytes.push(weighed.map(|(field, bit)| u8::from(field.0) * bit).sum());
         for (_, field) in fields.iter().filter(|field| field.0) {
             bytes.extend(*field);
@@ -1760,7 +1781,10 @@ fn plain_write(plant: &Plant) -> Result<Vec<u8>, u8> {
         || plant.switches > 64
         || plant.links > 256
         || plant.start >= plant.switches
-        || !places.all(|place| (place.first, place.second, place.tag) == (0, 0, 0))
+        || !places.all(|place| {
+            let numbers = (place.first, place.second, place.tag);
+            numbers == (0, 0, 0) && !place.out_of_service
+        })
     {
         return Err(5);
     }
@@ -1771,6 +1795,7 @@ fn plain_write(plant: &Plant) -> Result<Vec<u8>, u8> {
             (plant.switches != 1, &[plant.switches]),
             (plant.links != 0, &two(plant.links)),
             (plant.start != 0, &[plant.start]),
+            (false, &[]),
         ],
     );
     let mut before = (0, 0);
@@ -1787,6 +1812,7 @@ fn plain_write(plant: &Plant) -> Result<Vec<u8>, u8> {
                 (link.first != before.0, &[link.first]),
                 (link.second != before.1, &[link.second]),
                 (link.tag != 0, &two(link.tag)),
+                (link.out_of_service, &[]),
             ],
         );
         before = (link.first, link.second);
@@ -1816,7 +1842,10 @@ fn rewriting() {
     let mut seen = [0; 18];
     for round in 0..40_000 {
         let (switches, links) = chance.of(&[(3, 4), (6, 9), (12, 20)]);
-        let plant = make::joined(&mut chance, switches, links).mixed(&mut chance);
+        let mut plant = make::joined(&mut chance, switches, links).mixed(&mut chance);
+        if round % 8 > 3 {
+            plant = some_out(&mut chance, plant);
+        }
         let bytes = match round % 4 {
             0 => make::noise(&mut chance),
             1 => make::listing_of(&plant),
@@ -1844,12 +1873,21 @@ fn rewriting() {
 fn writing_and_rereading() {
     let mut chance = Chance::new(10);
     let mut seen = [0; 18];
-    for _ in 0..40_000 {
+    for round in 0..40_000 {
         let (switches, links) = chance.of(&[(3, 4), (6, 9), (12, 20), (64, 256)]);
         let mut plant = make::joined(&mut chance, switches, links).mixed(&mut chance);
+        if round % 2 == 0 {
+            for link in 0..usize::from(plant.links) {
+                plant.link[link].out_of_service = chance.percent(30);
+            }
+        }
         let length = make::listing_of(&plant).len();
         for _ in 0..chance.of(&[0, 1, 1, 2, 3]) {
             make::spoil(&mut chance, &mut plant, &mut 0);
+        }
+        if chance.percent(5) {
+            // A place that may be past the last link.
+            plant.link[chance.below(Plant::MAX_LINKS)].out_of_service = true;
         }
         let mut buffer = some_buffer(&mut chance, length);
         let bytes = plain_write(&plant);
@@ -1897,6 +1935,26 @@ fn writer_refusals() {
     assert_eq!(try_plant(&|plant| plant.links = 4), 7);
     assert_eq!(try_plant(&|plant| plant.start = 3), 5);
     assert_eq!(try_plant(&|plant| plant.link[255].tag = 1), 5);
+    for place in 3..Plant::MAX_LINKS {
+        assert_eq!(
+            try_plant(&|plant| plant.link[place].out_of_service = true),
+            5
+        );
+    }
+    assert_eq!(
+        try_plant(&|plant| {
+            plant.link[1].second = plant.link[1].first;
+            plant.link[1].out_of_service = true;
+        }),
+        7
+    );
+    assert_eq!(
+        try_plant(&|plant| {
+            plant.link[1].second = 3;
+            plant.link[1].out_of_service = true;
+        }),
+        6
+    );
     assert_eq!(try_plant(&|plant| plant.link[2].second = 3), 6);
     assert_eq!(
         try_plant(&|plant| {
@@ -2324,6 +2382,13 @@ fn case_lines() {
     for (place, byte) in written.iter_mut().zip(TRIANGLE) {
         *place = u32::from(*byte);
     }
+    // Its last link has the mark, a bit of its map.
+    let mut marked_written = written.clone();
+    marked_written[9] += 8;
+    let marked = |call, given, marks: &[u8]| Case::new(call).marked_plant(&plant, given, marks);
+    // A mark past all places.
+    let mut past = vec![0; Plant::MAX_LINKS + 1];
+    past[Plant::MAX_LINKS] = 1;
     let cases = [
         (
             on(1),
@@ -2516,6 +2581,62 @@ fn case_lines() {
             on(27).byte(2).labels(&round).labels(&trail),
             "refused 12".into(),
         ),
+        // The triangle with a link out of service.
+        (
+            Case::new(1).string(LAST_OUT),
+            format!("3 3 0 {}", sum(&[0, 1, 0, 1, 2, 0, 2, 0, 0, 255])),
+        ),
+        (Case::new(3).string(LAST_OUT), "3 2 2 4 6".into()),
+        (Case::new(4).string(LAST_OUT), sum(&[1, 1, 0])),
+        (
+            marked(28, 3, &[0, 0, 1]).word(14),
+            format!("12 {}", sum(&marked_written)),
+        ),
+        (
+            marked(28, 3, &[0, 0, 255, 0, 0]).word(14),
+            format!("12 {}", sum(&marked_written)),
+        ),
+        (marked(28, 3, &[]).word(14), format!("12 {}", sum(&written))),
+        (
+            marked(28, 3, &past).word(14),
+            format!("12 {}", sum(&written)),
+        ),
+        (
+            marked(28, 3, &past[1..]).word(14),
+            format!("refused 5 {}", sum(&wide)),
+        ),
+        (
+            marked(28, 3, &[0, 0, 0, 2]).word(11),
+            format!("refused 5 {}", sum(&wide[..11])),
+        ),
+        (
+            marked(28, 2, &[0, 0, 1]).word(14),
+            format!("refused 7 {}", sum(&wide)),
+        ),
+        (
+            marked(28, 3, &[0, 0, 1]).word(11),
+            format!("refused 16 {}", sum(&wide[..11])),
+        ),
+        (
+            marked(29, 3, &[0, 0, 128]).word(14),
+            format!(
+                "3 3 0 {} {}",
+                sum(&[0, 1, 0, 1, 2, 0, 2, 0, 0, 255]),
+                sum(&marked_written)
+            ),
+        ),
+        (
+            marked(29, 3, &[]).word(14),
+            format!(
+                "3 3 0 {} {}",
+                sum(&[0, 1, 0, 1, 2, 0, 2, 0, 0]),
+                sum(&written)
+            ),
+        ),
+        (
+            marked(29, 3, &[0, 0, 0, 1]).word(14),
+            format!("refused 5 {}", sum(&wide)),
+        ),
     ];
     for (case, answer) in cases {
         assert_eq!(line(&case), answer + "\n", "{:?}", case.bytes);
@@ -2570,5 +2691,446 @@ fn long_run_lines() {
                 line(&head(7).labels(&labels).string(&states))
             );
         }
+    }
+}
+
+/// The triangle of order 7: its last link is out of service.
+const LAST_OUT: &[u8] = &[3, 3, 3, 0, 2, 1, 3, 1, 2, 0x0b, 2, 0];
+
+/// Small plants by chance with links out of service, chosen in each way, and a
+/// few large ones; all of them joined.
+fn plants_partly_out(seed: u64, small: usize, large: usize) -> Vec<Plant> {
+    let mut chance = Chance::new(seed);
+    let mut marked = Vec::new();
+    for (turn, plant) in plants(seed, small, large).into_iter().enumerate() {
+        let more = chance.below(4);
+        let plant = make::with_unplugged(&mut chance, &plant, more);
+        let marks = make::marking(&mut chance, &plant, turn % make::MARKINGS);
+        let both = make::marked(plant.clone(), &marks);
+        let whole = Plain::new(&left_out(&both).0).is_whole();
+        marked.push(if whole { both } else { plant });
+    }
+    marked
+}
+
+/// The plant with its links out of service left out of the list, and the number
+/// that each of its links has in the listing.
+fn left_out(plant: &Plant) -> (Plant, Vec<usize>) {
+    let mut left = plant.clone();
+    left.link = Plant::EMPTY.link;
+    let mut numbers = Vec::new();
+    for number in 0..usize::from(plant.links) {
+        if !plant.link[number].out_of_service {
+            left.link[numbers.len()] = plant.link[number];
+            numbers.push(number);
+        }
+    }
+    left.links = numbers.len() as u16;
+    (left, numbers)
+}
+
+/// The labels of the listing for those of the list with links left out.
+fn listed_labels(numbers: &[usize], labels: &[u16]) -> Vec<u16> {
+    let listed = |label: &u16| (2 * numbers[usize::from(label / 2)]) as u16 + label % 2;
+    labels.iter().map(listed).collect()
+}
+
+#[test]
+fn out_of_service_triangle() {
+    let triangle = LAST_OUT;
+    let text = "plant 3 2 2 4 6\nrule 0 0 1\nrule 1 1 0\nrule 1 2 2\nrule 2 3 1\n\
+                trail 0 1 0 2 3 1\n";
+    assert_eq!(calls::print(triangle), text);
+    let page = "     0       1       1         \n     1       2       2         \n     \
+                2       1       1         \ntotal        4       5         \n";
+    assert_eq!(calls::print_page(triangle, 10), page);
+    let (count, flags) = calls::bridges(triangle).unwrap();
+    assert_eq!(flags[..count], [true, true, false]);
+    assert_eq!(calls::by_switch(triangle), Ok(sending(&[1, 2, 1])));
+    let (trail, round) = (trail_vec(triangle), round_vec(triangle));
+    assert_eq!(round, [0, 2, 3, 1]);
+    // Six hops against four.
+    let choice = calls::choice(triangle, 1, &trail, &round);
+    assert_eq!(choice, Ok(Choice::Round(&round[..])));
+    // No rule for the labels of the last link, whatever its state.
+    for state in [0, 1, 255] {
+        let run = |switch, labels| calls::run(triangle, switch, labels, &[1, 1, state]);
+        assert_eq!(run(0, &[0, 2, 3, 1]), Ok(ended(4, 0)));
+        assert_eq!(run(0, &[0, 2, 4]), Ok(lost(2, 2)));
+        assert_eq!(run(2, &[4]), Ok(lost(0, 2)));
+        assert_eq!(run(0, &[5]), Ok(lost(0, 0)));
+        let check = calls::full_check(triangle, 2, &trail, &[1, 1, state]);
+        assert_eq!(check, Ok(ended(6, 2)));
+    }
+    // A search of two links; states of three.
+    assert_eq!(calls::new_search(triangle, 0), Ok(Search::Checking(2, 0)));
+    let outward = |search| number(calls::outward(triangle, 0, &trail, search));
+    assert_eq!(outward(Search::Checking(2, 0)), 0);
+    assert_eq!(outward(Search::Checking(3, 0)), 14);
+    assert_eq!(outward(Search::Halving(1, 2, 0)), 0);
+    assert_eq!(outward(Search::Halving(1, 3, 0)), 14);
+    let named = |search| calls::link_named(triangle, 2, &trail, search);
+    assert_eq!(named(Search::Down(1)), Ok(Named::Link(1)));
+    assert_eq!(named(Search::Down(2)), Ok(Named::Link(0)));
+    assert_eq!(named(Search::Down(3)), Err(Refusal::SearchUnsound));
+    let losses = calls::perform(triangle, 0, &[2; 9]);
+    assert_eq!(losses, Ok((Search::Down(1), 2, 6)));
+    for count in 0..8 {
+        let states = &[1; 8][..count];
+        let run = number(calls::run(triangle, 0, &[], states));
+        assert_eq!(run, if count < 3 { 13 } else { 0 });
+        let run = number(calls::round_run(triangle, 0, &round, states));
+        assert_eq!(run, if count < 6 { 13 } else { 0 });
+    }
+    // The trails of the triangle with every link in service.
+    let order = number(calls::order(triangle, 0, &trail_vec(TRIANGLE)));
+    assert_eq!(order, 12);
+    let run = calls::round_run(triangle, 0, &round_vec(TRIANGLE), &[1; 6]);
+    assert_eq!(number(run), 12);
+    // With two links out of service, or all three, it is apart.
+    for maps in [[0x0a, 3, 0x0b], [2, 0x0b, 0x0b], [0x0a, 0x0b, 0x0b]] {
+        let [one, two, three] = maps;
+        let listing = [3, 3, 3, 0, one, 1, two, 1, 2, three, 2, 0];
+        assert_eq!(number(calls::read(&listing)), 0);
+        assert_eq!(number(calls::summary(&listing)), 9);
+    }
+}
+
+/// Bridges, rules and counts against those of the plant with the links left
+/// out.
+#[test]
+fn out_of_service_bridges_and_rules() {
+    let mut seen = [0; 3];
+    for plant in plants_partly_out(20, 900, 12) {
+        let (left, numbers) = left_out(&plant);
+        let plain = Plain::new(&left);
+        let listing = make::listing_of(&plant);
+        let links = numbers.len();
+        let bridges: Vec<usize> = (0..links)
+            .filter(|link| plain.is_bridge(*link))
+            .map(|link| numbers[link])
+            .collect();
+        let (count, flags) = calls::bridges(&listing).unwrap();
+        assert_eq!(count, usize::from(plant.links));
+        let flagged: Vec<usize> = (0..flags.len()).filter(|link| flags[*link]).collect();
+        assert_eq!(flagged, bridges);
+        // One rule for each arc in use, by rising label.
+        let used = plain.used();
+        let labels = plain.labels().filter(|label| used[*label]);
+        let rules: Vec<(usize, usize, usize)> = labels
+            .map(|label| {
+                let listed = 2 * numbers[label / 2] + label % 2;
+                (plain.from(label), listed, plain.to(label))
+            })
+            .collect();
+        let page = calls::rules(&listing).unwrap();
+        let shown = page.rules().iter().map(|rule| {
+            let (from, to) = (usize::from(rule.from), usize::from(rule.to));
+            (from, usize::from(rule.label), to)
+        });
+        assert_eq!(shown.collect::<Vec<_>>(), rules);
+        assert_eq!(page.count, links + bridges.len());
+        let sent = |switch: usize| rules.iter().filter(|rule| rule.0 == switch).count();
+        let sent: Vec<usize> = (0..plain.switches).map(sent).collect();
+        let each: Vec<u16> = sent.iter().map(|count| *count as u16).collect();
+        assert_eq!(calls::by_switch(&listing), Ok(sending(&each)));
+        // The page's links are those in service at each switch.
+        let ends = |switch: usize| {
+            let ends = plain.links.iter().flat_map(|(one, two)| [*one, *two]);
+            ends.filter(|end| *end == switch).count()
+        };
+        let lines: Vec<(usize, usize)> = (0..plain.switches)
+            .map(|switch| (sent[switch], ends(switch)))
+            .collect();
+        let bought = rules.len() + (rules.len() * 7).div_ceil(100);
+        let text = calls::print_page(&listing, 7);
+        assert_eq!(
+            text.as_bytes(),
+            plain_page(&lines, rules.len(), bought),
+            "{listing:02x?}"
+        );
+        let sum = calls::summary(&listing).unwrap();
+        assert_eq!((sum.switches, sum.links), (plain.switches, links));
+        assert_eq!((sum.bridges, sum.rules), (bridges.len(), rules.len()));
+        // Links out of service, bridges, and bridges that would be none.
+        let listed = Plain::new(&plant);
+        let none = |link: &&usize| !listed.is_bridge(**link);
+        seen[0] += usize::from(links < usize::from(plant.links));
+        seen[1] += usize::from(!bridges.is_empty());
+        seen[2] += bridges.iter().filter(none).count();
+    }
+    assert!(seen.iter().all(|count| *count > 300), "{seen:?}");
+}
+
+/// Trails, orders, runs and searches against those of the plant with the links
+/// left out; and the states of links out of service make no difference.
+#[test]
+fn out_of_service_trails_and_runs() {
+    let mut chance = Chance::new(21);
+    for plant in plants_partly_out(21, 400, 2) {
+        let (left, numbers) = left_out(&plant);
+        let plain = Plain::new(&left);
+        let listing = make::listing_of(&plant);
+        let (all, links) = (usize::from(plant.links), numbers.len());
+        let (trail, round) = (plain.trail(), plain.round());
+        let lent = listed_labels(&numbers, &trail);
+        let lent_round = listed_labels(&numbers, &round);
+        assert_eq!(trail_vec(&listing), lent);
+        assert_eq!(round_vec(&listing), lent_round);
+        assert_eq!(calls::summary(&listing).unwrap().hops, lent.len());
+        // Buffers of as many places as hops, and of one fewer.
+        let mut buffer = vec![9; lent.len()];
+        assert_eq!(calls::trail(&listing, &mut buffer), Ok(lent.len()));
+        assert_eq!(buffer, lent);
+        let mut buffer = vec![9; lent_round.len()];
+        let hops = calls::round_trail(&listing, &mut buffer);
+        assert_eq!(hops, Ok(2 * links));
+        assert_eq!(buffer, lent_round);
+        if links > 0 {
+            let mut short = vec![9; lent.len() - 1];
+            assert_eq!(number(calls::trail(&listing, &mut short)), 10);
+            let mut short = vec![9; lent_round.len() - 1];
+            assert_eq!(number(calls::round_trail(&listing, &mut short)), 10);
+        }
+        let choice = calls::choice(&listing, 0, &lent, &lent_round);
+        assert_eq!(
+            choice,
+            Ok(if lent_round.len() < lent.len() {
+                Choice::Round(&lent_round[..])
+            } else {
+                Choice::Trail(&lent[..])
+            })
+        );
+        let used = plain.used();
+        let both = vec![true; used.len()];
+        let switch = chance.below(plain.switches);
+        let begin = switch as u8;
+        let (ring, order) = plain.ring(&trail, switch);
+        let listed: Vec<u16> = order.iter().map(|link| numbers[*link] as u16).collect();
+        let told = calls::order(&listing, begin, &lent).unwrap();
+        assert_eq!(told.links(), listed);
+        assert_eq!(
+            calls::new_search(&listing, begin),
+            Ok(Search::new(links as u16))
+        );
+
+        // States of the links in service, and of the directions.
+        let mut states = vec![1; links];
+        let mut ways = vec![1; 2 * links];
+        for _ in 0..chance.below(3).min(links) {
+            states[chance.below(links)] = 0;
+            ways[chance.below(2 * links)] = 0;
+        }
+        let mut free = stray(&mut chance, &plain, &used, switch);
+        free.retain(|label| usize::from(*label) < used.len());
+        // A label over a link out of service, which is lost there.
+        let idle: Vec<usize> = (0..all)
+            .filter(|link| plant.link[*link].out_of_service)
+            .collect();
+        let free_run = plain_run(&plain, &used, switch, &free, &states);
+        let full = plain_run(&plain, &used, switch, &ring, &states);
+        for state in [0, 255] {
+            let mut all_states = vec![state; all];
+            let mut all_ways = vec![state; 2 * all];
+            for (link, number) in numbers.iter().enumerate() {
+                all_states[*number] = states[link];
+                all_ways[2 * number] = ways[2 * link];
+                all_ways[2 * number + 1] = ways[2 * link + 1];
+            }
+            let mut labels = listed_labels(&numbers, &free);
+            let run = calls::run(&listing, begin, &labels, &all_states);
+            assert_eq!(run, Ok(free_run));
+            if !idle.is_empty() {
+                let place = chance.below(labels.len() + 1);
+                let over = (2 * chance.of(&idle) + chance.below(2)) as u16;
+                labels.insert(place, over);
+                let run = calls::run(&listing, begin, &labels, &all_states).unwrap();
+                assert!(!run.ended);
+                assert_eq!(run.hops, free_run.hops.min(place));
+            }
+            let run = calls::full_check(&listing, begin, &lent, &all_states);
+            assert_eq!(run, Ok(full));
+            // The whole round trail, up to the first direction that is down.
+            let (way, _) = plain.ring(&round, switch);
+            let open: Vec<bool> = ways.iter().map(|way| *way != 0).collect();
+            let run = calls::round_run(&listing, begin, &lent_round, &all_ways);
+            let up = vec![1; links];
+            assert_eq!(run, Ok(plain_run(&plain, &open, switch, &way, &up)));
+            for m in 1..=links {
+                let search = if m == links {
+                    Search::Checking(m as u16, 0)
+                } else {
+                    Search::Halving(m as u16, m as u16 + 1, 0)
+                };
+                let crossing = |label: &u16| usize::from(label / 2) == order[m - 1];
+                let mut out = ring.clone();
+                let mut probe = full;
+                if m < links {
+                    out.truncate(ring.iter().position(crossing).unwrap() + 1);
+                    let back: Vec<u16> = out.iter().rev().map(|label| label ^ 1).collect();
+                    let labels = [&out[..], &back].concat();
+                    probe = plain_run(&plain, &both, switch, &labels, &states);
+                }
+                let run = calls::run_probe(&listing, begin, &lent, &all_states, search);
+                assert_eq!(run, Ok(probe));
+                let (one, two) = calls::outward(&listing, begin, &lent, search).unwrap();
+                assert_eq!([one, two].concat(), listed_labels(&numbers, &out));
+                let named = calls::link_named(&listing, begin, &lent, Search::Down(m as u16));
+                assert_eq!(named, Ok(Named::Link(listed[m - 1])));
+            }
+            // As many states as links are in service are too few.
+            for count in links..all {
+                let run = calls::full_check(&listing, begin, &lent, &all_states[..count]);
+                assert_eq!(number(run), 13);
+            }
+            for count in 2 * links..2 * all {
+                let run = calls::round_run(&listing, begin, &lent_round, &all_ways[..count]);
+                assert_eq!(number(run), 13);
+            }
+        }
+        // A search of more links than are in service.
+        for count in links + 1..=all {
+            let count = count as u16;
+            for search in [
+                Search::Checking(count, 0),
+                Search::Halving(1, count.max(2), 0),
+                Search::Down(count),
+            ] {
+                let named = calls::link_named(&listing, begin, &lent, search);
+                assert_eq!(number(named), 14);
+            }
+        }
+        let list: Vec<u8> = (0..12).map(|_| chance.of(&[0, 1, 2, 2, 2])).collect();
+        let bundle = make::listing_of(&make::bundle(links.max(1)).plain());
+        if links > 0 {
+            let performed = calls::perform(&listing, begin, &list);
+            assert_eq!(performed, calls::perform(&bundle, 0, &list));
+        }
+    }
+}
+
+/// Refusal 9 goes by the links in service.
+#[test]
+fn out_of_service_apart() {
+    let mut chance = Chance::new(22);
+    let mut seen = [0; 2];
+    for turn in 0..600 {
+        let plant = make::joined(&mut chance, 6, 9).mixed(&mut chance);
+        let marks = make::marking(&mut chance, &plant, turn % make::MARKINGS);
+        let marked = make::marked(plant.clone(), &marks);
+        let whole = Plain::new(&left_out(&marked).0).is_whole();
+        let listing = make::listing_of(&marked);
+        assert_eq!(calls::read(&listing), Ok(marked));
+        let wanted = if whole { 0 } else { 9 };
+        assert_eq!(number(calls::summary(&listing)), wanted);
+        let round = number(calls::round_trail(&listing, &mut [0; 18]));
+        assert_eq!(round, wanted);
+        if !marks.is_empty() {
+            seen[usize::from(whole)] += 1;
+        }
+        // Every link out of service joins nothing.
+        let links: Vec<usize> = (0..usize::from(plant.links)).collect();
+        let none = make::listing_of(&make::marked(plant.clone(), &links));
+        let wanted = if plant.switches > 1 { 9 } else { 0 };
+        assert_eq!(number(calls::summary(&none)), wanted);
+    }
+    assert!(seen.iter().all(|count| *count > 100), "{seen:?}");
+}
+
+/// Every map of a record: after a link in service, after one out of service,
+/// and as the first.
+#[test]
+fn out_of_service_maps() {
+    for map in 0..=255u8 {
+        let has = |bit: u8| map >> bit & 1 == 1;
+        let fields = [(0, &[2][..]), (1, &[3]), (2, &[7, 1])];
+        let given = fields.iter().filter(|(bit, _)| has(*bit));
+        let record: Vec<u8> = given.flat_map(|(_, field)| field.to_vec()).collect();
+        for (before, ends) in [
+            (&[][..], (0, 0)),
+            (&[2, 1][..], (0, 1)),
+            (&[2, 1, 11, 1, 0], (1, 0)),
+            (&[10, 1, 9, 3], (3, 1)),
+        ] {
+            let links = before.len().div_ceil(3) as u8 + 1;
+            let listing = [&[3, 4, links, 0], before, &[map], &record].concat();
+            let first = if has(0) { 2 } else { ends.0 };
+            let second = if has(1) { 3 } else { ends.1 };
+            let wanted = if map > 15 {
+                Err(2)
+            } else if first == second {
+                Err(7)
+            } else {
+                Ok(Link {
+                    first,
+                    second,
+                    tag: if has(2) { 263 } else { 0 },
+                    out_of_service: has(3),
+                })
+            };
+            let read = calls::read(&listing).map_err(Refusal::number);
+            let last = read.map(|plant| plant.link[usize::from(links) - 1]);
+            assert_eq!(last, wanted, "{listing:02x?}");
+            if wanted.is_ok() {
+                let mut buffer = vec![9; listing.len() + 1];
+                assert_eq!(calls::rewrite(&listing, &mut buffer), Ok(listing.len()));
+                assert_eq!(buffer, [&listing[..], &[9]].concat());
+            }
+        }
+        // As the header's map: bit 3 is undefined.
+        let header = number(calls::read(&[map]));
+        assert_eq!(header, if map > 7 { 2 } else { 3 * u8::from(map > 0) });
+    }
+}
+
+/// What is read with no link out of service is what document 01 alone reads;
+/// and bit 3 is refusal 2 there.
+#[test]
+fn reading_by_document_01_alone() {
+    let mut chance = Chance::new(23);
+    let mut seen = [0; 3];
+    for round in 0..6_000 {
+        let plant = make::joined(&mut chance, 6, 9).mixed(&mut chance);
+        let plant = match round % 2 {
+            0 => plant,
+            _ => make::with_unplugged(&mut chance, &plant, 1),
+        };
+        let bytes = match round % 4 {
+            3 => make::listing_of(&plant),
+            _ => make::damaged(&mut chance, &plant),
+        };
+        let (read, alone) = (listing::read(&bytes), listing::read_unmarked(&bytes));
+        if read == alone {
+            seen[0] += 1;
+        } else {
+            // A mark before or where the reading ends.
+            assert_eq!(alone, Err(Refusal::MapUndefined), "{bytes:02x?}");
+            seen[1] += 1;
+        }
+        if let Ok(plant) = read {
+            let marked = plant.records().iter().any(|link| link.out_of_service);
+            assert_eq!(alone.is_err(), marked);
+            seen[2] += usize::from(marked);
+        }
+    }
+    assert!(seen.iter().all(|count| *count > 200), "{seen:?}");
+}
+
+/// The generator's own parts: each fault is met, and links are put out of
+/// service as they are asked to be.
+#[test]
+fn out_of_service_made() {
+    let mut chance = Chance::new(24);
+    for round in 0..2_000 {
+        let sketch = make::exact(&mut chance, 4, 5);
+        let plant = sketch.mixed(&mut chance);
+        let more = chance.within(1, 3);
+        let unplugged = make::with_unplugged(&mut chance, &plant, more);
+        assert_eq!(usize::from(unplugged.links), 5 + more);
+        assert_eq!(left_out(&unplugged).0, plant);
+        assert_eq!(left_out(&unplugged).1.len(), 5);
+        let refusal = 1 + (round % 8) as u8;
+        let listing = make::faulty(&mut chance, &unplugged, refusal);
+        assert_eq!(plain_read(&listing), Err(refusal), "{listing:02x?}");
     }
 }

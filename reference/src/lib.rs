@@ -1,7 +1,8 @@
 //! Second implementation of the network planner, made from document 01, orders
-//! 1 to 4 and 6 of document 02 and a list of calls.
+//! 1 to 4, 6 and 7 of document 02 and a list of calls.
 //!
-//! - [`plant`]: plant values, their limits and the refusals;
+//! - [`plant`]: plant values, their limits, the links in service and the
+//!   refusals;
 //! - [`listing`]: the listing's reader and writer;
 //! - [`net`]: depth-first visit, bridges, arcs in use, rule page, rules by
 //!   switch;
@@ -12,7 +13,8 @@
 //! - [`page`]: the buying page's writer and reader;
 //! - [`calls`]: every call with its refusals in checking order;
 //! - [`cases`]: the case format and its answers;
-//! - [`make`]: generator of plants, of damaged listings and of buying pages.
+//! - [`make`]: generator of plants, of links out of service, of damaged listings
+//!   and of buying pages.
 
 pub mod calls;
 pub mod cases;

@@ -2,8 +2,31 @@
 
 use crate::plant::{Answer, Link, Plant, Refusal};
 
-/// Bits 0 to 2 are defined in every map.
-const DEFINED: u8 = 0b111;
+/// What a kind of part is made of: the widths in bytes of its three fields, of
+/// bits 0 to 2, and the bits that its map may have.
+#[derive(Clone, Copy)]
+struct Form {
+    widths: [usize; 3],
+    defined: u8,
+}
+
+const HEADER: Form = Form {
+    widths: [1, 2, 1],
+    defined: 0b0111,
+};
+const RECORD: Form = Form {
+    widths: [1, 1, 2],
+    defined: 0b1111,
+};
+/// The record of a listing in which no link may be out of service.
+const UNMARKED: Form = Form {
+    defined: 0b0111,
+    ..RECORD
+};
+
+/// The bit of a record's map that puts its link out of service. It has no
+/// field.
+pub const OUT_OF_SERVICE: u8 = 0b1000;
 
 /// The lent listing and how far it has been read.
 struct Reading<'a> {
@@ -11,17 +34,13 @@ struct Reading<'a> {
     at: usize,
 }
 
-/// The widths in bytes of a part's three fields.
-type Widths = [usize; 3];
-const HEADER: Widths = [1, 2, 1];
-const RECORD: Widths = [1, 1, 2];
-
 impl Reading<'_> {
     /// One part: its map and the values of its fields. A field that is absent
     /// takes the value in `absent`. Refusals 1 to 4, the lowest first.
-    fn part(&mut self, widths: Widths, absent: [u16; 3]) -> Answer<[u16; 3]> {
+    fn part(&mut self, form: Form, absent: [u16; 3]) -> Answer<(u8, [u16; 3])> {
+        let Form { widths, defined } = form;
         let map = *self.bytes.get(self.at).ok_or(Refusal::MapMissing)?;
-        if map & !DEFINED != 0 {
+        if map & !defined != 0 {
             return Err(Refusal::MapUndefined);
         }
         let mut at = self.at + 1;
@@ -45,17 +64,27 @@ impl Reading<'_> {
             return Err(Refusal::FieldRedundant);
         }
         self.at = at;
-        Ok(values)
+        Ok((map, values))
     }
 }
 
 /// Reads a listing; refusals 1 to 8.
 pub fn read(listing: &[u8]) -> Answer<Plant> {
+    read_as(listing, RECORD)
+}
+
+/// Reads a listing by document 01 alone, where no link can be out of service
+/// and bit 3 of any map is undefined; refusals 1 to 8.
+pub fn read_unmarked(listing: &[u8]) -> Answer<Plant> {
+    read_as(listing, UNMARKED)
+}
+
+fn read_as(listing: &[u8], record: Form) -> Answer<Plant> {
     let mut reading = Reading {
         bytes: listing,
         at: 0,
     };
-    let [switches, links, start] = reading.part(HEADER, [1, 0, 0])?;
+    let (_, [switches, links, start]) = reading.part(HEADER, [1, 0, 0])?;
     let mut plant = Plant::EMPTY;
     plant.switches = switches as u8;
     plant.links = links;
@@ -66,11 +95,12 @@ pub fn read(listing: &[u8]) -> Answer<Plant> {
     let mut before = Link::default();
     for place in 0..usize::from(links) {
         let absent = [u16::from(before.first), u16::from(before.second), 0];
-        let [first, second, tag] = reading.part(RECORD, absent)?;
+        let (map, [first, second, tag]) = reading.part(record, absent)?;
         let link = Link {
             first: first as u8,
             second: second as u8,
             tag,
+            out_of_service: map & OUT_OF_SERVICE != 0,
         };
         plant.try_link(link)?;
         plant.link[place] = link;
@@ -89,7 +119,7 @@ struct Part {
 }
 
 impl Part {
-    fn new(widths: Widths, absent: [u16; 3], values: [u16; 3]) -> Part {
+    fn new(form: Form, absent: [u16; 3], values: [u16; 3]) -> Part {
         let mut part = Part {
             bytes: [0; 5],
             length: 1,
@@ -99,10 +129,10 @@ impl Part {
                 part.bytes[0] |= 1 << bit;
                 let [low, high] = values[bit].to_le_bytes();
                 part.bytes[part.length] = low;
-                if widths[bit] == 2 {
+                if form.widths[bit] == 2 {
                     part.bytes[part.length + 1] = high;
                 }
-                part.length += widths[bit];
+                part.length += form.widths[bit];
             }
         }
         part
@@ -121,7 +151,11 @@ fn parts(plant: &Plant) -> impl Iterator<Item = Part> + '_ {
         let absent = [u16::from(before.first), u16::from(before.second), 0];
         before = *link;
         let values = [u16::from(link.first), u16::from(link.second), link.tag];
-        Part::new(RECORD, absent, values)
+        let mut part = Part::new(RECORD, absent, values);
+        if link.out_of_service {
+            part.bytes[0] |= OUT_OF_SERVICE;
+        }
+        part
     });
     std::iter::once(Part::new(HEADER, [1, 0, 0], header)).chain(records)
 }

@@ -5,6 +5,7 @@
 
 use reference::calls;
 use reference::cases::{Answerer, Case, NAMES};
+use reference::listing;
 use reference::make::{self, Chance, Draft, Sketch};
 use reference::net::Net;
 use reference::packet::{self, Fate, Order};
@@ -21,11 +22,12 @@ use std::process::ExitCode;
 
 const SEED: u64 = 1;
 /// The first cases are of every call but the long run, the rules by switch, the
-/// pages and those of the round trail, those after them of packet runs alone,
-/// the next of rules by switch alone, of pages written alone, of pages read
-/// alone, of searches alone, of the allowance alone, of round trails alone, of
-/// round runs alone and of choices alone, and any more are of the kinds before
-/// the allowance.
+/// pages, those of the round trail and those given marks, those after them of
+/// packet runs alone, the next of rules by switch alone, of pages written alone,
+/// of pages read alone, of searches alone, of the allowance alone, of round
+/// trails alone, of round runs alone, of choices alone, of listings with links
+/// out of service, of plants written with marks and of plants reread with marks,
+/// and any more are of the kinds before the allowance.
 const FIRST: usize = 18_000;
 const RUNS: usize = 1_000;
 const BY_SWITCH: usize = 1_000;
@@ -36,9 +38,14 @@ const ALLOWANCES: usize = 1_100;
 const ROUND_TRAILS: usize = 400;
 const ROUND_RUNS: usize = 600;
 const CHOICES: usize = 500;
+const MARKED: usize = 1_100;
+const WRITTEN_MARKED: usize = 250;
+const REREAD: usize = 150;
 /// The cases before those of the allowance.
 const KINDS: usize = FIRST + RUNS + BY_SWITCH + WRITTEN + READ + SEARCHES;
-const COUNT: usize = KINDS + ALLOWANCES + ROUND_TRAILS + ROUND_RUNS + CHOICES;
+/// The cases before those with links out of service.
+const IN_SERVICE: usize = KINDS + ALLOWANCES + ROUND_TRAILS + ROUND_RUNS + CHOICES;
+const COUNT: usize = IN_SERVICE + MARKED + WRITTEN_MARKED + REREAD;
 
 /// The highest number of a refusal.
 const REFUSALS: usize = 18;
@@ -1474,7 +1481,8 @@ fn in_turn(chance: &mut Chance, switches: usize) -> Sketch {
 }
 
 /// A listing of so many bytes at least that meets a refusal, 1 to 9, of a plant
-/// with at most so many switches and links.
+/// with at most so many switches and links. It is judged by document 01 alone:
+/// a record's map with bit 3 counts as refusal 2.
 fn refused(
     chance: &mut Chance,
     refusal: u8,
@@ -1488,7 +1496,7 @@ fn refused(
             let plant = make::joined(chance, switches, links).mixed(chance);
             make::damaged(chance, &plant)
         };
-        let met = calls::net(&listing).err();
+        let met = listing::read_unmarked(&listing).and_then(Net::new).err();
         if met.is_some_and(|met| met.number() == refusal) && listing.len() >= least {
             return listing;
         }
@@ -2240,7 +2248,7 @@ impl Course {
         let order = Order::new(&self.net, trail, packet::place(&self.net, trail, switch));
         let mut outcomes = Vec::new();
         let mut back = 0;
-        let mut state = Search::new(self.net.plant.links);
+        let mut state = Search::new(self.net.links as u16);
         while let Ok(m) = state.ask() {
             let m = usize::from(m);
             let mut home =
@@ -3502,14 +3510,1216 @@ fn drawn_choice(chance: &mut Chance) -> Case {
     pair.choice(begin, &trail, &round)
 }
 
-/// How often each call is drawn, from call 1; the long run, the rules by switch,
-/// the pages and the calls of the round trail are drawn apart.
-const WEIGHTS: [usize; NAMES.len() - 1] = [
-    14, 9, 7, 5, 5, 9, 9, 7, 6, 8, 9, 7, 4, 2, 3, 6, 2, 7, 7, 1, 0, 0, 0, 0, 0, 0, 0,
+/// The number of the call that reads a listing.
+const LISTING_READ: u8 = 1;
+
+/// The calls that take a listing, but the long run.
+const LISTED: [u8; 19] = [
+    LISTING_READ,
+    3,
+    4,
+    5,
+    6,
+    7,
+    8,
+    9,
+    OUTWARD,
+    PROBE_RUN,
+    LINK_NAMED,
+    NEW_SEARCH,
+    PERFORM,
+    18,
+    RULES_BY_SWITCH,
+    PAGE_WRITTEN,
+    ROUND_TRAIL,
+    ROUND_RUN,
+    CHOICE,
 ];
 
-/// One case of any call but the long run, the rules by switch, the pages and
-/// those of the round trail, drawn by chance.
+/// Those of them that are given a switch, a trail, link states or a buffer.
+const AT_SWITCH: [u8; 10] = [
+    7, 8, 9, OUTWARD, PROBE_RUN, LINK_NAMED, NEW_SEARCH, PERFORM, ROUND_RUN, CHOICE,
+];
+const WITH_TRAIL: [u8; 7] = [8, 9, OUTWARD, PROBE_RUN, LINK_NAMED, ROUND_RUN, CHOICE];
+const WITH_STATES: [u8; 4] = [7, 8, PROBE_RUN, ROUND_RUN];
+const WITH_BUFFER: [u8; 4] = [6, 18, PAGE_WRITTEN, ROUND_TRAIL];
+
+/// The triangle of order 7: its last link is out of service.
+const MARKED_TRIANGLE: &[u8] = &[3, 3, 3, 0, 2, 1, 3, 1, 2, 0x0b, 2, 0];
+
+/// The arguments of a call that takes a listing, besides the listing. Each call
+/// has some of them.
+#[derive(Clone)]
+struct Arguments {
+    begin: u8,
+    labels: Vec<u16>,
+    trail: Vec<u16>,
+    round: Vec<u16>,
+    states: Vec<u8>,
+    search: Search,
+    list: Vec<u8>,
+    spare: u8,
+    places: usize,
+}
+
+impl Arguments {
+    fn case(&self, call: u8, listing: &[u8]) -> Case {
+        let case = Case::new(call).string(listing);
+        if call == PAGE_WRITTEN {
+            return case.byte(self.spare).word(self.places);
+        }
+        if WITH_BUFFER.contains(&call) {
+            return case.word(self.places);
+        }
+        if !AT_SWITCH.contains(&call) {
+            return case;
+        }
+        let case = case.byte(self.begin);
+        match call {
+            7 => case.labels(&self.labels).string(&self.states),
+            8 => case.labels(&self.trail).string(&self.states),
+            9 => case.labels(&self.trail),
+            OUTWARD | LINK_NAMED => case.labels(&self.trail).search(self.search),
+            PROBE_RUN => {
+                let case = case.labels(&self.trail).string(&self.states);
+                case.search(self.search)
+            }
+            NEW_SEARCH => case,
+            PERFORM => case.string(&self.list),
+            ROUND_RUN => case.labels(&self.round).string(&self.states),
+            _ => case.labels(&self.trail).labels(&self.round),
+        }
+    }
+}
+
+impl Pair {
+    /// How many links are in service.
+    fn service(&self) -> usize {
+        self.plant.in_service().count()
+    }
+
+    fn marked(&self) -> Vec<usize> {
+        let links = 0..usize::from(self.plant.links);
+        links
+            .filter(|number| self.plant.link[*number].out_of_service)
+            .collect()
+    }
+
+    /// The pair of the plant with every link in service.
+    fn unmarked(&self) -> Pair {
+        Pair::new(make::unmarked(self.plant.clone()))
+    }
+
+    /// The states that a call is given: links in service are up, and those out
+    /// of service are in one state.
+    fn idle(&self, chance: &mut Chance, call: u8, idle: u8) -> Vec<u8> {
+        let each = if call == ROUND_RUN { 2 } else { 1 };
+        let mut states = Vec::new();
+        for link in self.plant.records() {
+            for _ in 0..each {
+                let up = some_up(chance);
+                states.push(if link.out_of_service { idle } else { up });
+            }
+        }
+        states
+    }
+
+    /// Right arguments of a call.
+    fn arguments(&self, chance: &mut Chance, call: u8) -> Arguments {
+        let begin = self.some_switch(chance);
+        let service = self.service();
+        let hops = chance.within(1, 6);
+        let labels = match Net::new(self.plant.clone()) {
+            Ok(net) => walk(chance, &net, begin, hops, false),
+            Err(_) => Vec::new(),
+        };
+        let idle = chance.of(&[0, 0, 1, 255]);
+        let first = chance.below(service + 1);
+        Arguments {
+            begin,
+            labels,
+            trail: self.trail.clone(),
+            round: self.round.clone(),
+            states: self.idle(chance, call, idle),
+            search: right(chance, service, if call == LINK_NAMED { 80 } else { 0 }),
+            list: ending(chance, service, first),
+            spare: chance.of(&[0, 1, 10, 50, 100]),
+            places: match call {
+                6 => self.trail.len(),
+                18 => self.listing.len(),
+                PAGE_WRITTEN => page_length(usize::from(self.plant.switches)),
+                _ => self.round.len(),
+            },
+        }
+    }
+
+    /// A case with right arguments.
+    fn right(&self, chance: &mut Chance, call: u8) -> Case {
+        let arguments = self.arguments(chance, call);
+        arguments.case(call, &self.listing)
+    }
+
+    /// A case with right arguments; where the plant is apart, with those of the
+    /// plant with every link in service.
+    fn likely(&self, chance: &mut Chance, call: u8) -> Case {
+        if Net::new(self.plant.clone()).is_ok() {
+            self.right(chance, call)
+        } else {
+            let arguments = self.unmarked().arguments(chance, call);
+            arguments.case(call, &self.listing)
+        }
+    }
+}
+
+/// A list of calls that takes a search of so many links to its end, the first
+/// so many of its order being sound.
+fn ending(chance: &mut Chance, links: usize, first: usize) -> Vec<u8> {
+    let mut outcomes = Vec::new();
+    let mut state = Search::new(links as u16);
+    while let Ok(m) = state.ask() {
+        let home = usize::from(m) <= first;
+        let sendings = if home { 1 } else { usize::from(SENDINGS) };
+        outcomes.extend(vec![home; sendings]);
+        state = state.count(home).unwrap_or(Search::AllUp);
+    }
+    calls_for(chance, &outcomes, 15)
+}
+
+/// The sketch's plant, mixed, with so many links more that are out of service.
+fn unplugged(chance: &mut Chance, sketch: &Sketch, more: usize) -> Pair {
+    let plant = sketch.mixed(chance);
+    Pair::new(make::with_unplugged(chance, &plant, more))
+}
+
+/// Small joined plants with links out of service.
+fn unplugged_pairs(chance: &mut Chance) -> Vec<Pair> {
+    let sketches = [
+        (make::path(2), 1),
+        (make::path(2), 4),
+        (make::cycle(3), 1),
+        (make::tree(chance, 4), 3),
+        (make::bundle(2), 2),
+        (make::tailed(chance, 3, 5), 3),
+        (make::long(3, 2), 2),
+        (make::exact(chance, 4, 6), 3),
+    ];
+    sketches
+        .iter()
+        .map(|(sketch, more)| unplugged(chance, sketch, *more))
+        .collect()
+}
+
+/// The cases of listings with links out of service that do not wait for chance.
+fn fixed_marked(chance: &mut Chance, out: &mut Out) -> io::Result<()> {
+    fixed_marked_triangle(chance, out)?;
+    fixed_marked_maps(out)?;
+    fixed_marked_followers(chance, out)?;
+    fixed_markings(chance, out)?;
+    fixed_unplugged(chance, out)?;
+    fixed_as_unmarked(chance, out)?;
+    fixed_idle_states(chance, out)?;
+    fixed_marked_crossed(chance, out)?;
+    fixed_marked_searches(chance, out)?;
+    fixed_marked_listings_refused(chance, out)?;
+    fixed_marked_refused(chance, out)?;
+    fixed_marked_limits(chance, out)
+}
+
+/// Every call about the triangle of order 7, from every switch and with
+/// arguments that would be right were its last link in service; and about the
+/// triangle with other links out of service.
+fn fixed_marked_triangle(chance: &mut Chance, out: &mut Out) -> io::Result<()> {
+    let plant = calls::read(MARKED_TRIANGLE).map_err(|_| io::Error::other("no triangle"))?;
+    let triangle = Pair::new(plant);
+    let whole = triangle.unmarked();
+    for call in LISTED {
+        let begins = if AT_SWITCH.contains(&call) {
+            0..3
+        } else {
+            0..1
+        };
+        for begin in begins {
+            let mut arguments = triangle.arguments(chance, call);
+            arguments.begin = begin;
+            out.put(arguments.case(call, MARKED_TRIANGLE))?;
+        }
+    }
+    // Packets: over the two links in service, and over the last one.
+    for (begin, labels) in [
+        (0, &[0, 2, 3, 1][..]),
+        (0, &[0, 2, 4]),
+        (2, &[4]),
+        (2, &[4, 0]),
+        (0, &[5]),
+        (0, &[0, 5, 2]),
+        (2, &[3, 1, 5, 3]),
+        (1, &[2, 6]),
+    ] {
+        for idle in [0, 255] {
+            let mut arguments = triangle.arguments(chance, 7);
+            arguments.begin = begin;
+            arguments.labels = labels.to_vec();
+            arguments.states = vec![1, 1, idle];
+            out.put(arguments.case(7, MARKED_TRIANGLE))?;
+        }
+    }
+    // States: each link down, and one byte too few or too many.
+    for states in [
+        &[1, 1, 0][..],
+        &[1, 1, 255],
+        &[1, 0, 1],
+        &[0, 1, 1],
+        &[1, 1],
+        &[1, 1, 0, 0],
+        &[0, 0, 0],
+    ] {
+        for call in [8, PROBE_RUN] {
+            let mut arguments = triangle.arguments(chance, call);
+            arguments.states = states.to_vec();
+            out.put(arguments.case(call, MARKED_TRIANGLE))?;
+        }
+    }
+    for count in [3, 4, 5, 6, 7] {
+        let mut arguments = triangle.arguments(chance, ROUND_RUN);
+        arguments.states = vec![1; count];
+        out.put(arguments.case(ROUND_RUN, MARKED_TRIANGLE))?;
+    }
+    for label in 0..6 {
+        let mut arguments = triangle.arguments(chance, ROUND_RUN);
+        arguments.states = vec![1; 6];
+        arguments.states[label] = 0;
+        out.put(arguments.case(ROUND_RUN, MARKED_TRIANGLE))?;
+    }
+    // Searches of two links and of three.
+    for state in [
+        Search::Checking(2, 0),
+        Search::Checking(3, 0),
+        Search::Halving(1, 2, 0),
+        Search::Halving(1, 3, 0),
+        Search::Halving(2, 3, 0),
+        Search::Down(2),
+        Search::Down(3),
+        Search::AllUp,
+    ] {
+        for call in JUDGING {
+            let mut arguments = triangle.arguments(chance, call);
+            arguments.search = state;
+            out.put(arguments.case(call, MARKED_TRIANGLE))?;
+        }
+    }
+    // The trails of the triangle with every link in service.
+    for call in WITH_TRAIL {
+        let mut arguments = triangle.arguments(chance, call);
+        if call != CHOICE || chance.percent(50) {
+            arguments.trail = whole.trail.clone();
+        }
+        arguments.round = whole.round.clone();
+        out.put(arguments.case(call, MARKED_TRIANGLE))?;
+    }
+    // Buffers.
+    for call in WITH_BUFFER {
+        let arguments = triangle.arguments(chance, call);
+        for places in [arguments.places - 1, arguments.places + 2, 0] {
+            let arguments = Arguments {
+                places,
+                ..arguments.clone()
+            };
+            out.put(arguments.case(call, MARKED_TRIANGLE))?;
+        }
+    }
+    // Other links out of service: the first, the second, and two or more.
+    for marks in [&[0][..], &[1], &[0, 1], &[0, 1, 2]] {
+        let pair = Pair::new(make::marked(whole.plant.clone(), marks));
+        for call in LISTED {
+            if chance.percent([0, 50, 25, 25][marks.len()]) {
+                let case = pair.likely(chance, call);
+                out.put(case)?;
+            }
+        }
+    }
+    Ok(())
+}
+
+/// Maps with bit 3, with the bits above it and with others, in a record and in
+/// the header.
+fn fixed_marked_maps(out: &mut Out) -> io::Result<()> {
+    let calls = [1, 18, 3, RULES_BY_SWITCH, 1, 4];
+    let mut turn = 0;
+    let mut put = |listing: &[u8]| {
+        turn += 1;
+        let case = Case::new(calls[turn % calls.len()]).string(listing);
+        out.put(match calls[turn % calls.len()] {
+            18 => case.word(listing.len()),
+            _ => case,
+        })
+    };
+    for map in (0..16).chain([
+        0x10, 0x18, 0x1b, 0x20, 0x28, 0x2f, 0x40, 0x48, 0x4a, 0x80, 0x88, 0x8b, 0xf0, 0xf8, 0xff,
+    ]) {
+        // The fields of bits 0 to 2 after the map.
+        let fields: Vec<u8> = [&[1][..], &[2], &[7, 1]]
+            .iter()
+            .enumerate()
+            .filter(|(bit, _)| map >> bit & 1 == 1)
+            .flat_map(|(_, field)| field.to_vec())
+            .collect();
+        let record = [&[map], &fields[..]].concat();
+        // First of two, between two that are in service, and last after one
+        // that is out of service.
+        let listings = [
+            [&[3, 3, 2, 0], &record[..], &[2, 2]].concat(),
+            [&[3, 3, 3, 0, 2, 1], &record[..], &[3, 0, 2]].concat(),
+            [&[3, 3, 4, 0, 2, 1, 2, 2, 9, 1], &record[..]].concat(),
+        ];
+        let marked = (8..16).contains(&map);
+        for (place, listing) in listings.iter().enumerate() {
+            if marked || place == usize::from(map) % 3 {
+                put(listing)?;
+            }
+        }
+    }
+    // The header has no bit 3, with any fields.
+    for listing in [
+        &[0x08][..],
+        &[0x09, 2],
+        &[0x0a, 1, 0, 2],
+        &[0x0b, 2, 1, 0, 2, 1],
+        &[0x0c, 1],
+        &[0x0d, 2, 1],
+        &[0x0f, 2, 1, 0, 1, 2, 1],
+        &[0x0b, 3, 3, 0, 2, 1, 3, 1, 2, 0x0b, 2, 0],
+        &[0x18],
+        &[0x0b, 3],
+    ] {
+        put(listing)?;
+    }
+    Ok(())
+}
+
+/// Records out of service whose followers have both of their ends, one, or
+/// none, with a tag and without, and an end that is given needlessly.
+fn fixed_marked_followers(chance: &mut Chance, out: &mut Out) -> io::Result<()> {
+    let calls = [1, 3, 5, 18, 6, RULES_BY_SWITCH, 1, ROUND_TRAIL];
+    let mut turn = 0;
+    // The link before, the one out of service and its follower.
+    for (marked, follower) in [
+        ((2, 3), (2, 3)),
+        ((2, 3), (2, 0)),
+        ((2, 3), (1, 3)),
+        ((2, 3), (0, 1)),
+        ((2, 3), (0, 3)),
+        ((2, 3), (2, 1)),
+        ((0, 3), (0, 3)),
+        ((3, 1), (3, 1)),
+        ((0, 1), (0, 1)),
+        ((1, 0), (1, 0)),
+    ] {
+        for (tags, last) in [(0, false), (1, false), (2, false), (3, true)] {
+            let sketch = Sketch {
+                switches: 4,
+                pairs: vec![(0, 1), marked, follower, (1, 2), (2, 3)],
+            };
+            let mut plant = make::marked(sketch.plain(), &[1]);
+            if last {
+                // The follower is out of service too.
+                plant.link[2].out_of_service = true;
+            }
+            plant.link[1].tag = [0, 0x0203, 0, 0x0100][tags];
+            plant.link[2].tag = [0, 0, 0x0203, 0x0302][tags];
+            let pair = Pair::new(plant);
+            let case = pair.likely(chance, calls[turn % calls.len()]);
+            turn += 1;
+            out.put(case)?;
+        }
+    }
+    // At the front, where both ends count as 0 before.
+    for listing in [
+        &[3, 2, 2, 0, 10, 1, 0][..],
+        &[3, 2, 2, 0, 9, 1, 0],
+        &[3, 2, 2, 0, 10, 1, 8],
+        &[3, 2, 3, 0, 10, 1, 8, 0],
+        &[3, 2, 3, 0, 10, 1, 4, 5, 0, 8],
+        &[3, 3, 3, 0, 14, 1, 5, 0, 2, 2, 3, 1, 2],
+        &[3, 2, 1, 0, 8],
+        &[3, 2, 2, 0, 8, 2, 1],
+        // An end as in the record out of service, and as in the one before it.
+        &[3, 4, 3, 0, 2, 1, 11, 2, 3, 1, 2],
+        &[3, 4, 3, 0, 2, 1, 11, 2, 3, 2, 3],
+        &[3, 4, 3, 0, 2, 1, 11, 2, 3, 1, 0],
+        &[3, 4, 3, 0, 2, 1, 11, 2, 3, 2, 1],
+        &[3, 4, 3, 0, 2, 1, 11, 2, 3, 9, 2],
+        &[3, 4, 3, 0, 2, 1, 11, 2, 3, 9, 0],
+        &[3, 4, 3, 0, 2, 1, 11, 2, 3, 4, 0, 0],
+    ] {
+        out.put(Case::new(LISTING_READ).string(listing))?;
+    }
+    Ok(())
+}
+
+/// Small plants of each kind with links chosen in each way out of service, the
+/// calls in turn.
+fn fixed_markings(chance: &mut Chance, out: &mut Out) -> io::Result<()> {
+    let parallel = Sketch {
+        switches: 4,
+        pairs: vec![(0, 1), (1, 0), (1, 2), (2, 3), (3, 2), (2, 3)],
+    };
+    let sketches = [
+        parallel,
+        make::tree(chance, 5),
+        make::cycle(4),
+        make::tailed(chance, 3, 5),
+        make::rings(chance, &[3, 3]),
+        make::exact(chance, 4, 9),
+        make::bundle(3),
+        make::table_one(),
+        make::exact(chance, 10, 20),
+    ];
+    let mut turn = 0;
+    for sketch in &sketches {
+        for way in 0..make::MARKINGS {
+            let plant = sketch.mixed(chance);
+            let marks = make::marking(chance, &plant, way);
+            let pair = Pair::new(make::marked(plant, &marks));
+            let case = pair.likely(chance, LISTED[turn % LISTED.len()]);
+            turn += 1;
+            out.put(case)?;
+        }
+    }
+    // No link of one switch, and none of one link.
+    for sketch in [make::path(1), make::path(2)] {
+        let plant = sketch.plain();
+        let marks = make::marking(chance, &plant, 3);
+        let pair = Pair::new(make::marked(plant, &marks));
+        for call in [6, NEW_SEARCH] {
+            let case = pair.likely(chance, call);
+            out.put(case)?;
+        }
+    }
+    Ok(())
+}
+
+/// Every call about joined plants with links out of service.
+fn fixed_unplugged(chance: &mut Chance, out: &mut Out) -> io::Result<()> {
+    for (turn, pair) in unplugged_pairs(chance).into_iter().enumerate() {
+        for call in LISTED.into_iter().skip(turn % 2).step_by(2) {
+            let case = pair.right(chance, call);
+            out.put(case)?;
+        }
+    }
+    // Trees that would have no bridge, or fewer.
+    for (switches, more) in [(3, 1), (4, 4), (6, 5), (9, 3)] {
+        let tree = make::tree(chance, switches);
+        let pair = unplugged(chance, &tree, more);
+        for call in [3, 4, 5, RULES_BY_SWITCH, PAGE_WRITTEN] {
+            let case = pair.right(chance, call);
+            out.put(case)?;
+        }
+    }
+    // Those of which the other trail would be the shorter one.
+    let shorter = |pair: &Pair| pair.round.len() < pair.trail.len();
+    for wanted in [false, true, false, true] {
+        let pair = loop {
+            let sketch = make::exact(chance, 4, 6);
+            let pair = unplugged(chance, &sketch, 3);
+            if shorter(&pair) == wanted && shorter(&pair.unmarked()) != wanted {
+                break pair;
+            }
+        };
+        let case = pair.right(chance, CHOICE);
+        out.put(case)?;
+        let mut arguments = pair.arguments(chance, CHOICE);
+        arguments.trail = pair.spared(chance, &pair.trail, 3, 2);
+        arguments.round = pair.spared(chance, &pair.round, 2, 4);
+        out.put(arguments.case(CHOICE, &pair.listing))?;
+    }
+    Ok(())
+}
+
+/// Arguments that would be right were every link in service.
+fn fixed_as_unmarked(chance: &mut Chance, out: &mut Out) -> io::Result<()> {
+    for (turn, pair) in unplugged_pairs(chance).into_iter().skip(2).enumerate() {
+        let whole = pair.unmarked();
+        let (service, links) = (pair.service(), pair.labels() / 2);
+        // Trails.
+        for call in WITH_TRAIL {
+            if (usize::from(call) + turn) % 2 == 0 {
+                let mut arguments = pair.arguments(chance, call);
+                arguments.trail = whole.trail.clone();
+                arguments.round = whole.round.clone();
+                out.put(arguments.case(call, &pair.listing))?;
+            }
+        }
+        let mut arguments = pair.arguments(chance, CHOICE);
+        if turn % 2 == 0 {
+            arguments.trail = whole.trail.clone();
+        } else {
+            arguments.round = whole.round.clone();
+        }
+        out.put(arguments.case(CHOICE, &pair.listing))?;
+        // Searches of as many links as the listing has.
+        let all = links as u16;
+        let past = chance.within(service + 1, links) as u16;
+        for (place, state) in [
+            Search::Checking(all, 0),
+            Search::Halving(1, past, 0),
+            Search::Down(past),
+            Search::Down(service as u16),
+            Search::Checking(service as u16, 0),
+        ]
+        .into_iter()
+        .enumerate()
+        {
+            let mut arguments = pair.arguments(chance, LINK_NAMED);
+            arguments.search = state;
+            let calls = [JUDGING[(turn + place) % 3], LINK_NAMED];
+            for call in &calls[..if place == 2 { 2 } else { 1 }] {
+                out.put(arguments.case(*call, &pair.listing))?;
+            }
+        }
+        // States of as many links as are in service, and of more.
+        let between = chance.within(service, links - 1);
+        for (call, count) in [
+            ([7, 8, PROBE_RUN][turn % 3], service),
+            ([8, PROBE_RUN, 7][turn % 3], between),
+            ([7, 8, PROBE_RUN][turn % 3], links),
+            (ROUND_RUN, 2 * service),
+            (ROUND_RUN, 2 * between + turn % 2),
+            (ROUND_RUN, 2 * links - 1),
+            (ROUND_RUN, 2 * links),
+        ] {
+            let mut arguments = pair.arguments(chance, call);
+            arguments.states.truncate(count);
+            out.put(arguments.case(call, &pair.listing))?;
+        }
+        // Buffers for the hops over all links.
+        for (call, places) in [
+            (6, whole.trail.len()),
+            (ROUND_TRAIL, whole.round.len()),
+            (ROUND_TRAIL, pair.round.len() - 1),
+        ] {
+            let mut arguments = pair.arguments(chance, call);
+            arguments.places = places;
+            out.put(arguments.case(call, &pair.listing))?;
+        }
+    }
+    Ok(())
+}
+
+/// Runs with links in service down and up, and those out of service in any
+/// state.
+fn fixed_idle_states(chance: &mut Chance, out: &mut Out) -> io::Result<()> {
+    let tailed = make::tailed(chance, 3, 4);
+    for (sketch, more) in [(make::cycle(3), 2), (tailed, 2), (make::bundle(3), 1)] {
+        let pair = unplugged(chance, &sketch, more);
+        for idle in [0, 255] {
+            for call in WITH_STATES {
+                let mut arguments = pair.arguments(chance, call);
+                arguments.states = pair.idle(chance, call, idle);
+                if call == PROBE_RUN {
+                    arguments.search = Search::Checking(pair.service() as u16, 0);
+                }
+                out.put(arguments.case(call, &pair.listing))?;
+            }
+        }
+        // Each link in service down in turn.
+        for (number, _) in pair.plant.in_service() {
+            for call in [8, PROBE_RUN] {
+                let mut arguments = pair.arguments(chance, call);
+                arguments.states[number] = 0;
+                out.put(arguments.case(call, &pair.listing))?;
+            }
+            let mut arguments = pair.arguments(chance, ROUND_RUN);
+            arguments.states[2 * number + chance.below(2)] = 0;
+            out.put(arguments.case(ROUND_RUN, &pair.listing))?;
+        }
+    }
+    Ok(())
+}
+
+/// Packets of free labels that come to a link out of service: at the front, on
+/// the way and at the end.
+fn fixed_marked_crossed(chance: &mut Chance, out: &mut Out) -> io::Result<()> {
+    for pair in unplugged_pairs(chance) {
+        let net = Net::new(pair.plant.clone()).map_err(|_| io::Error::other("a plant apart"))?;
+        for third in 0..3 {
+            let label = 2 * chance.of(&pair.marked()) as u16 + chance.below(2) as u16;
+            let (from, to) = net.ends(label);
+            // The trail up to the link's end, and a walk on from the other one.
+            let way = pair.trail.iter().copied();
+            let mut labels: Vec<u16> = way.take_while(|next| net.ends(*next).0 != from).collect();
+            let hops = chance.within(1, 4);
+            let on = walk(chance, &net, to as u8, hops, false);
+            let mut arguments = pair.arguments(chance, 7);
+            arguments.begin = pair.plant.start;
+            if third == 0 {
+                arguments.begin = from as u8;
+                labels.clear();
+            }
+            labels.push(label);
+            if third < 2 {
+                labels.extend(on);
+            }
+            arguments.labels = labels;
+            let idle = chance.of(&[0, 1, 255]);
+            arguments.states = pair.idle(chance, 7, idle);
+            out.put(arguments.case(7, &pair.listing))?;
+        }
+    }
+    Ok(())
+}
+
+/// Searches of few links in service among more: every first broken link, and
+/// losses alone.
+fn fixed_marked_searches(chance: &mut Chance, out: &mut Out) -> io::Result<()> {
+    for (links, more) in [(1, 1), (2, 3), (3, 1), (5, 4)] {
+        let sketch = make::exact(chance, links.clamp(2, 4), links);
+        let pair = unplugged(chance, &sketch, more);
+        let begin = pair.some_switch(chance);
+        out.put(Case::new(NEW_SEARCH).string(&pair.listing).byte(begin))?;
+        for first in 0..=links {
+            let list = ending(chance, links, first);
+            out.put(performed(&pair.listing, begin, &list))?;
+        }
+        let probes = 1 + usize::from(calls::allowance(links as u16));
+        let list = vec![2; usize::from(SENDINGS) * probes - 1];
+        out.put(performed(&pair.listing, begin, &list))?;
+        // The order from every switch, and the link at every place of it.
+        for begin in 0..pair.plant.switches {
+            let mut arguments = pair.arguments(chance, 9);
+            arguments.begin = begin;
+            out.put(arguments.case(9, &pair.listing))?;
+        }
+        for place in 1..=links {
+            let mut arguments = pair.arguments(chance, LINK_NAMED);
+            arguments.search = Search::Down(place as u16);
+            out.put(arguments.case(LINK_NAMED, &pair.listing))?;
+        }
+    }
+    Ok(())
+}
+
+/// Each refusal of the listing in every call: 1 to 8 at a link out of service
+/// or next to it, and 9 for want of a link that is out of service.
+fn fixed_marked_listings_refused(chance: &mut Chance, out: &mut Out) -> io::Result<()> {
+    for call in LISTED {
+        for refusal in 1..=8 {
+            let sketch = make::joined(chance, 4, 5);
+            let sketch = if sketch.switches == 1 {
+                make::path(2)
+            } else {
+                sketch
+            };
+            let more = chance.within(1, 2);
+            let pair = unplugged(chance, &sketch, more);
+            let listing = make::faulty(chance, &pair.plant, refusal);
+            let arguments = pair.arguments(chance, call);
+            out.put(arguments.case(call, &listing))?;
+        }
+        if call != 1 && call != 18 {
+            let tailed = make::tailed(chance, 3, 5);
+            let plant = tailed.mixed(chance);
+            let marks = make::marking(chance, &plant, 4);
+            let case = Pair::new(make::marked(plant, &marks)).likely(chance, call);
+            out.put(case)?;
+        }
+    }
+    Ok(())
+}
+
+/// The refusals from 10 on with links out of service: each alone, and several
+/// at once, so that their order shows.
+fn fixed_marked_refused(chance: &mut Chance, out: &mut Out) -> io::Result<()> {
+    let tailed = make::tailed(chance, 3, 5);
+    let pair = unplugged(chance, &tailed, 2);
+    let (service, count) = (pair.service() as u16, pair.plant.switches);
+    for call in LISTED {
+        let arguments = pair.arguments(chance, call);
+        if AT_SWITCH.contains(&call) {
+            let begin = chance.of(&[count, count + 1, 64, 255]);
+            let arguments = Arguments {
+                begin,
+                ..arguments.clone()
+            };
+            out.put(arguments.case(call, &pair.listing))?;
+        }
+        if WITH_TRAIL.contains(&call) {
+            let mut arguments = arguments.clone();
+            let way = chance.below(CHANGES);
+            arguments.trail = pair.changed(chance, &pair.trail, way % 7);
+            arguments.round = pair.changed(chance, &pair.round, way % 7);
+            out.put(arguments.case(call, &pair.listing))?;
+        }
+        if WITH_BUFFER.contains(&call) {
+            let mut arguments = arguments.clone();
+            arguments.places -= 1;
+            out.put(arguments.case(call, &pair.listing))?;
+        }
+    }
+    for call in JUDGING {
+        for state in [
+            Search::Down(1),
+            Search::AllUp,
+            Search::Checking(service, 3),
+            Search::Checking(service - 1, 0),
+            Search::Halving(1, service + 1, 0),
+        ] {
+            let mut arguments = pair.arguments(chance, call);
+            arguments.search = state;
+            out.put(arguments.case(call, &pair.listing))?;
+        }
+    }
+    for spare in [100, 101, 255] {
+        let mut arguments = pair.arguments(chance, PAGE_WRITTEN);
+        arguments.spare = spare;
+        out.put(arguments.case(PAGE_WRITTEN, &pair.listing))?;
+    }
+    // Several at once: 9, 11, 12 by the trail of all links, 13 by as many
+    // states as links are in service, 14 by the count of all links.
+    let plant = tailed.mixed(chance);
+    let marks = make::marking(chance, &plant, 4);
+    let apart = Pair::new(make::marked(plant, &marks));
+    for turn in 0..32 {
+        let bad = |kind: usize| turn >> kind & 1 == 1;
+        let call = WITH_TRAIL[turn % WITH_TRAIL.len()];
+        let here = if bad(4) && turn % 3 > 0 {
+            &apart
+        } else {
+            &pair
+        };
+        let whole = here.unmarked();
+        let mut arguments = if bad(1) { &whole } else { here }.arguments(chance, call);
+        arguments.search = Search::Checking(service, 0);
+        arguments.states = here.idle(chance, call, 0);
+        if bad(0) {
+            arguments.begin = count;
+        }
+        if bad(2) {
+            let states = here.service() * arguments.states.len() / (here.labels() / 2);
+            arguments.states.truncate(states);
+        }
+        if bad(3) {
+            arguments.search = Search::Checking(here.plant.links, 0);
+        }
+        out.put(arguments.case(call, &here.listing))?;
+    }
+    Ok(())
+}
+
+/// Plants at the limits: 64 switches and 256 links, with some, with many and
+/// with as many as can be out of service.
+fn fixed_marked_limits(chance: &mut Chance, out: &mut Out) -> io::Result<()> {
+    let mut put = |chance: &mut Chance, plant: &Plant, way: usize, call: u8| {
+        let marks = make::marking(chance, plant, way);
+        let pair = Pair::new(make::marked(plant.clone(), &marks));
+        let case = pair.likely(chance, call);
+        out.put(case)
+    };
+    let most = make::exact(chance, SWITCHES, LINKS).mixed(chance);
+    for (way, call) in [
+        (9, 3),
+        (9, 18),
+        (5, 4),
+        (1, 1),
+        (9, ROUND_TRAIL),
+        (9, NEW_SEARCH),
+        (10, 5),
+        (3, 3),
+        (9, 8),
+        (9, LINK_NAMED),
+        (9, CHOICE),
+        (10, ROUND_RUN),
+        (9, PROBE_RUN),
+        (10, RULES_BY_SWITCH),
+    ] {
+        put(chance, &most, way, call)?;
+    }
+    let dense = make::exact(chance, 20, 60).mixed(chance);
+    for (way, call) in [(10, 9), (5, OUTWARD), (10, PROBE_RUN), (2, 8), (10, CHOICE)] {
+        put(chance, &dense, way, call)?;
+    }
+    let bundle = make::bundle(LINKS).plain();
+    for (way, call) in [
+        (0, 6),
+        (7, 3),
+        (7, PERFORM),
+        (1, ROUND_RUN),
+        (7, CHOICE),
+        (10, PAGE_WRITTEN),
+        (7, PROBE_RUN),
+        (3, RULES_BY_SWITCH),
+    ] {
+        put(chance, &bundle, way, call)?;
+    }
+    // A ring of all switches, which is a path without one link of it.
+    let ring = make::cycle(SWITCHES).mixed(chance);
+    for (way, call) in [
+        (5, 3),
+        (0, 6),
+        (1, RULES_BY_SWITCH),
+        (5, PAGE_WRITTEN),
+        (2, 4),
+    ] {
+        put(chance, &ring, way, call)?;
+    }
+    let longest = make::longest_listing();
+    for way in [3, 10] {
+        put(chance, &longest, way, 18)?;
+    }
+    Ok(())
+}
+
+/// The most hops of a trail that is lent with links out of service in a case
+/// drawn by chance.
+const LENT_MARKED: usize = 120;
+
+/// A plant with links out of service, drawn by chance: joined more often than
+/// not.
+fn some_marked(chance: &mut Chance) -> Pair {
+    let (switches, links) = chance.of(&[(5, 8), (5, 8), (12, 24), (32, 60)]);
+    let plant = make::joined(chance, switches, links).mixed(chance);
+    if chance.percent(60) {
+        let more = chance.within(1, 4);
+        return Pair::new(make::with_unplugged(chance, &plant, more));
+    }
+    let way = chance.below(make::MARKINGS);
+    let marks = make::marking(chance, &plant, way);
+    Pair::new(make::marked(plant, &marks))
+}
+
+/// One case of a listing with links out of service, drawn by chance.
+fn drawn_marked(chance: &mut Chance) -> Case {
+    let call = chance.of(&LISTED);
+    let mut pair = some_marked(chance);
+    while WITH_TRAIL.contains(&call) && pair.trail.len() > LENT_MARKED {
+        pair = some_marked(chance);
+    }
+    if chance.percent(15) {
+        pair.listing = make::damaged(chance, &pair.plant);
+    }
+    let mut arguments = if chance.percent(90) {
+        pair.arguments(chance, call)
+    } else {
+        pair.unmarked().arguments(chance, call)
+    };
+    if chance.percent(50) {
+        let labels = arguments.states.len();
+        if labels > 0 {
+            arguments.states[chance.below(labels)] = 0;
+        }
+    }
+    match chance.below(12) {
+        0 => arguments.begin = switch(chance, &pair.plant),
+        1 => {
+            let way = chance.below(CHANGES);
+            arguments.trail = pair.changed(chance, &pair.trail, way);
+            arguments.round = pair.changed(chance, &pair.round, way);
+        }
+        2 => {
+            let count = chance.below(arguments.states.len() + 1);
+            arguments.states.truncate(count);
+        }
+        3 => arguments.search = wrong(chance, pair.service()),
+        4 => arguments.search = right(chance, pair.labels() / 2, 30),
+        5 => arguments.places = trail_places(chance, arguments.places),
+        6 => arguments.list = call_list(chance),
+        7 => arguments.spare = chance.byte(),
+        _ => {}
+    }
+    arguments.case(call, &pair.listing)
+}
+
+/// The numbers of the calls that are given a plant with marks.
+const WRITE_MARKED: u8 = 28;
+const REREAD_MARKED: u8 = 29;
+
+/// A plant to be written, and the string that tells its marks.
+#[derive(Clone)]
+struct Writing {
+    plant: Plant,
+    given: usize,
+    marks: Vec<u8>,
+    places: usize,
+}
+
+impl Writing {
+    /// A plant with as many places as it has links, marked as it says, in a
+    /// buffer that is long enough. The string ends with the last mark.
+    fn new(chance: &mut Chance, plant: &Plant) -> Writing {
+        let last = plant.link.iter().rposition(|link| link.out_of_service);
+        let marked = &plant.link[..last.map_or(0, |last| last + 1)];
+        let marks = marked.iter().map(|link| match link.out_of_service {
+            true => chance.of(&[1, 1, 2, 128, 255]),
+            false => 0,
+        });
+        Writing {
+            marks: marks.collect(),
+            given: usize::from(plant.links),
+            places: listing::write_vec(plant).map_or(40, |listing| listing.len()),
+            plant: plant.clone(),
+        }
+    }
+
+    fn case(&self, call: u8) -> Case {
+        let case = Case::new(call).marked_plant(&self.plant, self.given, &self.marks);
+        case.word(self.places)
+    }
+
+    /// With a mark more, at a place that may be past the last link.
+    fn mark(mut self, place: usize, mark: u8) -> Writing {
+        let length = self.marks.len().max(place + 1);
+        self.marks.resize(length, 0);
+        self.marks[place] = mark;
+        self
+    }
+
+    fn in_places(mut self, places: usize) -> Writing {
+        self.places = places;
+        self
+    }
+
+    /// With a string of so many bytes.
+    fn told(mut self, length: usize) -> Writing {
+        self.marks.resize(length, 0);
+        self
+    }
+}
+
+/// The cases of plants written, or written and reread, with marks that do not
+/// wait for chance.
+fn fixed_writings(chance: &mut Chance, out: &mut Out, call: u8) -> io::Result<()> {
+    fixed_marks_written(chance, out, call)?;
+    fixed_marks_past(chance, out, call)?;
+    fixed_marks_refused(chance, out, call)?;
+    fixed_marks_limits(chance, out, call)
+}
+
+/// Marks on none, the first, the last, some and all links, with each mark, and
+/// with strings and buffers of any length.
+fn fixed_marks_written(chance: &mut Chance, out: &mut Out, call: u8) -> io::Result<()> {
+    let triangle = make::cycle(3).plain();
+    for marks in [
+        &[][..],
+        &[0],
+        &[1],
+        &[2],
+        &[0, 1],
+        &[0, 2],
+        &[1, 2],
+        &[0, 1, 2],
+    ] {
+        let plant = make::marked(triangle.clone(), marks);
+        let writing = Writing::new(chance, &plant);
+        out.put(writing.case(call))?;
+        let length = writing.places;
+        let places = chance.of(&[length - 1, length + 1, length + 9, 0]);
+        out.put(writing.in_places(places).case(call))?;
+    }
+    // Buffers.
+    let tailed = make::tailed(chance, 3, 5).mixed(chance);
+    let marks = make::marking(chance, &tailed, 2);
+    let tailed = make::marked(tailed, &marks);
+    let writing = Writing::new(chance, &tailed);
+    let length = writing.places;
+    for places in [
+        0,
+        1,
+        length - 2,
+        length - 1,
+        length,
+        length + 1,
+        length + 50,
+    ] {
+        out.put(writing.clone().in_places(places).case(call))?;
+    }
+    // Every mark is the same.
+    for mark in [1, 2, 3, 8, 127, 128, 254, 255] {
+        let writing = Writing::new(chance, &triangle);
+        out.put(writing.mark(chance.below(3), mark).case(call))?;
+    }
+    // Strings that are shorter than the links, as long and longer.
+    for length in [0, 1, 2, 3, 4, 5, 6, LINKS - 1, LINKS, LINKS + 1] {
+        let plant = make::marked(triangle.clone(), &[0]);
+        let writing = Writing::new(chance, &plant);
+        out.put(writing.told(length).case(call))?;
+    }
+    // Tags and followers.
+    for way in 0..make::MARKINGS {
+        let sketch = Sketch {
+            switches: 3,
+            pairs: vec![(0, 1), (0, 1), (2, 1), (2, 1), (2, 0)],
+        };
+        let mut plant = sketch.plain();
+        for link in &mut plant.link[..5] {
+            link.tag = chance.of(&[0, 0, 1, 256, 0xffff]);
+        }
+        let marks = make::marking(chance, &plant, way);
+        let plant = make::marked(plant, &marks);
+        out.put(Writing::new(chance, &plant).case(call))?;
+    }
+    Ok(())
+}
+
+/// Marks past the last link, alone and with other faults; and bytes past the
+/// last place, which tell nothing.
+fn fixed_marks_past(chance: &mut Chance, out: &mut Out, call: u8) -> io::Result<()> {
+    let one = make::path(1).plain();
+    let triangle = make::marked(make::cycle(3).plain(), &[1]);
+    for (plant, links) in [(&one, 0), (&triangle, 3)] {
+        let writing = Writing::new(chance, plant);
+        out.put(writing.case(call))?;
+        for place in [links, links + 1, 9, LINKS - 1] {
+            let mark = chance.of(&[1, 2, 128, 255]);
+            out.put(writing.clone().mark(place, mark).case(call))?;
+        }
+        for place in [LINKS, LINKS + 1, LINKS + 40] {
+            out.put(writing.clone().mark(place, 1).case(call))?;
+        }
+        // A place past the last link is told to be zero, or not.
+        let mut told = writing.clone();
+        told.given = links + 2;
+        out.put(told.case(call))?;
+        out.put(told.clone().mark(links + 1, 1).case(call))?;
+        told.plant.link[links].tag = 1;
+        out.put(told.case(call))?;
+        out.put(told.clone().mark(links, 255).case(call))?;
+    }
+    // Before 6, 7 and 16.
+    for way in 0..4 {
+        let mut plant = triangle.clone();
+        match way {
+            0 => plant.link[2].second = 3,
+            1 => plant.link[1].second = plant.link[1].first,
+            2 => plant.link[0] = plant.link[3],
+            _ => {}
+        }
+        let places = [30, 30, 0, 5][way];
+        let writing = Writing::new(chance, &plant).in_places(places);
+        out.put(writing.case(call))?;
+        out.put(writing.mark(chance.of(&[3, 4, 200]), 1).case(call))?;
+    }
+    // A link fewer, so that its mark is past the last link; and one more, so
+    // that a place past them is a link from switch 0 to itself.
+    for (links, place) in [(2, 2), (2, 1), (4, 3), (4, 1), (4, 4)] {
+        let mut writing = Writing::new(chance, &make::cycle(3).plain());
+        writing.plant.links = links;
+        writing.given = chance.of(&[3, 3, usize::from(links)]);
+        out.put(writing.mark(place, 1).case(call))?;
+    }
+    Ok(())
+}
+
+/// Links out of service that join a switch to itself or have an end out of
+/// range, before and after others that do; and header values out of range.
+fn fixed_marks_refused(chance: &mut Chance, out: &mut Out, call: u8) -> io::Result<()> {
+    let plant = make::exact(chance, 4, 5).mixed(chance);
+    for place in [0, 2, 4] {
+        for fault in 0..5 {
+            let mut plant = make::marked(plant.clone(), &[place]);
+            let link = &mut plant.link[place];
+            match fault {
+                0 => link.first = link.second,
+                1 => link.first = chance.of(&[4, 5, 64, 255]),
+                2 => link.second = chance.of(&[4, 5, 64, 255]),
+                3 => (link.first, link.second) = (4, 4),
+                _ => (link.first, link.second, link.tag) = (0, 0, 0),
+            }
+            let writing = Writing::new(chance, &plant);
+            let places = chance.of(&[0, 12, 40]);
+            out.put(writing.in_places(places).case(call))?;
+        }
+    }
+    // One out of service and one in service, in either order.
+    for (marked, other) in [(1, 3), (3, 1)] {
+        for end in [false, true] {
+            let mut plant = make::marked(plant.clone(), &[marked]);
+            let (one, two) = if end {
+                (marked, other)
+            } else {
+                (other, marked)
+            };
+            plant.link[one].first = 7;
+            plant.link[two].first = plant.link[two].second;
+            out.put(Writing::new(chance, &plant).case(call))?;
+        }
+    }
+    for header in 0..4 {
+        let mut plant = make::marked(plant.clone(), &[0, 4]);
+        match header {
+            0 => plant.switches = 0,
+            1 => plant.switches = 65,
+            2 => plant.start = 4,
+            _ => plant.links = 257,
+        }
+        let mut writing = Writing::new(chance, &plant);
+        writing.given = 5;
+        out.put(writing.case(call))?;
+    }
+    Ok(())
+}
+
+/// As many links as there can be: the longest listing, all, some, the last one
+/// and none of them marked.
+fn fixed_marks_limits(chance: &mut Chance, out: &mut Out, call: u8) -> io::Result<()> {
+    let longest = make::longest_listing();
+    let bundle = make::bundle(LINKS).plain();
+    let few = call == REREAD_MARKED;
+    for (plant, way, short) in [
+        (&longest, 3, 0),
+        (&bundle, 1, 0),
+        (&longest, 10, 1),
+        (&bundle, 3, 1),
+    ] {
+        if few && short == 1 {
+            continue;
+        }
+        let marks = make::marking(chance, plant, way);
+        let plant = make::marked(plant.clone(), &marks);
+        let writing = Writing::new(chance, &plant);
+        let places = writing.places - short;
+        out.put(writing.in_places(places).case(call))?;
+    }
+    Ok(())
+}
+
+/// One case of a plant written, or written and reread, with marks, drawn by
+/// chance.
+fn drawn_writing(chance: &mut Chance, call: u8) -> Case {
+    let (switches, links) = chance.of(&[(4, 6), (4, 6), (5, 8), (12, 16)]);
+    let mut plant = make::joined(chance, switches, links).mixed(chance);
+    let way = chance.below(make::MARKINGS);
+    let marks = make::marking(chance, &plant, way);
+    plant = make::marked(plant, &marks);
+    if chance.percent(30) {
+        let more = chance.within(1, 3);
+        plant = make::with_unplugged(chance, &plant, more);
+    }
+    let mut writing = Writing::new(chance, &plant);
+    if chance.percent(35) {
+        for _ in 0..chance.of(&[1, 1, 2]) {
+            make::spoil(chance, &mut writing.plant, &mut writing.given);
+        }
+    }
+    let length = chance.of(&[0, 3, writing.given, writing.given + 3]);
+    if chance.percent(20) {
+        writing = writing.told(length);
+    }
+    if chance.percent(15) {
+        let place = chance.of(&[0, writing.given, writing.given + 2]);
+        let mark = chance.of(&[0, 1, 2, 128, 255]);
+        writing = writing.mark(place, mark);
+    }
+    let places = listing_places(chance, writing.places);
+    writing.in_places(places).case(call)
+}
+
+/// How often each call is drawn, from call 1; the long run, the rules by switch,
+/// the pages, the calls of the round trail and those given marks are drawn apart.
+const WEIGHTS: [usize; NAMES.len() - 1] = [
+    14, 9, 7, 5, 5, 9, 9, 7, 6, 8, 9, 7, 4, 2, 3, 6, 2, 7, 7, 1, 0, 0, 0, 0, 0, 0, 0, 0, 0,
+];
+
+/// One case of any call but the long run, the rules by switch, the pages, those
+/// of the round trail and those given marks, drawn by chance.
 fn drawn_any(chance: &mut Chance) -> Case {
     let call = 1 + chance.weighed(&WEIGHTS) as u8;
     drawn(chance, call)
@@ -3534,7 +4744,8 @@ fn make(folder: &Path, seed: u64, count: usize) -> io::Result<Out> {
     }
     // Packet runs are drawn by a chance of their own, and so are the rules by
     // switch, the pages written, the pages read, the searches, the allowance,
-    // the round trails, the round runs and the choices.
+    // the round trails, the round runs, the choices, the listings with links
+    // out of service, and the plants written and reread with marks.
     let mut other = Chance::new(!seed);
     out.most = count.min(FIRST + RUNS);
     fixed_runs(&mut other, &mut out)?;
@@ -3584,10 +4795,28 @@ fn make(folder: &Path, seed: u64, count: usize) -> io::Result<Out> {
         out.put(drawn_round_run(&mut ninth))?;
     }
     let mut tenth = Chance::new(seed ^ u64::from(CHOICE) << 32);
-    out.most = count.min(COUNT);
+    out.most = count.min(IN_SERVICE);
     fixed_choices(&mut tenth, &mut out)?;
     while !out.full() {
         out.put(drawn_choice(&mut tenth))?;
+    }
+    let mut eleventh = Chance::new(seed ^ u64::from(LISTING_READ) << 32);
+    out.most = count.min(IN_SERVICE + MARKED);
+    fixed_marked(&mut eleventh, &mut out)?;
+    while !out.full() {
+        out.put(drawn_marked(&mut eleventh))?;
+    }
+    let mut twelfth = Chance::new(seed ^ u64::from(WRITE_MARKED) << 32);
+    out.most = count.min(IN_SERVICE + MARKED + WRITTEN_MARKED);
+    fixed_writings(&mut twelfth, &mut out, WRITE_MARKED)?;
+    while !out.full() {
+        out.put(drawn_writing(&mut twelfth, WRITE_MARKED))?;
+    }
+    let mut thirteenth = Chance::new(seed ^ u64::from(REREAD_MARKED) << 32);
+    out.most = count.min(COUNT);
+    fixed_writings(&mut thirteenth, &mut out, REREAD_MARKED)?;
+    while !out.full() {
+        out.put(drawn_writing(&mut thirteenth, REREAD_MARKED))?;
     }
     out.most = count;
     while !out.full() {

@@ -1,6 +1,8 @@
-//! Generator of plants, of damaged listings and of buying pages.
+//! Generator of plants, of links out of service, of damaged listings and of
+//! buying pages.
 
 use crate::listing;
+use crate::net::Net;
 use crate::page::{self, Counts};
 use crate::plant::{Link, Plant};
 use std::ops::Range;
@@ -236,7 +238,7 @@ impl Sketch {
             *place = Link {
                 first: *one as u8,
                 second: *two as u8,
-                tag: 0,
+                ..Link::default()
             };
         }
         plant
@@ -352,7 +354,8 @@ pub fn apart(chance: &mut Chance, switches: usize, links: usize) -> Sketch {
     }
 }
 
-/// A listing in the making: values with fields forced to be present.
+/// A listing in the making: values with bits of the map that are set in any
+/// case, those of fields forced to be present and that of a link out of service.
 #[derive(Clone, Debug)]
 struct Loose {
     header: ([u16; 3], u8),
@@ -373,7 +376,15 @@ impl Loose {
             records: plant
                 .records()
                 .iter()
-                .map(|link| ([u16::from(link.first), u16::from(link.second), link.tag], 0))
+                .map(|link| {
+                    let values = [u16::from(link.first), u16::from(link.second), link.tag];
+                    let mark = if link.out_of_service {
+                        listing::OUT_OF_SERVICE
+                    } else {
+                        0
+                    };
+                    (values, mark)
+                })
                 .collect(),
         }
     }
@@ -515,7 +526,8 @@ pub fn damaged(chance: &mut Chance, plant: &Plant) -> Vec<u8> {
     match kind {
         // Cut before a part.
         8 => bytes.truncate(begin),
-        // An undefined bit.
+        // An undefined bit; in a record's map bit 3 is the mark of a link out of
+        // service.
         9 => bytes[begin] |= 8 << chance.below(5),
         // Cut within a part.
         10 => bytes.truncate(chance.within(begin + 1, (end - 1).max(begin + 1))),
@@ -536,6 +548,165 @@ pub fn damaged(chance: &mut Chance, plant: &Plant) -> Vec<u8> {
         14 => bytes.insert(chance.below(bytes.len() + 1), small(chance)),
         // No listing at all.
         15 => bytes = noise(chance),
+        _ => {}
+    }
+    bytes
+}
+
+/// How many ways there are to choose the links that are put out of service.
+pub const MARKINGS: usize = 12;
+
+/// The plant with the links of these numbers out of service, besides those
+/// that are.
+pub fn marked(mut plant: Plant, links: &[usize]) -> Plant {
+    for link in links {
+        plant.link[*link].out_of_service = true;
+    }
+    plant
+}
+
+/// The plant with every link in service.
+pub fn unmarked(mut plant: Plant) -> Plant {
+    for place in &mut plant.link {
+        place.out_of_service = false;
+    }
+    plant
+}
+
+/// The numbers of links to be put out of service, chosen in one of some ways;
+/// none where a plant has no such link.
+pub fn marking(chance: &mut Chance, plant: &Plant, way: usize) -> Vec<usize> {
+    let links = usize::from(plant.links);
+    let whole = |marks: &[usize]| Net::new(marked(plant.clone(), marks)).is_ok();
+    let beside = |one: usize| -> Vec<usize> {
+        let ends = |number: usize| {
+            let Link { first, second, .. } = plant.link[number];
+            (first.min(second), first.max(second))
+        };
+        (0..links)
+            .filter(|other| ends(*other) == ends(one))
+            .collect()
+    };
+    let mut numbers: Vec<usize> = (0..links).collect();
+    if links == 0 {
+        return numbers;
+    }
+    let one_of = |chance: &mut Chance, some: &[usize]| match some {
+        [] => Vec::new(),
+        _ => vec![chance.of(some)],
+    };
+    match way {
+        // The first record, the last, both, all.
+        0 => vec![0],
+        1 => vec![links - 1],
+        2 => vec![0, links - 1],
+        3 => numbers,
+        // A link without which the plant is apart, and one that is no such.
+        4 | 5 => {
+            numbers.retain(|number| whole(&[*number]) == (way == 5));
+            one_of(chance, &numbers)
+        }
+        // One of parallel links, all but one, and all.
+        6..=8 => {
+            numbers.retain(|number| beside(*number).len() > 1);
+            let one = one_of(chance, &numbers);
+            match (way, &one[..]) {
+                (7, [one]) => {
+                    let others = beside(*one).into_iter();
+                    others.filter(|other| other != one).collect()
+                }
+                (8, [one]) => beside(*one),
+                _ => one,
+            }
+        }
+        // As many as can be without which the plant is whole.
+        9 => {
+            chance.shuffle(&mut numbers);
+            let mut marks = Vec::new();
+            for number in numbers {
+                marks.push(number);
+                if !whole(&marks) {
+                    marks.pop();
+                }
+            }
+            marks
+        }
+        // Any.
+        _ => {
+            let times = chance.of(&[10, 30, 60]);
+            numbers.retain(|_| chance.percent(times));
+            numbers
+        }
+    }
+}
+
+/// The plant with so many links more, out of service, at any places of the
+/// listing: beside the link before, beside another, or between any switches.
+/// A plant of one switch as it is.
+pub fn with_unplugged(chance: &mut Chance, plant: &Plant, more: usize) -> Plant {
+    let switches = usize::from(plant.switches);
+    let mut plant = plant.clone();
+    for _ in 0..more {
+        let links = usize::from(plant.links);
+        if switches == 1 || links == Plant::MAX_LINKS {
+            break;
+        }
+        let any = chance.below(links + 1);
+        let at = chance.of(&[0, links, any, any]);
+        let one = chance.below(switches);
+        let two = (one + 1 + chance.below(switches - 1)) % switches;
+        let mut link = Link {
+            first: one as u8,
+            second: two as u8,
+            ..Link::default()
+        };
+        if links > 0 && chance.percent(50) {
+            let beside = chance.below(links);
+            link = plant.link[chance.of(&[beside, at.saturating_sub(1)])];
+        }
+        link.out_of_service = true;
+        link.tag = chance.of(&[0, 0, 1, 256, 0xffff]);
+        plant.link.copy_within(at..links, at + 1);
+        plant.link[at] = link;
+        plant.links += 1;
+    }
+    plant
+}
+
+/// A listing that meets a refusal, 1 to 8, at a link out of service or next to
+/// it; of a plant that has such a link.
+pub fn faulty(chance: &mut Chance, plant: &Plant, refusal: u8) -> Vec<u8> {
+    let mut loose = Loose::new(plant);
+    let links = 0..usize::from(plant.links);
+    let marked: Vec<usize> = links
+        .filter(|number| plant.link[*number].out_of_service)
+        .collect();
+    let place = chance.of(&marked);
+    let above = chance.of(&[plant.switches, plant.switches + 1, 255]);
+    let (values, forced) = &mut loose.records[place];
+    match refusal {
+        3 => values[2] = chance.of(&[1, 256, 0xffff]),
+        4 => {
+            values[2] = 0;
+            *forced |= 4;
+        }
+        5 => loose.bad_header(chance),
+        6 => values[chance.below(2)] = u16::from(above),
+        7 => {
+            let from = chance.below(2);
+            values[1 - from] = values[from];
+        }
+        _ => {}
+    }
+    let (mut bytes, begins) = loose.bytes();
+    let begin = begins[place + 1];
+    let end = begins.get(place + 2).copied().unwrap_or(bytes.len());
+    match refusal {
+        1 if end < bytes.len() => bytes.truncate(chance.of(&[begin, end])),
+        1 => bytes.truncate(begin),
+        2 => bytes[begin] |= 16 << chance.below(4),
+        3 => bytes.truncate(chance.within(begin + 1, end - 1)),
+        8 => bytes.push(chance.of(&[0, 8, 255])),
         _ => {}
     }
     bytes
@@ -630,6 +801,7 @@ pub fn longest_listing() -> Plant {
             first: first as u8,
             second: ((first + 1 + number / ring) % Plant::MAX_SWITCHES) as u8,
             tag: 0x0101 + number as u16,
+            ..Link::default()
         };
     }
     plant

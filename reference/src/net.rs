@@ -32,11 +32,14 @@ pub struct BySwitch {
     pub total: usize,
 }
 
-/// A plant whose switches are all reached from the start, with its bridges
-/// and its arcs in use.
+/// A plant whose switches are all reached from the start, with its links in
+/// service, its bridges and its arcs in use.
 #[derive(Clone, Debug)]
 pub struct Net {
     pub plant: Plant,
+    /// The number of links in service: E in all that tells of trails, probes
+    /// and rules.
+    pub links: usize,
     pub bridge: [bool; Plant::MAX_LINKS],
     pub bridges: usize,
     pub used: [bool; Plant::MAX_ARCS],
@@ -45,7 +48,7 @@ pub struct Net {
     entered: [bool; Plant::MAX_LINKS],
 }
 
-/// The links at each switch by rising number.
+/// The links in service at each switch by rising number.
 pub(crate) struct Joins {
     at: [u16; Plant::MAX_SWITCHES + 1],
     join: [Join; Plant::MAX_ARCS],
@@ -61,7 +64,7 @@ pub(crate) struct Join {
 impl Joins {
     pub(crate) fn new(plant: &Plant) -> Joins {
         let mut at = [0; Plant::MAX_SWITCHES + 1];
-        for link in plant.records() {
+        for (_, link) in plant.in_service() {
             at[usize::from(link.first) + 1] += 1;
             at[usize::from(link.second) + 1] += 1;
         }
@@ -70,7 +73,7 @@ impl Joins {
         }
         let mut free = at;
         let mut join = [Join::default(); Plant::MAX_ARCS];
-        for (number, link) in plant.records().iter().enumerate() {
+        for (number, link) in plant.in_service() {
             for (end, other) in [(link.first, link.second), (link.second, link.first)] {
                 let place = &mut free[usize::from(end)];
                 join[usize::from(*place)] = Join {
@@ -143,8 +146,10 @@ impl Net {
             return Err(Refusal::NotConnected);
         }
         let mut used = [false; Plant::MAX_ARCS];
+        let mut links = 0;
         let mut bridges = 0;
-        for (number, link) in plant.records().iter().enumerate() {
+        for (number, link) in plant.in_service() {
+            links += 1;
             if visit.bridge[number] {
                 used[2 * number] = true;
                 used[2 * number + 1] = true;
@@ -164,6 +169,7 @@ impl Net {
         } = visit;
         Ok(Net {
             plant,
+            links,
             bridge,
             bridges,
             used,
@@ -172,13 +178,20 @@ impl Net {
         })
     }
 
-    pub fn links(&self) -> usize {
+    /// The number of links of the listing, in service or not.
+    pub fn listed(&self) -> usize {
         usize::from(self.plant.links)
+    }
+
+    /// Whether there is a link of this number, and it is in service.
+    pub fn serves(&self, link: usize) -> bool {
+        let link = self.plant.records().get(link);
+        link.is_some_and(|link| !link.out_of_service)
     }
 
     /// The number of arcs in use.
     pub fn rule_count(&self) -> usize {
-        self.links() + self.bridges
+        self.links + self.bridges
     }
 
     /// The switches that a label's arc leaves and reaches.

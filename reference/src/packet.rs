@@ -38,12 +38,12 @@ impl Run {
 pub enum Under {
     /// The rule page: arcs in use alone.
     Page,
-    /// The probes' rules: both arcs of every link.
+    /// The probes' rules: both arcs of every link in service.
     BothArcs,
 }
 
 /// Runs a packet from a switch: states are those of the links in turn, and
-/// there is one for each link.
+/// there is one for each link of the listing.
 pub fn run(
     net: &Net,
     under: Under,
@@ -56,8 +56,8 @@ pub fn run(
     })
 }
 
-/// Runs a packet from a switch under both arcs of every link: states are those
-/// of the labels in turn, and there is one for each label.
+/// Runs a packet from a switch under both arcs of every link in service: states
+/// are those of the labels in turn, and there is one for each label.
 pub fn run_by_label(
     net: &Net,
     switch: usize,
@@ -67,8 +67,8 @@ pub fn run_by_label(
     follow(net, switch, labels, |label| states[label] != 0)
 }
 
-/// Runs a packet from a switch: `open` says of a label of the plant whether it
-/// has a rule and can be crossed by.
+/// Runs a packet from a switch: `open` says of a label of a link in service
+/// whether it has a rule and can be crossed by. No other label has a rule.
 fn follow(
     net: &Net,
     switch: usize,
@@ -81,7 +81,7 @@ fn follow(
         last: switch,
     };
     for label in labels {
-        if usize::from(label / 2) >= net.links() || !open(usize::from(label)) {
+        if !net.serves(usize::from(label / 2)) || !open(usize::from(label)) {
             return run;
         }
         let (from, to) = net.ends(label);
@@ -109,7 +109,7 @@ pub fn ring(trail: &[u16], place: usize) -> (&[u16], &[u16]) {
     (rest, front)
 }
 
-/// The links by first crossing from a place.
+/// The links in service by first crossing from a place.
 pub struct Order {
     pub count: usize,
     pub link: [u16; Plant::MAX_LINKS],
@@ -134,7 +134,7 @@ impl Order {
                 order.link[order.count] = link as u16;
                 order.reach[order.count] = hop as u16 + 1;
                 order.count += 1;
-                if order.count == net.links() {
+                if order.count == net.links {
                     break;
                 }
             }
@@ -147,7 +147,7 @@ impl Order {
     }
 }
 
-/// The outward labels of probe m, 1 to E, in at most two stretches: up to
+/// The outward labels of probe m, 1 to the number of links in service, in at most two stretches: up to
 /// the first crossing of the m-th link, or the whole ring for m = E.
 pub fn outward<'t>(
     net: &Net,
@@ -157,7 +157,7 @@ pub fn outward<'t>(
     m: usize,
 ) -> (&'t [u16], &'t [u16]) {
     let (rest, front) = ring(trail, place);
-    if m == net.links() {
+    if m == net.links {
         return (rest, front);
     }
     let reach = usize::from(order.reach[m - 1]);
@@ -168,8 +168,8 @@ pub fn outward<'t>(
     }
 }
 
-/// Runs probe m, 1 to E, from a switch and its place: the hops of the way
-/// back count on.
+/// Runs probe m, 1 to the number of links in service, from a switch and its
+/// place: the hops of the way back count on.
 pub fn run_probe(
     net: &Net,
     trail: &[u16],
@@ -180,7 +180,7 @@ pub fn run_probe(
 ) -> Run {
     let (one, two) = outward(net, trail, place(net, trail, switch), order, m);
     let out = one.iter().chain(two).copied();
-    if m == net.links() {
+    if m == net.links {
         return run(net, Under::Page, switch, out, states);
     }
     let back = out.clone().rev().map(|label| label ^ 1);

@@ -13,7 +13,7 @@ pub struct Counts {
     pub switches: usize,
     /// The rules that each switch sends by, with zeros from S on.
     pub rules: [u16; Plant::MAX_SWITCHES],
-    /// The links at each switch, with zeros from S on.
+    /// The links in service at each switch, with zeros from S on.
     pub links: [u16; Plant::MAX_SWITCHES],
     /// All rules.
     pub total: u16,
@@ -27,9 +27,9 @@ impl Counts {
         let by = net.by_switch();
         let total = by.total as u16;
         let links_at = |switch: u8| {
-            let links = net.plant.records().iter();
+            let links = net.plant.in_service();
             links
-                .filter(|link| link.first == switch || link.second == switch)
+                .filter(|(_, link)| link.first == switch || link.second == switch)
                 .count()
         };
         let each: Vec<(u16, u16)> = (0..net.plant.switches)

@@ -13,7 +13,7 @@ pub enum Refusal {
     /// A field is given with the value that its absence means.
     FieldRedundant = 4,
     /// A header value is outside its range, the start is not below S, or a
-    /// plant place past E is not zero.
+    /// plant place past the last link is not zero.
     ValueOutOfRange = 5,
     /// A link's end is not below S.
     EndOutOfRange = 6,
@@ -30,8 +30,8 @@ pub enum Refusal {
     SwitchOutOfRange = 11,
     /// The lent trail, or round trail, differs from the listing's.
     TrailDiffers = 12,
-    /// There are fewer link-state bytes than E, or fewer than 2×E where each
-    /// label has its own.
+    /// There are fewer link-state bytes than the listing has links, or fewer
+    /// than twice as many where each label has its own.
     StatesShort = 13,
     /// A search state that cannot be, or cannot be of this plant.
     SearchUnsound = 14,
@@ -59,6 +59,10 @@ pub struct Link {
     pub first: u8,
     pub second: u8,
     pub tag: u16,
+    /// Laid up, in the word of order 7: the link keeps its place in the
+    /// listing, its number and its labels, but joins nothing, and nothing
+    /// crosses it.
+    pub out_of_service: bool,
 }
 
 /// A plant: its header values and its links, with zeros past the last link.
@@ -77,7 +81,7 @@ impl Plant {
 
     /// Arc labels: two for each link.
     pub const MAX_ARCS: usize = 2 * Plant::MAX_LINKS;
-    /// Arcs in use: one for each link and one more for each bridge.
+    /// Arcs in use: one for each link in service and one more for each bridge.
     pub const MAX_RULES: usize = Plant::MAX_LINKS + Plant::MAX_SWITCHES - 1;
     /// Header of five bytes and records of five bytes.
     pub const MAX_LISTING: usize = 5 + 5 * Plant::MAX_LINKS;
@@ -91,12 +95,20 @@ impl Plant {
             first: 0,
             second: 0,
             tag: 0,
+            out_of_service: false,
         }; Plant::MAX_LINKS],
     };
 
-    /// The link places in use.
+    /// The link places in use: the links of the listing, in service or not.
     pub fn records(&self) -> &[Link] {
         &self.link[..usize::from(self.links)]
+    }
+
+    /// The links in service with their numbers, rising. All that goes by links
+    /// in service goes by these.
+    pub fn in_service(&self) -> impl Iterator<Item = (usize, Link)> + '_ {
+        let links = self.records().iter().copied().enumerate();
+        links.filter(|(_, link)| !link.out_of_service)
     }
 
     /// Refusal 5 for the header values alone.

@@ -1,9 +1,9 @@
-//! The round trail: every arc of the plant just once.
+//! The round trail: both arcs of every link in service just once.
 
 use crate::net::{Join, Joins, Net};
 use crate::plant::Plant;
 
-/// The round trail, both labels of every link.
+/// The round trail, both labels of every link in service.
 pub struct Round {
     count: usize,
     label: [u16; Plant::MAX_ARCS],

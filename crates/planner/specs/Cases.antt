@@ -13,14 +13,14 @@ use Rattle.codec.specs.Part.{taken, valueOf, redundant, mapMissing, mapUndefine
 use Rattle.listing.specs.Listing.{valueOutOfRange, endOutOfRange, selfLink, bytesRemain, soundLink, header, link, links, withLinks, linked, ended, reading, linksOf}
 use Rattle.limits.specs.Limits.{maxSwitches, maxLinks}
 use Rattle.lists.specs.Arrays.{at}
-use Rattle.lists.specs.Count.{count}
+use Rattle.lists.specs.Count.{bit, count}
 use Rattle.lists.specs.Least.{leastFrom}
 use Rattle.lists.specs.Numbers.{every}
 use Rattle.lists.specs.Padded.{padded}
 use Rattle.lists.specs.Sum.{sum}
 use Rattle.walks.specs.Visit.{scan, visit}
 use Rattle.walks.specs.Arcs.{opposite, tail, head}
-use Rattle.walks.specs.Graph.{arcs, others, visitFrom, bridge, linksAt, usedFrom}
+use Rattle.walks.specs.Graph.{arcs, others, visitFrom, bridge, liveLinks, bridges, linksAt, usedFrom, arcsUsedFrom}
 use Rattle.walks.specs.Round.{walkAt, tour, roundFrom}
 use Rattle.routes.specs.Distance.{sources, within, dist, hop, hops, route}
 use Rattle.routes.specs.Trail.{near, nearest, legs, trail}
@@ -33,9 +33,10 @@ use Rattle.search.specs.Cases.{rows as searches}
 use Rattle.quantity.specs.Quantity.{orderQuantity}
 use Rattle.quantity.specs.Cases.{rows as quantities}
 use Rattle.sheet.specs.Page.{writingPage}
+use Rattle.planning.specs.Numbers.{numbersOf}
 use Rattle.planning.specs.Planning.{notConnected, planning}
 use Rattle.quoting.specs.Quotes.{pricing, quoting}
-use Rattle.planner.specs.Calls.{tabling, counting, placesShort, laying, laidOut, trailing, roundLaidOut, roundTrailing, quotingFor, buying}
+use Rattle.planner.specs.Calls.{tabling, summing, counting, placesShort, laying, laidOut, trailing, roundLaidOut, roundTrailing, quotingFor, buying}
 
 pub record Row : Type 0 where
   pub got : Answer (List ℕ)
@@ -75,6 +76,36 @@ readings =
     ∷ reads threeParallel (given (2 ∷ 3 ∷ 0 ∷ 0 ∷ 1 ∷ 0 ∷ 0 ∷ 1 ∷ 0 ∷ 0 ∷ 1 ∷ 0 ∷ []))
     ∷ []
 
+-- ---- reading with marks: the same, and 1 after the tag of a link out of service, 0 after any other
+
+abbrev marksOf : List Link → List ℕ
+marksOf [] = []
+marksOf (l ∷ ls) = l .first ∷ l .second ∷ l .tag ∷ bit (l .«out_of_service») ∷ marksOf ls
+
+abbrev readsMarks : List ℕ → Answer (List ℕ) → Row
+readsMarks s a = record { got = answer (reading s) >>= λ p. given (p .switches ∷ p .count ∷ p .start ∷ marksOf (linksOf p)); said = a }
+
+-- document 02's order 7: the triangle with its last link out of service
+abbrev openTriangle : List ℕ
+openTriangle = 3 ∷ 3 ∷ 3 ∷ 0 ∷ 2 ∷ 1 ∷ 3 ∷ 1 ∷ 2 ∷ 11 ∷ 2 ∷ 0 ∷ []
+
+-- two parallel links, the first out of service; the second takes its ends from it
+abbrev oneOfTwo : List ℕ
+oneOfTwo = 3 ∷ 2 ∷ 2 ∷ 0 ∷ 10 ∷ 1 ∷ 0 ∷ []
+
+abbrev markedReadings : List Row
+markedReadings =
+    readsMarks openTriangle (given (3 ∷ 3 ∷ 0 ∷ 0 ∷ 1 ∷ 0 ∷ 0 ∷ 1 ∷ 2 ∷ 0 ∷ 0 ∷ 2 ∷ 0 ∷ 0 ∷ 1 ∷ []))
+    ∷ readsMarks oneOfTwo (given (2 ∷ 2 ∷ 0 ∷ 0 ∷ 1 ∷ 0 ∷ 1 ∷ 0 ∷ 1 ∷ 0 ∷ 0 ∷ []))
+    ∷ readsMarks (3 ∷ 2 ∷ 1 ∷ 0 ∷ 14 ∷ 1 ∷ 5 ∷ 2 ∷ []) (given (2 ∷ 1 ∷ 0 ∷ 0 ∷ 1 ∷ 517 ∷ 1 ∷ []))
+    ∷ readsMarks (3 ∷ 2 ∷ 1 ∷ 0 ∷ 18 ∷ 1 ∷ []) (refused 2)
+    ∷ readsMarks (3 ∷ 2 ∷ 1 ∷ 0 ∷ 128 ∷ []) (refused 2)
+    ∷ readsMarks (3 ∷ 2 ∷ 1 ∷ 0 ∷ 10 ∷ []) (refused 3)
+    ∷ readsMarks (3 ∷ 2 ∷ 1 ∷ 0 ∷ 10 ∷ 0 ∷ []) (refused 4)
+    ∷ readsMarks (3 ∷ 2 ∷ 1 ∷ 0 ∷ 10 ∷ 2 ∷ []) (refused 6)
+    ∷ readsMarks (3 ∷ 2 ∷ 1 ∷ 0 ∷ 8 ∷ []) (refused 7)
+    ∷ []
+
 -- ---- planning: 9, the number of rules, and the trail in a buffer of so many places
 
 abbrev tables : List ℕ → Answer (List ℕ) → Row
@@ -95,7 +126,21 @@ planned =
     ∷ tables threeParallel (given (3 ∷ []))
     ∷ trails threeParallel 3 (refused 10)
     ∷ trails threeParallel 4 (given (0 ∷ 3 ∷ 0 ∷ 5 ∷ []))
+    ∷ tables openTriangle (given (4 ∷ []))
+    ∷ trails openTriangle 5 (refused 10)
+    ∷ trails openTriangle 6 (given (0 ∷ 1 ∷ 0 ∷ 2 ∷ 3 ∷ 1 ∷ []))
+    ∷ tables oneOfTwo (given (2 ∷ []))
+    ∷ trails oneOfTwo 2 (given (2 ∷ 3 ∷ []))
+    ∷ tables (3 ∷ 2 ∷ 1 ∷ 0 ∷ 10 ∷ 1 ∷ []) (refused 9)
     ∷ []
+
+-- the numbers of the first line that the program `rules` prints: switches, links, bridges, rules, hops
+
+abbrev sums : List ℕ → Answer (List ℕ) → Row
+sums s a = record { got = answer (summing s) >>= λ n. given (n .switches ∷ n .links ∷ n .bridges ∷ n .rules ∷ n .hops ∷ []); said = a }
+
+abbrev summed : List Row
+summed = sums triangle (given (3 ∷ 3 ∷ 0 ∷ 3 ∷ 3 ∷ [])) ∷ sums openTriangle (given (3 ∷ 2 ∷ 2 ∷ 4 ∷ 6 ∷ [])) ∷ sums oneOfTwo (given (2 ∷ 1 ∷ 1 ∷ 2 ∷ 2 ∷ [])) ∷ []
 
 -- ---- the rules for each switch: a number for each switch place, then the total; and the order quantity laid on the total, then the sum of those laid on each switch
 
@@ -123,6 +168,7 @@ bySwitches =
     ∷ counts triangle (sending (1 ∷ 1 ∷ 1 ∷ []) 3)
     ∷ counts threeParallel (sending (1 ∷ 2 ∷ []) 3)
     ∷ counts ringAndTail (sending (2 ∷ 1 ∷ 1 ∷ 1 ∷ []) 5)
+    ∷ counts openTriangle (sending (1 ∷ 2 ∷ 1 ∷ []) 4)
     ∷ orders twoSwitches 0 (given (2 ∷ 2 ∷ []))
     ∷ orders twoSwitches 10 (given (3 ∷ 4 ∷ []))
     ∷ []
@@ -141,6 +187,8 @@ roundTrails =
     ∷ rounds threeParallel 5 (refused 10)
     ∷ rounds threeParallel 6 (given (6 ∷ 0 ∷ 3 ∷ 2 ∷ 5 ∷ 4 ∷ 1 ∷ []))
     ∷ rounds ringAndTail 10 (given (8 ∷ 0 ∷ 2 ∷ 4 ∷ 5 ∷ 3 ∷ 1 ∷ 6 ∷ 7 ∷ 7 ∷ 7 ∷ []))
+    ∷ rounds openTriangle 3 (refused 10)
+    ∷ rounds openTriangle 5 (given (4 ∷ 0 ∷ 2 ∷ 3 ∷ 1 ∷ 7 ∷ []))
     ∷ []
 
 -- ---- the buying page: its counts (the rules of the switches, the links at them, all rules, the quantity), and its length in a buffer of so many places
@@ -157,6 +205,7 @@ boughtPages =
     ∷ quotes twoSwitches 10 (given (1 ∷ 1 ∷ 1 ∷ 1 ∷ 2 ∷ 3 ∷ []))
     ∷ quotes threeParallel 100 (given (1 ∷ 2 ∷ 3 ∷ 3 ∷ 3 ∷ 6 ∷ []))
     ∷ quotes ringAndTail 10 (given (2 ∷ 1 ∷ 1 ∷ 1 ∷ 3 ∷ 2 ∷ 2 ∷ 1 ∷ 5 ∷ 6 ∷ []))
+    ∷ quotes openTriangle 10 (given (1 ∷ 2 ∷ 1 ∷ 1 ∷ 2 ∷ 1 ∷ 4 ∷ 5 ∷ []))
     ∷ quotes ringAndTail 101 (refused 17)
     ∷ buys (1 ∷ maxSwitches ∷ []) 101 0 (refused 9)
     ∷ buys ringAndTail 101 0 (refused 17)
@@ -181,8 +230,8 @@ as-row r = record { got = r .0; said = r .1 }
 -- ---- the table, and the test
 
 abbrev table : List Row
-table = readings ++ planned ++ bySwitches ++ roundTrails ++ boughtPages ++ allowances ++ map as-row searches ++ map as-row quantities
+table = readings ++ markedReadings ++ planned ++ summed ++ bySwitches ++ roundTrails ++ boughtPages ++ allowances ++ map as-row searches ++ map as-row quantities
 
 as-said : map (λ r. r .got) table ≡ map (λ r. r .said) table
-unfolding plantWith taken valueOf redundant mapMissing mapUndefined fieldMissing fieldRedundant fieldValues afterPart part valueOutOfRange endOutOfRange selfLink bytesRemain soundLink header link links withLinks linked ended reading trail legs nearest near route hops hop dist within sources leastFrom count usedFrom bridge visitFrom arcs others visit scan roundFrom tour walkAt opposite tail head live every notConnected planning rulesIn tableWith tabling sentBy sum bySwitch counting placesShort laying laidOut trailing roundLaidOut roundTrailing linksAt pricing quoting quotingFor writingPage buying allowance begun newSearch ask give orderQuantity
+unfolding plantWith taken valueOf redundant mapMissing mapUndefined fieldMissing fieldRedundant fieldValues afterPart part valueOutOfRange endOutOfRange selfLink bytesRemain soundLink header link links withLinks linked ended reading trail legs nearest near route hops hop dist within sources leastFrom count usedFrom bridge visitFrom arcs others visit scan roundFrom tour walkAt opposite tail head live every notConnected planning rulesIn tableWith tabling liveLinks bridges arcsUsedFrom numbersOf summing sentBy sum bySwitch counting placesShort laying laidOut trailing roundLaidOut roundTrailing linksAt pricing quoting quotingFor writingPage buying allowance begun newSearch ask give orderQuantity
 as-said = agreed (λ r. r .got) (λ r. r .said) table refl

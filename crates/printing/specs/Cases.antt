@@ -1,4 +1,4 @@
--- What is printed for three listings is the text in the first rows of `text/specs/Cases`: one computed test. Assumes nothing.
+-- What is printed for four listings is the text in the first rows of `text/specs/Cases`: one computed test. Assumes nothing.
 use mathlib.Core.Path.{_≡_, refl}
 use mathlib.Core.List.{List, [], _∷_, map}
 use Prim.Native.Nat.{ℕ}
@@ -21,10 +21,10 @@ use Rattle.text.specs.Cases.{rows}
 use Rattle.planning.specs.Planning.{notConnected, planning}
 use Rattle.printing.specs.Output.{plantOutput, printed}
 
--- document 01's example, the plant with no links, and the empty listing
+-- document 01's example, the triangle whose last link is out of service, the plant with no links, and the empty listing
 abbrev listings : List (List ℕ)
-listings = (3 ∷ 4 ∷ 4 ∷ 0 ∷ 2 ∷ 1 ∷ 3 ∷ 1 ∷ 2 ∷ 3 ∷ 2 ∷ 0 ∷ 3 ∷ 0 ∷ 3 ∷ []) ∷ (0 ∷ []) ∷ [] ∷ []
+listings = (3 ∷ 4 ∷ 4 ∷ 0 ∷ 2 ∷ 1 ∷ 3 ∷ 1 ∷ 2 ∷ 3 ∷ 2 ∷ 0 ∷ 3 ∷ 0 ∷ 3 ∷ []) ∷ (3 ∷ 3 ∷ 3 ∷ 0 ∷ 2 ∷ 1 ∷ 3 ∷ 1 ∷ 2 ∷ 11 ∷ 2 ∷ 0 ∷ []) ∷ (0 ∷ []) ∷ [] ∷ []
 
-as-said : map printed listings ≡ map (λ r. r .1) (take 3 rows)
+as-said : map printed listings ≡ map (λ r. r .1) (take 4 rows)
 unfolding plantWith taken valueOf redundant mapMissing mapUndefined fieldMissing fieldRedundant fieldValues afterPart part valueOutOfRange endOutOfRange selfLink bytesRemain soundLink header link links withLinks linked ended reading trail legs nearest near route hops hop dist within sources leastFrom count usedFrom bridge visitFrom arcs others visit scan tail head live every notConnected planning rulesIn liveLinks bridges arcsUsedFrom digits decimal line pageOf plantOutput
 as-said = refl

@@ -1,5 +1,6 @@
--- The calls on the triangle of document 01, whose trail is 0 2 4: each row has what the definitions answer in its plant, and what is expected. Every refusal from 11 on
--- occurs, and where two conditions hold the lower number is answered. One computed test over all rows. Assumes nothing.
+-- The calls on the triangle of document 01, whose trail is 0 2 4, and on that of document 02's order 7, whose last link is out of service: each row has what the definitions
+-- answer in its plant, and what is expected. Every refusal from 11 on occurs, and where two conditions hold the lower number is answered. One computed test over all rows.
+-- Assumes nothing.
 use mathlib.Core.Path.{_≡_, refl}
 use mathlib.Core.List.{List, [], _∷_, map}
 use Prim.Native.Nat.{ℕ}
@@ -164,6 +165,39 @@ table =
     ∷ names 1 whole (Down 4) (refused 14)
     ∷ []
 
-as-said : (answer (planning triangle) >>= λ p. given (map (λ r. r .got p) table)) ≡ given (map (λ r. r .said) table)
+-- the triangle with link 2 out of service: E is 2, and there are three state bytes
+abbrev openTriangle : List ℕ
+openTriangle = 3 ∷ 3 ∷ 3 ∷ 0 ∷ 2 ∷ 1 ∷ 3 ∷ 1 ∷ 2 ∷ 11 ∷ 2 ∷ 0 ∷ []
+
+abbrev there : List ℕ
+there = 0 ∷ 1 ∷ 0 ∷ 2 ∷ 3 ∷ 1 ∷ []
+
+abbrev openTable : List Row
+openTable =
+    runs 0 there allUp (given (1 ∷ 6 ∷ 0 ∷ []))
+    ∷ runs 0 there down2 (given (1 ∷ 6 ∷ 0 ∷ []))
+    ∷ runs 0 there down1 (given (0 ∷ 3 ∷ 1 ∷ []))
+    ∷ runs 0 (5 ∷ []) allUp (given (0 ∷ 0 ∷ 0 ∷ []))
+    ∷ runs 0 there short (refused 13)
+    ∷ checks 2 there down2 (given (1 ∷ 6 ∷ 2 ∷ []))
+    ∷ checks 0 whole allUp (refused 12)
+    ∷ checks 0 there short (refused 13)
+    ∷ lists 0 there (given (0 ∷ 1 ∷ []))
+    ∷ lists 2 there (given (1 ∷ 0 ∷ []))
+    ∷ goes 0 there (Checking 2 0) (given (0 ∷ 6 ∷ 0 ∷ []))
+    ∷ goes 0 there (Checking 3 0) (refused 14)
+    ∷ goes 0 there (Halving 1 3 0) (refused 14)
+    ∷ probes 0 there (1 ∷ 0 ∷ 0 ∷ []) (Halving 1 2 0) (given (1 ∷ 2 ∷ 0 ∷ []))
+    ∷ probes 2 there (0 ∷ 1 ∷ 0 ∷ []) (Checking 2 0) (given (0 ∷ 1 ∷ 1 ∷ []))
+    ∷ probes 0 there short (Checking 3 0) (refused 13)
+    ∷ names 0 there (Down 2) (given (1 ∷ []))
+    ∷ names 2 there (Down 2) (given (0 ∷ []))
+    ∷ names 0 there (Down 3) (refused 14)
+    ∷ []
+
+abbrev tables : List (List ℕ × List Row)
+tables = (triangle, table) ∷ (openTriangle, openTable) ∷ []
+
+as-said : map (λ t. answer (planning (t .0)) >>= λ p. given (map (λ r. r .got p) (t .1))) tables ≡ map (λ t. given (map (λ r. r .said) (t .1))) tables
 unfolding runIn checkIn orderIn outwardIn outSpan probeIn nameIn switchOutOfRange trailDiffers statesShort searchUnsound planningAt notConnected planning ringSpan spanOf listed beginsWith plantWith taken valueOf redundant mapMissing mapUndefined fieldMissing fieldRedundant fieldValues afterPart part listing.valueOutOfRange listing.endOutOfRange listing.selfLink listing.bytesRemain listing.soundLink listing.header listing.link listing.links listing.withLinks listing.linked listing.ended listing.reading out outStretch outFront run probeRules ringOf orderOf probeOf probeRun probe outward orders.order readFrom place ring upBy inAll rulesFor trail legs nearest near route hops hop dist within sources arcs others visitFrom bridge usedFrom liveLinks opposite tail head scan visit live leastFrom count every
 as-said = refl

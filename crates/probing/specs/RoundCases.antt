@@ -1,5 +1,5 @@
--- The calls of document 02's order 6 on three plants: a triangle, whose trail is shorter than its round trail, one link, whose two trails are equally long, and three switches in
--- a row, whose round trail is shorter. Each row has what the definitions answer, and what is expected. One computed test over all rows. Assumes nothing.
+-- The calls of document 02's order 6 on four plants: a triangle, whose trail is shorter than its round trail, one link, whose two trails are equally long, three switches in
+-- a row, whose round trail is shorter, and the triangle of order 7, with a link out of service. Each row has what the definitions answer, and what is expected. One computed test over all rows. Assumes nothing.
 use mathlib.Core.Path.{_≡_, refl}
 use mathlib.Core.List.{List, [], _∷_, _++_, map}
 use Prim.Native.Nat.{ℕ}
@@ -44,6 +44,10 @@ oneLink = 3 ∷ 2 ∷ 1 ∷ 0 ∷ 2 ∷ 1 ∷ []
 abbrev inRow : List ℕ
 inRow = 3 ∷ 3 ∷ 2 ∷ 0 ∷ 2 ∷ 1 ∷ 3 ∷ 1 ∷ 2 ∷ []
 
+-- the triangle with link 2 out of service: its trail and its round trail are those of `inRow`, and there are six state bytes
+abbrev openTriangle : List ℕ
+openTriangle = 3 ∷ 3 ∷ 3 ∷ 0 ∷ 2 ∷ 1 ∷ 3 ∷ 1 ∷ 2 ∷ 11 ∷ 2 ∷ 0 ∷ []
+
 -- the round trail of the triangle, and state bytes: all six up, and label 3 alone down
 abbrev whole : List ℕ
 whole = 0 ∷ 2 ∷ 4 ∷ 5 ∷ 3 ∷ 1 ∷ []
@@ -54,10 +58,10 @@ allUp = 1 ∷ 1 ∷ 255 ∷ 1 ∷ 1 ∷ 7 ∷ []
 abbrev down3 : List ℕ
 down3 = 1 ∷ 1 ∷ 1 ∷ 0 ∷ 1 ∷ 1 ∷ []
 
--- ---- the round run in the triangle: 1 if the packet is home, and else 0, then the hops made and the switch last reached
+-- ---- the round run: 1 if the packet is home, and else 0, then the hops made and the switch last reached
 
-abbrev rounds : ℕ → List ℕ → List ℕ → Answer (List ℕ) → Row
-rounds x w states a = record { got = answer (roundRunning triangle x w states) >>= λ e. given (bit (e .ended) ∷ e .hops ∷ e .last ∷ []); said = a }
+abbrev rounds : List ℕ → ℕ → List ℕ → List ℕ → Answer (List ℕ) → Row
+rounds s x w states a = record { got = answer (roundRunning s x w states) >>= λ e. given (bit (e .ended) ∷ e .hops ∷ e .last ∷ []); said = a }
 
 -- ---- the shorter of two lent trails, from switch x: 0 for the trail, 1 for the round trail, and the part of it that is handed back
 
@@ -72,22 +76,27 @@ picks s x w v a = record { got = answer (choosing s x w v) >>= λ c. given (whic
 
 abbrev table : List Row
 table =
-    rounds 0 whole allUp (given (1 ∷ 6 ∷ 0 ∷ []))
-    ∷ rounds 1 whole allUp (given (1 ∷ 6 ∷ 1 ∷ []))
-    ∷ rounds 0 whole down3 (given (0 ∷ 4 ∷ 2 ∷ []))
-    ∷ rounds 1 whole down3 (given (0 ∷ 3 ∷ 2 ∷ []))
-    ∷ rounds 1 (whole ++ (9 ∷ 9 ∷ [])) (allUp ++ (0 ∷ [])) (given (1 ∷ 6 ∷ 1 ∷ []))
-    ∷ rounds 3 [] [] (refused 11)
-    ∷ rounds 0 (0 ∷ 2 ∷ 4 ∷ 5 ∷ 3 ∷ []) [] (refused 12)
-    ∷ rounds 0 (0 ∷ 2 ∷ 4 ∷ 5 ∷ 3 ∷ 0 ∷ []) allUp (refused 12)
-    ∷ rounds 0 (0 ∷ 2 ∷ 4 ∷ []) allUp (refused 12)
-    ∷ rounds 0 whole (replicate 5 1) (refused 13)
-    ∷ rounds 0 whole (replicate 3 1) (refused 13)
+    rounds triangle 0 whole allUp (given (1 ∷ 6 ∷ 0 ∷ []))
+    ∷ rounds triangle 1 whole allUp (given (1 ∷ 6 ∷ 1 ∷ []))
+    ∷ rounds triangle 0 whole down3 (given (0 ∷ 4 ∷ 2 ∷ []))
+    ∷ rounds triangle 1 whole down3 (given (0 ∷ 3 ∷ 2 ∷ []))
+    ∷ rounds triangle 1 (whole ++ (9 ∷ 9 ∷ [])) (allUp ++ (0 ∷ [])) (given (1 ∷ 6 ∷ 1 ∷ []))
+    ∷ rounds triangle 3 [] [] (refused 11)
+    ∷ rounds triangle 0 (0 ∷ 2 ∷ 4 ∷ 5 ∷ 3 ∷ []) [] (refused 12)
+    ∷ rounds triangle 0 (0 ∷ 2 ∷ 4 ∷ 5 ∷ 3 ∷ 0 ∷ []) allUp (refused 12)
+    ∷ rounds triangle 0 (0 ∷ 2 ∷ 4 ∷ []) allUp (refused 12)
+    ∷ rounds triangle 0 whole (replicate 5 1) (refused 13)
+    ∷ rounds triangle 0 whole (replicate 3 1) (refused 13)
+    ∷ rounds openTriangle 0 (0 ∷ 2 ∷ 3 ∷ 1 ∷ []) (1 ∷ 1 ∷ 1 ∷ 1 ∷ 0 ∷ 0 ∷ []) (given (1 ∷ 4 ∷ 0 ∷ []))
+    ∷ rounds openTriangle 2 (0 ∷ 2 ∷ 3 ∷ 1 ∷ []) down3 (given (0 ∷ 0 ∷ 2 ∷ []))
+    ∷ rounds openTriangle 0 whole allUp (refused 12)
+    ∷ rounds openTriangle 0 (0 ∷ 2 ∷ 3 ∷ 1 ∷ []) (replicate 4 1) (refused 13)
     ∷ picks triangle 2 (0 ∷ 2 ∷ 4 ∷ []) whole (given (0 ∷ 0 ∷ 2 ∷ 4 ∷ []))
     ∷ picks triangle 2 (0 ∷ 2 ∷ 4 ∷ 7 ∷ 7 ∷ 7 ∷ 7 ∷ []) whole (given (0 ∷ 0 ∷ 2 ∷ 4 ∷ []))
     ∷ picks oneLink 1 (0 ∷ 1 ∷ 7 ∷ []) (0 ∷ 1 ∷ []) (given (0 ∷ 0 ∷ 1 ∷ []))
     ∷ picks inRow 0 (0 ∷ 1 ∷ 0 ∷ 2 ∷ 3 ∷ 1 ∷ []) (0 ∷ 2 ∷ 3 ∷ 1 ∷ []) (given (1 ∷ 0 ∷ 2 ∷ 3 ∷ 1 ∷ []))
     ∷ picks inRow 0 (0 ∷ 1 ∷ 0 ∷ 2 ∷ 3 ∷ 1 ∷ []) (0 ∷ 2 ∷ 3 ∷ 1 ∷ 8 ∷ 8 ∷ 8 ∷ []) (given (1 ∷ 0 ∷ 2 ∷ 3 ∷ 1 ∷ []))
+    ∷ picks openTriangle 0 (0 ∷ 1 ∷ 0 ∷ 2 ∷ 3 ∷ 1 ∷ []) (0 ∷ 2 ∷ 3 ∷ 1 ∷ []) (given (1 ∷ 0 ∷ 2 ∷ 3 ∷ 1 ∷ []))
     ∷ picks (0 ∷ []) 0 [] [] (given (0 ∷ []))
     ∷ picks inRow 3 [] [] (refused 11)
     ∷ picks inRow 0 (0 ∷ 1 ∷ 0 ∷ 2 ∷ 3 ∷ []) (0 ∷ 2 ∷ 3 ∷ 1 ∷ []) (refused 12)

@@ -38,4 +38,3 @@ module _ (p : Plant) where
     -- two tests of what is up that agree on arcs give one run
     pub run-agrees : (up up′ : ℕ → Bool) → ((a : ℕ) → Arc p a → up a ≡ up′ a) → (hd : ℕ → ℕ) (w : List ℕ) (at n : ℕ) → run rule up hd at n w ≡ run rule up′ hd at n w
     run-agrees up up′ agree hd w at n = run-same rule rule up up′ hd w at n (λ x a h. refl) (λ x a h e. agree a (arc x a e))
-

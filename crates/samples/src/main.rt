@@ -15,4 +15,5 @@ fn main() {
     print_sample(b"ring-with-tails.listing");
     print_sample(b"two-rings.listing");
     print_sample(b"limits.listing");
+    print_sample(b"out-of-service.listing");
 }
