@@ -42,10 +42,7 @@ fn header_values(p: Plant) -> [u32; Layout::MOST]
 fn service_of(l: Link) -> u32
     ensures { λ r. ⌜ r ≡ service l ⌝ }
 {
-    if l.out_of_service {
-        return 0;
-    }
-    1
+    if l.out_of_service { 0 } else { 1 }
 }
 
 // The values of a link.

@@ -12,13 +12,13 @@ use Rattle.bridges.proofs.closes_cycle.Tie as tie
 returns : tie.Need-returns
 returns c =
     let s = c .before .before in
-    sym (closes-dead (s .pre .0) (s .pre .1 .1 .0) _ (sym (c .before .is-live .ensures) ∙ not-true _ (c .if1 .taken)))
+    sym (closes-dead (s .pre .0) (s .pre .1 .1 .0) _ (sym (c .before .is-live .ensures) ∙ not-true (c .before .is-live .result) (c .if1 .taken)))
 
 returns-2 : tie.Need-returns-2
 returns-2 c =
     let n = c .before .before in
     let s = n .before .before in
-    sym (closes-entered (s .pre .0) (s .pre .1 .1 .0) _ (sym (n .before .is-live .ensures) ∙ not-false _ (n .if1 .left)) (c .if2 .taken))
+    sym (closes-entered (s .pre .0) (s .pre .1 .1 .0) _ (sym (n .before .is-live .ensures) ∙ not-false (n .before .is-live .result) (n .if1 .left)) (c .if2 .taken))
 
 element-copy-out-result : tie.Need-element-copy-out-result
 element-copy-out-result c =
@@ -30,7 +30,7 @@ returns-3 c =
     let e = c .before .before in
     let n = e .before .before in
     let s = n .before .before in
-    closes-seen (s .pre .0) (s .pre .1 .1 .0) _ (sym (n .before .is-live .ensures) ∙ not-false _ (n .if1 .left))
+    closes-seen (s .pre .0) (s .pre .1 .1 .0) _ (sym (n .before .is-live .ensures) ∙ not-false (n .before .is-live .result) (n .if1 .left))
     (first-end (s .args .p) (s .args .tails .now) (s .pre .1 .0) (s .args .l)) (e .if2 .left)
 
 pub closes-cycle-spec : {M : Type 1} → statement M
