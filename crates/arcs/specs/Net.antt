@@ -17,7 +17,7 @@ pub record Ends (p : Plant) (tails heads : List ℕ) : Type 0 where
   pub tails-are : at tails ≡ tail p
   pub heads-are : at heads ≡ head p
 
--- there is a place for each label, and the flags tell the arcs whose links take part in the plant
+-- there is a place for each label, and the flags tell the arcs, those whose links are in service
 pub record AllArcs (p : Plant) (flags : List Bool) : Type 0 where
   pub places : length flags ≡ 2 * maxLinks
   pub tells : (a : ℕ) → flag flags a ≡ live p (a / 2)

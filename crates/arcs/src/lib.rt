@@ -1,5 +1,5 @@
-// The arcs of a plant as arrays: their tails and heads, which of them are of links in service, and the flagged ones of each switch by rising label; and the values that the crates of the plan
-// hand to one another. Inner: no call of document 01 is here.
+// The arcs of a plant as arrays: their tails and heads, which labels are of links in service, and the flagged ones of each switch by rising label; and the values that
+// the crates of the plan hand to one another. Inner: no call of document 01 is here.
 use plant::Plant;
 use plant::head_of;
 use plant::tail_of;

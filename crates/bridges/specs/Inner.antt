@@ -26,7 +26,7 @@ module _ (p : Plant) (r : ℕ) where
     pub places : length up ≡ maxSwitches
     pub tells : (a : ℕ) → In a (visitedFrom p r .ent) → a / 2 < n → getD up (head p a) 0 ≡ a / 2
 
-  -- link k closes a cycle with the tree: it takes part in the plant, its ends are visited, and it was not entered
+  -- link k closes a cycle with the tree: it is in service, its ends are visited, and it was not entered
   unfoldable pub closes : ℕ → Bool
   closes k = live p k && (not (enteredFrom p r k) && reachedFrom p r (first p k))
 

@@ -38,8 +38,9 @@
 //
 // A plant is its switches, links (two bytes) and start, a two-byte number of link places, and first end, second end and tag (two bytes) of each; the other link
 // places are zero. Marks are a byte string, a byte for each link place from the first on: it is out of service if its byte is not 0, and in service where there is
-// none. The links that are read print as first end, second end and tag of each, and after the tag 255 if it is out of service. A refusal is the word `refused` and its number. The line of a call that is lent a buffer ends with the buffer's checksum after the call.
-// A list prints as its count, a colon and its checksum.
+// none. The links that are read are printed as the list of first end, second end and tag of each, with 255 after the tag of one out of service. A refusal is the
+// word `refused` and its number. The line of a call that is lent a buffer ends with the buffer's checksum after the call. A list prints as its count, a colon and
+// its checksum.
 mod searches;
 
 use caseform::input;

@@ -1,5 +1,6 @@
 -- The three demands, each as one statement over the definitions that the contracts of the calls cite, and the promises of document 02's orders. What demand 3 says of a list
 -- of calls to a search, order 4's promises with it, is `Searches` of probing/specs/Searches, which the contract of `perform` cites too. The proofs are in proofs/.
+-- Document 01's links are those in service (document 02, order 7): `live p l` says whether link l is, and `liveLinks p` is E. `p .count` counts all links of the listing.
 use mathlib.Core.Path.{_≡_}
 use mathlib.Core.Logic.{_⊎_, _↔_}
 use mathlib.Core.Bool.{Bool, true, false}
@@ -195,7 +196,7 @@ pub record RulePage (p : Plant) : Type 0 where
   pub once : Distinct (ruleLabels p)
   pub number : length (rulesOf p) ≡ liveLinks p + bridges p
   pub fewest : (w : List ℕ) → ClosedWalk p w → ((l : ℕ) → T (live p l) → Crosses l w) → length (rulesOf p) ≤ arcsCrossed p w
-  -- so do several closed walks that together cross every link
+  -- so do several closed walks that together cross every link in service
   pub together : (ws : List (List ℕ)) → ClosedWalks p ws → ((l : ℕ) → T (live p l) → Crosses l (flatten ws)) → length (rulesOf p) ≤ arcsCrossed p (flatten ws)
 
 -- for every listing that is read as a connected plant
@@ -394,7 +395,7 @@ pub record OutOfService (s : List ℕ) (p : Plant) (l : ℕ) : Type 0 where
   pub no-order : (x : ℕ) → x < p .switches → In l (orderOf p (trailOf p) x) → ⊥
   pub not-named : (x : ℕ) (w : List ℕ) (q : Search) → answer (naming s x w q) ≡ given (link l) → ⊥
 
--- two lists of state bytes, one for each link number in both, that tell the same of the links in service: those of the others differ as they may
+-- two lists of state bytes, one for each link number in both, that tell the same of the links in service: those of the others may differ
 pub record SameByLink (p : Plant) (states states′ : List ℕ) : Type 0 where
   pub enough : (p .count ≤ length states) × (p .count ≤ length states′)
   pub same : (l : ℕ) → T (live p l) → upBy states l ≡ upBy states′ l
@@ -414,7 +415,7 @@ pub record StatesOf (s : List ℕ) (p : Plant) (x : ℕ) : Type 0 where
   pub full-check : (w states states′ : List ℕ) → SameByLink p states states′ → answer (checking s x w states) ≡ answer (checking s x w states′)
   pub run-probe : (w states states′ : List ℕ) (q : Search) → SameByLink p states states′ → answer (probing s x w states q) ≡ answer (probing s x w states′ q)
   pub round-run : (w states states′ : List ℕ) → SameByLabel p states states′ → answer (roundRunning s x w states) ≡ answer (roundRunning s x w states′)
-  -- and so is no part of what a search says
+  -- nor does it matter for what a search says
   pub says : (states states′ : List ℕ) (q : Search) → SameByLink p states states′ → Says p x states q → Says p x states′ q
 
 -- a plant without a mark: every link of its listing is in service, and what is said of the links in service is said of them all

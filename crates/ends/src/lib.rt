@@ -7,7 +7,7 @@ ghost use Rattle.limits.specs.Limits.{maxSwitches};
 ghost use Rattle.limits.specs.Sound.{Sound};
 ghost use Rattle.walks.specs.Graph.{linksAt};
 
-// How many links are at each switch, at the place of the switch: one that takes part counts at each of its ends.
+// How many links are at each switch, at the place of the switch: one in service counts at each of its ends.
 pub fn links_at_each(p: Plant) -> [u16; Plant::PLACES]
     requires { ⌜ Sound p ⌝ }
     ensures { λ r. ⌜ r ≡ map (linksAt p) (range 0 maxSwitches) ⌝ }

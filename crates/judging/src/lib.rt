@@ -84,7 +84,7 @@ pub fn judge_round(x: Parts, round: &[u16], states: &[u8]) -> LentHops
     }
 }
 
-// Refusal 14, in a call with a listing: a search is over the links that take part.
+// Refusal 14, in a call with a listing: a search is over the links in service.
 pub fn unsound(p: Plant, search: Search) -> bool
     ensures { λ r. ⌜ r ≡ searchUnsound (liveLinks p) search ⌝ }
 {

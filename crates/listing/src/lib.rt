@@ -12,7 +12,7 @@ ghost use mathlib.Core.Bool.{Bool};
 ghost use mathlib.Core.List.{List, [], _∷_};
 ghost use Prim.Native.Nat.{ℕ, _+_, _^_, _≤_, _<_};
 ghost use lib.Dec.{eqb};
-ghost use lib.ListN.{drop};
+ghost use lib.ListN.{take, drop};
 ghost use Rattle.plant.specs.Links.{plantWith};
 ghost use Rattle.answers.specs.Answers.{Answer, refused, numberOf, verdictAnswer};
 ghost use Rattle.answers.specs.Checks.{answer};
@@ -57,27 +57,16 @@ pub enum Written {
     Refused(Refusal),
 }
 
-// The layout of a part with three fields: the width of each and the value that its absence means.
-fn three(first: Field, second: Field, third: Field) -> Layout
-    requires { ⌜ (first .width ≤ 4) × (second .width ≤ 4) × (third .width ≤ 4) ⌝ }
-    ensures { λ r. do ⌜ Lays (← ⟦Layout::MOST⟧ .entry) (first ∷ second ∷ third ∷ []) r ⌝ }
-{
-    let mut fields = [first; Layout::MOST];
-    fields[1] = second;
-    fields[2] = third;
-    Layout { count: 3, fields }
-}
-
-// The same with four.
-fn four(first: Field, second: Field, third: Field, fourth: Field) -> Layout
-    requires { ⌜ (first .width ≤ 4) × (second .width ≤ 4) × (third .width ≤ 4) × (fourth .width ≤ 4) ⌝ }
-    ensures { λ r. do ⌜ Lays (← ⟦Layout::MOST⟧ .entry) (first ∷ second ∷ third ∷ fourth ∷ []) r ⌝ }
+// The layout of a part with the first `count` of four fields: the width of each and the value that its absence means.
+fn layout_of(count: usize, first: Field, second: Field, third: Field, fourth: Field) -> Layout
+    requires { ⌜ (count ≤ 4) × (first .width ≤ 4) × (second .width ≤ 4) × (third .width ≤ 4) × (fourth .width ≤ 4) ⌝ }
+    ensures { λ r. do ⌜ Lays (← ⟦Layout::MOST⟧ .entry) (take count (first ∷ second ∷ third ∷ fourth ∷ [])) r ⌝ }
 {
     let mut fields = [first; Layout::MOST];
     fields[1] = second;
     fields[2] = third;
     fields[3] = fourth;
-    Layout { count: 4, fields }
+    Layout { count, fields }
 }
 
 // The fields of a header: switch count, link count, start.
@@ -96,7 +85,7 @@ pub fn header_layout() -> Layout
         width: 1,
         absent: 0,
     };
-    three(first, second, third)
+    layout_of(3, first, second, third, third)
 }
 
 // The fields of a link after the record `before`: first end, second end, tag, and of no bytes whether it is in service.
@@ -119,7 +108,7 @@ pub fn link_layout(before: Link) -> Layout
         width: 0,
         absent: 1,
     };
-    four(first, second, third, fourth)
+    layout_of(4, first, second, third, fourth)
 }
 
 // Refusal 5's condition on the values of a header.

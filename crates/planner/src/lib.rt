@@ -37,7 +37,7 @@ pub struct Counted {
     pub rules: BySwitch,
 }
 
-// A flag for each link place of a listing: is it a bridge? At a refusal none is set.
+// A flag for each link place of a listing: is it a bridge? One out of service is none. At a refusal none is set.
 pub struct Bridged {
     pub verdict: Verdict,
     pub flags: [bool; Plant::MAX_LINKS],

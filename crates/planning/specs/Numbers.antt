@@ -1,4 +1,4 @@
--- The numbers of a plant in the first line that `rules` prints: switches, links, bridges, rules and hops.
+-- The numbers of a plant in the first line that `rules` prints: switches, links in service, bridges, rules and hops.
 use lib.ListN.{length}
 use Rattle.plant.specs.declared.Plant.{Plant}
 use Rattle.walks.specs.Graph.{liveLinks, bridges}

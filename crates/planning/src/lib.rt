@@ -44,7 +44,7 @@ pub struct Planned {
     pub parts: Parts,
 }
 
-// Switches, links, bridges, rules and hops of a plant.
+// Switches, links in service, bridges, rules and hops of a plant.
 pub struct Numbers {
     pub switches: u8,
     pub links: u16,

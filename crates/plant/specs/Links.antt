@@ -36,6 +36,6 @@ module _ (p : Plant) where
   abbrev pub outOfService : ℕ → Bool
   outOfService l = linkAt l .«out_of_service»
 
-  -- is link l in service? It is one of the listing, and not marked: it takes part in the plant
+  -- is link l in service? It is one of the listing, and not marked. What joins the switches, and what crosses links, goes by this
   unfoldable pub live : ℕ → Bool
   live l = ltb l (p .count) && not (outOfService l)

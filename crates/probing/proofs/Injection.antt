@@ -51,7 +51,7 @@ module _ (p : Plant) (ok : Sound p) (con : Connected p) (x : ℕ) (x-in : x < p 
   pub ring-at : RingAt p w x
   ring-at = record { closed = trail-closed p ok; leaves = leaves w (λ a. exactly a .0) }
 
-  -- the order has each link that takes part
+  -- the order has each link in service
   pub order-links : (l : ℕ) → In l (orderOf p w x) ↔ T (live p l)
   order-links l = (
     λ h. let c = order-crosses p w x l .0 h in subst (λ (k : ℕ). T (live p k)) (c .2) (used-arc p (c .0) (exactly (c .0) .0 (c .1))),
@@ -62,7 +62,7 @@ module _ (p : Plant) (ok : Sound p) (con : Connected p) (x : ℕ) (x-in : x < p 
       from (inl u) = order-crosses p w x l .1 (2 * l, exactly (2 * l) .1 u, even-half l)
       from (inr u) = order-crosses p w x l .1 (2 * l + 1, exactly (2 * l + 1) .1 u, odd-half l)
 
-  -- so it is as long as links take part
+  -- so it is as long as there are links in service
   pub order-length : length (orderOf p w x) ≡ liveLinks p
   unfolding liveLinks
   order-length =

@@ -277,7 +277,7 @@ pub fn order_of_links(listing: &[u8], switch: u8, trail: &[u16]) -> Ordered
 
 // ---- the outward labels of the probe wanted
 
-// Where the outward labels of probe m stand in the trail: the whole ring, if m is the number of links.
+// Where the outward labels of probe m stand in the trail: the whole ring, if m is the number of links in service.
 fn span_in(p: Plant, switch: u8, trail: &[u16], m: u16) -> Span
     requires { ⌜ Sound p × Connected p ⌝ }
     requires { ⌜ now trail ≡ trailOf p ⌝ }

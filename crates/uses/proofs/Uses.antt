@@ -38,7 +38,7 @@ flags-count n test k flags f h g =
     ap (λ (m : ℕ). count m (λ i. getD flags i false)) (f .places ∙ e) ∙ count-same (k + (n - k)) (λ i. getD flags i false) test (f .tells) ∙ count-past test k (n - k) g
 
 module _ (p : Plant) (r : ℕ) where
-  -- ---- what does not take part has no arc that is taken
+  -- ---- what is not in service has no arc that is taken
 
   module _ (two : ℕ → Bool) where
     pub taken-dead : (a l : ℕ) → a / 2 ≡ l → live p l ≡ false → takenFrom p r two a ≡ false
@@ -66,7 +66,7 @@ module _ (p : Plant) (r : ℕ) where
   unfolding arcsUsedFrom
   arcs-counted flags sound f = flags-count (2 * maxLinks) (usedFrom p r) (2 * p .count) flags f (omega (arith, sound .few-links)) used-past
 
--- ---- the arcs of a link between x and y that takes part, by the visit
+-- ---- the arcs of a link between x and y that is in service, by the visit
 
 module _ {p : Plant} {r : ℕ} {v : Visited} (sound : Sound p) (visits : Visits p r v) (l : ℕ) (part : live p l ≡ true)
     {x y : ℕ} (x-is : x ≡ first p l) (y-is : y ≡ second p l)

@@ -78,7 +78,7 @@ module _ (p : Plant) (ok : Valid p) where
     pub from-by-links : (f v : ℕ) → p .switches ≤ f → v < p .switches → visitLinks p ls f v (begin v) ≡ visitFrom p v (labels ls)
     from-by-links f v h i = sym (by-links f v (begin v)) ∙ enough p ok (labels ls) (λ b j. part (b / 2) (labels-in b ls j)) v i f h
 
-  -- the visit of the plant from r tries the links that take part by rising number
+  -- the visit of the plant from r tries the links in service by rising number
   pub visited-by-links : (r f : ℕ) → r < p .switches → p .switches ≤ f → visitLinks p (keep (live p) (range 0 (p .count))) f r (begin r) ≡ visitedFrom p r
   unfolding arcs
   visited-by-links r f r-in h = from-by-links (keep (live p) (range 0 (p .count))) (λ l i. keep-in (live p) l (range 0 (p .count)) i .1) f r h r-in

@@ -27,7 +27,7 @@ use Rattle.walks.proofs.Visited.{visited-keeps, visited-good, entered-a
 use Rattle.walks.proofs.Tests.{walk-back, bridge-live, bridge-is}
 use Rattle.walks.proofs.Orientation.{Used, chosen-arc, used-is, from-arc}
 
--- of an arc and the opposite one: l tells whether the link takes part, b whether it is a bridge, c whether it was entered, x and y which end was visited first
+-- of an arc and the opposite one: l tells whether the link is in service, b whether it is a bridge, c whether it was entered, x and y which end was visited first
 bits : (l b c x y : Bool) → T l → bit x + bit y ≡ 1 → bit (l && (b || choose c x y)) + bit (l && (b || choose c y x)) ≡ suc (bit b)
 bits true true c x y t e = refl
 bits true false true x y t e = e

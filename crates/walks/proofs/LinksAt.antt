@@ -40,7 +40,7 @@ module _ (p : Plant) where
         count-none (p .count) (isAt p x)
         (λ l i t. ⊎-elim (λ u. omega (arith, eqb→eq (first p l) x u, ok .first-in l i)) (λ u. omega (arith, eqb→eq (second p l) x u, ok .second-in l i)) (or-cases (eqb (first p l) x) (eqb (second p l) x) (and-right (live p l) (eqb (first p l) x || eqb (second p l) x) t)))
 
-    -- over all switches a link that takes part is counted twice
+    -- over all switches a link in service is counted twice
     one-link : (l : ℕ) → l < p .count → sum (p .switches) (λ x. bit (isAt p x l)) ≡ 2 * bit (live p l)
     one-link l h = go (bool? (live p l))
       where

@@ -30,7 +30,7 @@ module _ (p : Plant) where
   pub walk-back : {kind : ℕ → Type 0} {x y : ℕ} → ((a : ℕ) → kind a → kind (opposite a)) → To p kind x y → To p kind y x
   walk-back f r = back (λ a h. one (opposite a) (f a h) (tail-opposite p a) (head-opposite p a)) r
 
-  -- a bridge takes part in the plant
+  -- a bridge is in service
   pub bridge-live : (l : ℕ) → T (bridge p l) → T (live p l)
   unfolding bridge
   bridge-live l t = and-left (live p l) (not (memb (second p l) (visitFrom p (first p l) (others p l) .ord))) t

@@ -23,7 +23,7 @@ module _ (p : Plant) where
   unfoldable pub head : ℕ → ℕ
   head a = side (a % 2) (second p (a / 2)) (first p (a / 2))
 
-  -- a is the label of an arc: its link takes part in the plant
+  -- a is the label of an arc: its link is in service
   abbrev pub Arc : ℕ → Type 0
   Arc a = T (live p (a / 2))
 

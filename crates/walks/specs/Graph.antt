@@ -42,7 +42,7 @@ module _ (p : Plant) where
   abbrev pub Bridge : ℕ → Type 0
   Bridge l = To (Avoid p l) (first p l) (second p l) → ⊥
 
-  -- the links that take part, by rising number, and their labels
+  -- the links in service, by rising number, and their labels
   unfoldable pub arcs : List ℕ
   arcs = labels (keep (live p) (range 0 (p .count)))
 
@@ -54,18 +54,18 @@ module _ (p : Plant) where
   unfoldable pub visitFrom : ℕ → List ℕ → St
   visitFrom v bs = visit (tail p) (head p) bs (p .switches) v (record { ord = v ∷ []; ent = [] })
 
-  -- without link l its ends are not joined
+  -- it is in service, and without it its ends are not joined
   unfoldable pub bridge : ℕ → Bool
   bridge l = live p l && not (memb (second p l) (visitFrom (first p l) (others l) .ord))
 
-  -- how many links take part, and how many are bridges
+  -- how many links are in service, and how many of them are bridges
   unfoldable pub liveLinks : ℕ
   liveLinks = count (p .count) (live p)
 
   unfoldable pub bridges : ℕ
   bridges = count (p .count) bridge
 
-  -- link l is at switch x: it takes part, and x is one of its ends
+  -- link l is at switch x: it is in service, and x is one of its ends
   abbrev pub isAt : ℕ → ℕ → Bool
   isAt x l = live p l && (eqb (first p l) x || eqb (second p l) x)
 
