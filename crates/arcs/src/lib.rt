@@ -2,13 +2,13 @@
 // the crates of the plan hand to one another. Inner: no call of document 01 is here.
 use plant::Plant;
 use plant::head_of;
+use plant::in_service;
 use plant::tail_of;
 ghost use mathlib.Core.Path.{_≡_};
 ghost use Prim.Native.Nat.{_*_, _≤_};
 ghost use Rattle.lists.specs.Arrays.{flag, at};
 ghost use Rattle.limits.specs.Limits.{maxLinks};
 ghost use Rattle.limits.specs.Sound.{Sound};
-ghost use Rattle.plant.specs.Links.{outOfService, live};
 ghost use Rattle.walks.specs.Arcs.{opposite};
 ghost use Rattle.walks.specs.Graph.{liveLinks};
 ghost use Rattle.arcs.specs.Net.{Ends, AllArcs};
@@ -68,27 +68,7 @@ pub fn ends_of(p: Plant) -> ArcEnds
     ArcEnds { tails, heads }
 }
 
-// Is link l marked out of service? What is no place of a plant has no mark.
-fn is_out_of_service(p: Plant, l: usize) -> bool
-    ensures { λ r. ⌜ r ≡ outOfService p l ⌝ }
-{
-    if Plant::MAX_LINKS <= l {
-        return false;
-    }
-    p.links[l].out_of_service
-}
-
-// Is link l in service?
-pub fn is_live(p: Plant, l: usize) -> bool
-    ensures { λ r. ⌜ r ≡ live p l ⌝ }
-{
-    if p.count as usize <= l {
-        return false;
-    }
-    !is_out_of_service(p, l)
-}
-
-// E, the number of links in service.
+// E, the number of links in service. What is no place of a plant has no mark.
 pub fn links_in_service(p: Plant) -> u16
     ensures { λ r. ⌜ r ≡ liveLinks p ⌝ }
 {
@@ -96,7 +76,8 @@ pub fn links_in_service(p: Plant) -> u16
     let mut e: u16 = 0;
     let mut l: u16 = 0;
     while l < n {
-        if is_live(p, l as usize) {
+        let i = l as usize;
+        if Plant::MAX_LINKS <= i || in_service(p.links[i]) {
             e += 1;
         }
         l += 1;
@@ -113,7 +94,7 @@ pub fn all_arcs(p: Plant) -> [bool; Plant::LABELS]
     let mut r = [false; Plant::LABELS];
     let mut a: usize = 0;
     while a < n {
-        r[a] = is_live(p, a / 2);
+        r[a] = in_service(p.links[a / 2]);
         a += 1;
     }
     r

@@ -5,6 +5,7 @@ ghost use Prim.Native.Nat.{_+_, _*_, _<_};
 ghost use Rattle.lists.specs.Arrays.{at};
 ghost use Rattle.limits.specs.Limits.{maxLinks};
 ghost use Rattle.limits.specs.Sound.{Sound};
+ghost use Rattle.plant.specs.Links.{live};
 ghost use Rattle.walks.specs.Arcs.{tail};
 ghost use Rattle.walks.specs.Graph.{bridgeFrom};
 ghost use Rattle.arcs.specs.Net.{Ends};
@@ -13,6 +14,7 @@ ghost use Rattle.arcs.specs.Flags.{Flags};
 ghost use Rattle.bridges.specs.Inner.{EntryLinks, closes, Covered, acrossOf};
 use arcs::Visited;
 use plant::Plant;
+use plant::in_service;
 
 // The link by which the visit entered each switch. Of the two ends of an entered link, the one with the higher number was entered by it.
 fn entry_links(
@@ -43,17 +45,15 @@ fn entry_links(
     up
 }
 
-// Does link l close a cycle with the links that the visit entered?
+// Does link l, which is in service, close a cycle with the links that the visit entered?
 fn closes_cycle(p: Plant, tails: &[u8; Plant::LABELS], v: Visited, l: usize) -> bool
     requires { ⌜ Sound p ⌝ }
     requires { ⌜ at (now tails) ≡ tail p ⌝ }
     requires { ⌜ Visits p (v .root) v ⌝ }
     requires { ⌜ l < maxLinks ⌝ }
+    requires { ⌜ live p l ≡ true ⌝ }
     ensures { λ r. ⌜ r ≡ closes p (v .root) l ⌝ }
 {
-    if !arcs::is_live(p, l) {
-        return false;
-    }
     if v.entered[l] {
         return false;
     }
@@ -128,8 +128,10 @@ fn covered_links(
     let n = p.count as usize;
     let mut k: usize = 0;
     while k < n {
-        if closes_cycle(p, tails, v, k) {
-            climb(p, tails, heads, v, up, &mut c, k);
+        if in_service(p.links[k]) {
+            if closes_cycle(p, tails, v, k) {
+                climb(p, tails, heads, v, up, &mut c, k);
+            }
         }
         k += 1;
     }

@@ -1,5 +1,6 @@
 // The links at each switch of a plant (document 02, order 3). Inner: the calls are the crates `planner` and `probing`.
 use plant::Plant;
+use plant::in_service;
 ghost use mathlib.Core.Path.{_≡_};
 ghost use mathlib.Core.List.{map};
 ghost use Rattle.lists.specs.Numbers.{range};
@@ -16,7 +17,7 @@ pub fn links_at_each(p: Plant) -> [u16; Plant::PLACES]
     let mut counts = [0u16; Plant::PLACES];
     let mut l: usize = 0;
     while l < n {
-        if arcs::is_live(p, l) {
+        if in_service(p.links[l]) {
             let first = p.links[l].first as usize;
             let second = p.links[l].second as usize;
             counts[first] += 1;

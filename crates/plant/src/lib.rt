@@ -1,6 +1,7 @@
 // The plant: switches joined by two-way links, as a value. The limits are constants of its type, and are written here and nowhere else; so are the array
-// lengths that follow from them, a place for each switch and one for each label. With it: a plant without links, and the two ends of an arc by its label.
+// lengths that follow from them, a place for each switch and one for each label. With it: a plant without links, the two ends of an arc by its label, and whether a link is in service.
 ghost use mathlib.Core.Path.{_≡_};
+ghost use mathlib.Core.Bool.{not};
 ghost use Prim.Native.Nat.{_%_};
 ghost use Rattle.plant.specs.Links.{zeroLink, plantWith, side};
 
@@ -92,6 +93,13 @@ pub fn head_of(l: Link, a: usize) -> u8
         return l.second;
     }
     l.first
+}
+
+// Is the link in service?
+pub fn in_service(l: Link) -> bool
+    ensures { λ r. ⌜ r ≡ not (l .«out_of_service») ⌝ }
+{
+    !l.out_of_service
 }
 
 // The limits as numbers, for definitions of the crates above: their contracts ask each constant its value.

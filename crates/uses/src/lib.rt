@@ -13,6 +13,7 @@ ghost use Rattle.arcs.specs.Flags.{Flags, countSet};
 ghost use Rattle.uses.specs.Inner.{isTaken};
 use arcs::Visited;
 use plant::Plant;
+use plant::in_service;
 
 // Is an arc taken whose tail and head the visit numbered so? Of a link with two both arcs are; of another entered link, the arc from earlier to later visited; of every
 // other link, the arc from later to earlier.
@@ -47,7 +48,7 @@ fn arcs_taken(
     while l < n {
         let x = tails[2 * l] as usize;
         let y = heads[2 * l] as usize;
-        if arcs::is_live(p, l) && v.seen[x] {
+        if in_service(p.links[l]) && v.seen[x] {
             let both = two[l];
             let entered = v.entered[l];
             let i = v.rank[x];

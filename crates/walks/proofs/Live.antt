@@ -1,6 +1,6 @@
 -- Which links are in service: those of the listing that have no mark. Assumes nothing.
 -- Of a link in service the theory uses no more than that it is one of the listing (`live-below`).
-use mathlib.Core.Path.{_≡_, refl, _∙_}
+use mathlib.Core.Path.{_≡_, refl, sym, _∙_}
 use mathlib.Core.Logic.{⊎-elim}
 use mathlib.Core.Bool.{true, false, not}
 use Prim.Native.Nat.{ℕ, _≤_, _<_}
@@ -17,6 +17,11 @@ module _ (p : Plant) where
   unfolding live
   live-below l t = ltb→lt l (p .count) (and-left (ltb l (p .count)) (not (outOfService p l)) t)
 
+  -- of a link of the listing, by its mark
+  pub live-listed : (l : ℕ) → l < p .count → live p l ≡ not (outOfService p l)
+  unfolding live
+  live-listed l h = rw (lt-ltb l (p .count) h) refl
+
   -- ---- which are not
 
   pub dead-past : (l : ℕ) → p .count ≤ l → live p l ≡ false
@@ -31,8 +36,7 @@ module _ (p : Plant) where
 
   module _ (none : (l : ℕ) → l < p .count → outOfService p l ≡ false) where
     all-live : (l : ℕ) → live p l ≡ ltb l (p .count)
-    unfolding live
-    all-live l = ⊎-elim (λ h. rw (none l h, lt-ltb l (p .count) h) refl) (λ h. rw (le-ltb l (p .count) h) refl) (below? l (p .count))
+    all-live l = ⊎-elim (λ h. live-listed l h ∙ rw (none l h, lt-ltb l (p .count) h) refl) (λ h. dead-past l h ∙ sym (le-ltb l (p .count) h)) (below? l (p .count))
 
     pub live-all : live p ≡ λ l. ltb l (p .count)
     live-all = λ j l. all-live l j

@@ -1,39 +1,29 @@
 -- `bridges::closes_cycle` meets its contract. Assumes nothing.
-use mathlib.Core.Path.{sym, _∙_}
+use mathlib.Core.Path.{sym}
 use Prim.Native.Nat.{_*_}
 use native.Mathlib.Omega.{arith}
 use borrow.Author.Needs.{needs}
-use borrow.Author.Tests.{not-true, not-false}
 use Rattle.arcs.proofs.Ends.{first-end, tail-place}
-use Rattle.bridges.proofs.Cycles.{closes-dead, closes-entered, closes-seen}
+use Rattle.bridges.proofs.Cycles.{closes-entered, closes-seen}
 use Rattle.bridges.proofs.closes_cycle.Statement.{statement}
 use Rattle.bridges.proofs.closes_cycle.Tie as tie
 
 returns : tie.Need-returns
 returns c =
     let s = c .before .before in
-    sym (closes-dead (s .pre .0) (s .pre .1 .1 .0) _ (sym (c .before .is-live .ensures) ∙ not-true (c .before .is-live .result) (c .if1 .taken)))
-
-returns-2 : tie.Need-returns-2
-returns-2 c =
-    let n = c .before .before in
-    let s = n .before .before in
-    sym (closes-entered (s .pre .0) (s .pre .1 .1 .0) _ (sym (n .before .is-live .ensures) ∙ not-false (n .before .is-live .result) (n .if1 .left)) (c .if2 .taken))
+    sym (closes-entered (s .pre .0) (s .pre .1 .1 .0) _ (s .pre .1 .1 .1 .1) (c .if1 .taken))
 
 element-copy-out-result : tie.Need-element-copy-out-result
 element-copy-out-result c =
-    let s = c .before .before .before .before .before in
+    let s = c .before .before .before in
     tail-place (s .args .p) (s .args .tails .now) (s .pre .1 .0) (s .pre .0) (2 * s .args .l)
 
-returns-3 : tie.Need-returns-3
-returns-3 c =
+returns-2 : tie.Need-returns-2
+returns-2 c =
     let e = c .before .before in
-    let n = e .before .before in
-    let s = n .before .before in
-    closes-seen (s .pre .0) (s .pre .1 .1 .0) _ (sym (n .before .is-live .ensures) ∙ not-false (n .before .is-live .result) (n .if1 .left))
-    (first-end (s .args .p) (s .args .tails .now) (s .pre .1 .0) (s .args .l)) (e .if2 .left)
+    let s = e .before .before in
+    closes-seen (s .pre .0) (s .pre .1 .1 .0) _ (s .pre .1 .1 .1 .1) (first-end (s .args .p) (s .args .tails .now) (s .pre .1 .0) (s .args .l)) (e .if1 .left)
 
 pub closes-cycle-spec : {M : Type 1} → statement M
 closes-cycle-spec =
-    tie.close (tie.spec (λ c κs. search needs) returns (λ c. search needs) returns-2 (λ c. search needs) (λ c. search needs)
-    (λ c. omega (arith, element-copy-out-result c)) element-copy-out-result returns-3)
+    tie.close (tie.spec (λ c. search needs) returns (λ c. search needs) (λ c. search needs) (λ c. omega (arith, element-copy-out-result c)) element-copy-out-result returns-2)

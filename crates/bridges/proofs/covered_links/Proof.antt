@@ -1,40 +1,57 @@
 -- `bridges::covered_links` meets its contract. The loop's invariant: the links below k that close a cycle are climbed from. Assumes nothing.
-use mathlib.Core.Path.{sym, _∙_}
+use mathlib.Core.Path.{_≡_, sym, _∙_}
 use mathlib.Core.Logic.{⊎-elim}
+use mathlib.Core.Bool.{true}
 use Prim.Native.Nat.{_-_, _≤_, _<_}
 use native.Mathlib.Omega.{arith}
+use Rattle.plant.specs.Links.{live}
 use Rattle.limits.specs.Limits.{maxLinks}
+use Rattle.walks.proofs.Live.{live-listed}
 use Rattle.bridges.specs.Inner.{Covered}
-use Rattle.bridges.proofs.Cycles.{covered-none, covered-pass, covered-all}
+use Rattle.bridges.proofs.Cycles.{closes-dead, covered-none, covered-pass, covered-all}
 use Rattle.bridges.proofs.covered_links.Statement.{statement}
 use Rattle.bridges.proofs.covered_links.Tie as tie
 
 abbrev Inv-loop : tie.InvT-loop
-Inv-loop p tails heads v up c₀ n k₀ c k = (k ≤ n) × Covered p (v .root) k c
+Inv-loop tails heads v up p c₀ n k₀ c k = (k ≤ n) × Covered p (v .root) k c
 
 abbrev μ-loop : tie.MeasureT-loop
-μ-loop p tails heads v up c₀ n k₀ c k = n - k
+μ-loop tails heads v up p c₀ n k₀ c k = n - k
+
+-- the link has a place
+place : (c : tie.In-loop Inv-loop μ-loop) → c .before .loop .k < maxLinks
+place c = omega (arith, c .loop-test .taken, c .before .before .pre .0 .few-links)
+
+closes-cycle-requires : tie.Need-closes-cycle-requires Inv-loop μ-loop
+closes-cycle-requires c κs =
+    let i = c .before .before .before in
+    let s = i .before .before in
+    let h = s .pre in
+    let serves : c .before .in-service .result ≡ true = c .if1 .taken in
+    let live-here : live (s .args .t1) (i .before .loop .k) ≡ true = live-listed (s .args .t1) (i .before .loop .k) (i .loop-test .taken) ∙ sym (c .before .in-service .ensures) ∙ serves in
+    (h .0, (h .1 .0 .tails-are, (h .1 .1 .0, (place i, live-here))))
 
 climb-requires : tie.Need-climb-requires Inv-loop μ-loop
 climb-requires c κs =
-    let k = c .before .before .before .before in
-    let h = k .before .before .pre in
-    let few : k .loop .k < maxLinks = omega (arith, h .0 .few-links, c .before .before .before .loop-test .taken) in
-    (h .0, (h .1 .0, (h .1 .1 .0, (h .1 .1 .1, (few, (k .loop .inv .1, sym (c .before .before .closes-cycle .ensures) ∙ c .before .if1 .taken))))))
+    let t = c .before .before in
+    let i = t .before .before .before .before in
+    let h = i .before .before .pre in
+    (h .0, (h .1 .0, (h .1 .1 .0, (h .1 .1 .1, (place i, (i .before .loop .inv .1, sym (t .closes-cycle .ensures) ∙ c .before .if2 .taken))))))
 
 loop-again : tie.Need-loop-again Inv-loop μ-loop
 loop-again c =
-    let k = c .before .before .before in
-    let h = k .before .before .pre in (
+    let i = c .before .before .before in
+    let k = i .before in
+    let h = k .before .pre in (
       omega arith,
-      ⊎-elim (λ w. rw (w .3) (w .2 .ensures))
-          (λ w. rw (w .1) (covered-pass (h .0) (h .1 .1 .0) (k .loop .inv .1) (sym (c .before .closes-cycle .ensures) ∙ w .0 .left))) (c .if1 .came),
+      ⊎-elim (λ w. rw (w .5) (w .4 .ensures))
+          (⊎-elim (λ w. rw (w .3) (covered-pass (h .0) (h .1 .1 .0) (k .loop .inv .1) (sym (w .1 .ensures) ∙ w .2 .left)))
+          (λ w. rw (w .1) (covered-pass (h .0) (h .1 .1 .0) (k .loop .inv .1) (closes-dead (h .0) (h .1 .1 .0) _ (live-listed _ _ (i .loop-test .taken) ∙ sym (c .before .in-service .ensures) ∙ w .0 .left))))) (c .if1 .came),
     )
 
 pub covered-links-spec : {M : Type 1} → statement M
 covered-links-spec =
-    tie.close (tie.spec Inv-loop μ-loop (λ c. omega (arith, c .before .pre .0 .few-links))
-    (λ c. (omega arith, covered-none (c .before .pre .0) (c .before .pre .1 .1 .0)))
-    (λ c κs. let h = c .before .before .before .pre in (h .0, (h .1 .0 .tails-are, (h .1 .1 .0, omega (arith, h .0 .few-links, c .loop-test .taken))))) climb-requires
-    (λ c. omega (arith, c .before .before .before .before .before .pre .0 .few-links)) (λ c. omega arith) loop-again
-    (λ c. covered-all (c .before .before .before .pre .0) (c .before .before .before .pre .1 .1 .0) (c .before .loop .inv .1) (c .loop-test .left)))
+    tie.close (tie.spec Inv-loop μ-loop (λ c. omega (arith, c .pre .0 .few-links)) (λ c. (omega arith, covered-none (c .pre .0) (c .pre .1 .1 .0)))
+    (λ c. omega (arith, place c)) place (λ c κs. tt) closes-cycle-requires climb-requires
+    (λ c. omega (arith, place (c .before .before .before))) (λ c. omega arith) loop-again
+    (λ c. covered-all (c .before .before .pre .0) (c .before .before .pre .1 .1 .0) (c .before .loop .inv .1) (c .loop-test .left)))

@@ -8,6 +8,7 @@ use Rattle.lists.specs.Arrays.{flag, at}
 use Rattle.lists.proofs.Laid.{Laid, laid-none, laid-put-two, laid-pass-two, laid-all}
 use Rattle.limits.specs.Limits.{maxSwitches, maxLinks}
 use Rattle.walks.specs.Inner.{takenFrom}
+use Rattle.walks.proofs.Live.{live-listed}
 use Rattle.walks.proofs.Labels.{even-half, odd-half}
 use Rattle.arcs.proofs.Ends.{first-end, second-end, tail-place, head-place}
 use Rattle.uses.proofs.Uses.{taken-dead, taken-past, taken-pair, taken-none}
@@ -15,39 +16,40 @@ use Rattle.uses.proofs.arcs_taken.Statement.{statement}
 use Rattle.uses.proofs.arcs_taken.Tie as tie
 
 abbrev Inv-loop : tie.InvT-loop
-Inv-loop p tails heads two v u₀ n l₀ u l = (l ≤ n) × Laid false (2 * maxLinks) (takenFrom p (v .root) (flag two)) (2 * l) u
+Inv-loop tails heads two p v u₀ n l₀ u l = (l ≤ n) × Laid false (2 * maxLinks) (takenFrom p (v .root) (flag two)) (2 * l) u
 
 abbrev μ-loop : tie.MeasureT-loop
-μ-loop p tails heads two v u₀ n l₀ u l = n - l
+μ-loop tails heads two p v u₀ n l₀ u l = n - l
 
 -- the link has a place, and its ends are switches that there can be
 place : (c : tie.In-loop Inv-loop μ-loop) → c .before .loop .l < maxLinks
-place c = omega (arith, c .loop-test .taken, c .before .before .before .pre .0 .few-links)
+place c = omega (arith, c .loop-test .taken, c .before .before .pre .0 .few-links)
 
-x-place : (c : tie.In-loop Inv-loop μ-loop) → let k = c .before in at (k .before .before .args .tails .now) (2 * k .loop .l) < maxSwitches
-x-place c = let s = c .before .before .before in tail-place (s .args .p) (s .args .tails .now) (s .pre .1 .0 .tails-are) (s .pre .0) (2 * c .before .loop .l)
+x-place : (c : tie.In-loop Inv-loop μ-loop) → let k = c .before in at (k .before .args .tails .now) (2 * k .loop .l) < maxSwitches
+x-place c = let s = c .before .before in tail-place (s .args .t1) (s .args .tails .now) (s .pre .1 .0 .tails-are) (s .pre .0) (2 * c .before .loop .l)
 
-y-place : (c : tie.In-loop Inv-loop μ-loop) → let k = c .before in at (k .before .before .args .heads .now) (2 * k .loop .l) < maxSwitches
-y-place c = let s = c .before .before .before in head-place (s .args .p) (s .args .heads .now) (s .pre .1 .0 .heads-are) (s .pre .0) (2 * c .before .loop .l)
+y-place : (c : tie.In-loop Inv-loop μ-loop) → let k = c .before in at (k .before .args .heads .now) (2 * k .loop .l) < maxSwitches
+y-place c = let s = c .before .before in head-place (s .args .t1) (s .args .heads .now) (s .pre .1 .0 .heads-are) (s .pre .0) (2 * c .before .loop .l)
 
 -- the turn of the loop where both tests have passed
 abbrev turn : tie.Then2 Inv-loop μ-loop → tie.In-loop Inv-loop μ-loop
-turn c = c .before .before .before .before .before .before
+turn c = c .before .before .before .before .before .before .before
 
 loop-again : tie.Need-loop-again Inv-loop μ-loop
 loop-again c =
-    let k = c .before .before .before .before .before in
-    let s = k .before .before in
+    let i = c .before .before .before .before .before in
+    let k = i .before in
+    let s = k .before in
     let h = s .pre in
-    let p = s .args .p in
+    let p = s .args .t1 in
     let l = k .loop .l in
-    let is = sym (c .before .is-live .ensures) in
+    let is = live-listed p l (i .loop-test .taken) ∙ sym (c .before .in-service .ensures) in
     let x = first-end p (s .args .tails .now) (h .1 .0 .tails-are) l in
     let y = second-end p (s .args .heads .now) (h .1 .0 .heads-are) l in (
       omega arith,
       ⊎-elim
           (λ w. let e = taken-pair (h .0) (h .1 .1) l (is ∙ w .0 .taken) x y (flag (s .args .two .now)) (w .2 .taken) _ _ (w .7 .ensures) (w .8 .ensures) in
-          rw (w .9) (laid-put-two false (2 * maxLinks) _ l (k .loop .u) (k .loop .inv .1) _ _ (omega (arith, place (c .before .before .before .before))) (e .0) (e .1)))
+          rw (w .9) (laid-put-two false (2 * maxLinks) _ l (k .loop .u) (k .loop .inv .1) _ _ (omega (arith, place i)) (e .0) (e .1)))
           (λ w. let e : (takenFrom p (s .args .t4 .root) (flag (s .args .two .now)) (2 * l) ≡ false) × (takenFrom p (s .args .t4 .root) (flag (s .args .two .now)) (2 * l + 1) ≡ false) =
           ⊎-elim (λ z. taken-none (h .0) (h .1 .1) l (is ∙ z .0 .taken) x y (flag (s .args .two .now)) (z .2 .left))
           (λ z. (taken-dead p _ _ (2 * l) l (even-half l) (is ∙ z .left), taken-dead p _ _ (2 * l + 1) l (odd-half l) (is ∙ z .left))) (w .0 .came) in
@@ -57,7 +59,7 @@ loop-again c =
 returns : tie.Need-returns Inv-loop μ-loop
 returns c =
     let k = c .before in
-    let p = k .before .before .args .p in
+    let p = k .before .args .t1 in
     record {
       places = k .loop .inv .1 .places;
       tells = laid-all false (2 * maxLinks) _ (2 * k .loop .l) (k .loop .u) (k .loop .inv .1) (λ a h. taken-past p _ _ a (omega (arith, c .loop-test .left)));
@@ -65,12 +67,13 @@ returns c =
 
 pub arcs-taken-spec : {M : Type 1} → statement M
 arcs-taken-spec =
-    tie.close (tie.spec Inv-loop μ-loop (λ c. omega (arith, c .before .pre .0 .few-links)) (λ c. (omega arith, laid-none false (2 * maxLinks) _))
+    tie.close (tie.spec Inv-loop μ-loop (λ c. omega (arith, c .pre .0 .few-links)) (λ c. (omega arith, laid-none false (2 * maxLinks) _))
     (λ c. omega (arith, place c)) (λ c. omega (arith, place c)) (λ c. omega (arith, x-place (c .before))) (λ c. omega (arith, place (c .before)))
-    (λ c. omega (arith, place (c .before))) (λ c. omega (arith, y-place (c .before .before))) (λ c κs. tt) (λ c. x-place (c .before .before .before .before))
+    (λ c. omega (arith, place (c .before))) (λ c. omega (arith, y-place (c .before .before))) (λ c. omega (arith, place (c .before .before))) (λ c. place (c .before .before))
+    (λ c κs. tt) (λ c. x-place (c .before .before .before .before .before))
     (λ c. place (turn c)) (λ c. place (turn (c .before))) (λ c. x-place (turn (c .before .before))) (λ c. y-place (turn (c .before .before .before)))
     (λ c κs. tt) (λ c. omega (arith, place (turn (c .before .before .before .before .before))))
     (λ c. omega (arith, place (turn (c .before .before .before .before .before)))) (λ c κs. tt)
     (λ c. omega (arith, place (turn (c .before .before .before .before .before .before)))) (λ c. omega (arith, place (turn (c .before .before .before .before .before .before))))
-    (λ c. omega (arith, place (turn (c .before .before .before .before .before .before)))) (λ c. omega (arith, place (c .before .before .before .before))) (λ c. omega arith)
+    (λ c. omega (arith, place (turn (c .before .before .before .before .before .before)))) (λ c. omega (arith, place (c .before .before .before .before .before))) (λ c. omega arith)
     loop-again returns)
