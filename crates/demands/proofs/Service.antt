@@ -20,7 +20,7 @@ use Rattle.answers.specs.Checks.{answer}
 use Rattle.answers.proofs.Checks.{given-given, goes-on, came-from}
 use Rattle.codec.specs.Field.{Bytes}
 use Rattle.listing.specs.Listing as listing
-use Rattle.listing.proofs.Marks.{bit-three, without, link-undefined, header-undefined, mark-past}
+use Rattle.listing.proofs.Marks.{bit-three, without, plain-read, plain-written, link-undefined, header-undefined, mark-past}
 use Rattle.listing.proofs.Longest.{longest}
 use Rattle.walks.specs.Arcs.{Arc}
 use Rattle.walks.specs.Graph.{Crosses, bridge, liveLinks}
@@ -55,6 +55,8 @@ unfolding listing.link
 marks = record {
   set = bit-three;
   not-set = without;
+  plain-read = plain-read;
+  plain-written = plain-written;
   next = λ switches mark before s. refl;
   undefined = link-undefined;
   undefined-header = header-undefined;

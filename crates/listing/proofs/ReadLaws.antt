@@ -136,39 +136,46 @@ module _ (s : List ℕ) (from : ℕ) (h : Plant) where
     pub is : p ≡ withLinks h have
     pub rest : left h have (h .count - i) before (drop at s) ≡ answer (linked h (drop from s))
 
-  pub read-none : (p : Plant) (before : Link) → p ≡ withLinks h [] → before ≡ zeroLink → Read 0 p before from
+  -- before the first both ends count as 0
+  pub read-none : (p : Plant) → p ≡ withLinks h [] → Read 0 p zeroLink from
   unfolding linked
-  read-none p before e f =
+  read-none p e =
       let k : h .count - 0 ≡ h .count = omega arith in
-      record { within = omega arith; have = []; long = refl; is = e; rest = rw (f, k) (sym (then-is (links (h .switches) (h .count) zeroLink (drop from s)) (λ r. check [] (withLinks h (r .0), r .1)))) }
+      record { within = omega arith; have = []; long = refl; is = e; rest = rw k (sym (then-is (links (h .switches) (h .count) zeroLink (drop from s)) (λ r. check [] (withLinks h (r .0), r .1)))) }
 
-  module _ (i : ℕ) (p : Plant) (before : Link) (at : ℕ) (r : Read i p before at) (a : Record) (e : recordAnswer s a ≡ answer (link (h .switches) before (drop at s))) (some : i < h .count) where
-    less : h .count - i ≡ suc (h .count - (i + 1))
-    less = omega arith
+  -- the next record, of which the code answers a: `held` is what it holds as the record before
+  module _ (i : ℕ) (p : Plant) (before : Link) (at : ℕ) (r : Read i p before at) (held : Link) (same : held ≡ before) (a : Record)
+      (e : recordAnswer s a ≡ answer (link (h .switches) held (drop at s))) (some : i < h .count)
+    where
+      less : h .count - i ≡ suc (h .count - (i + 1))
+      less = omega arith
 
-    pub read-refused : (k : Refusal) → a ≡ record-is.Refused k → answer (linked h (drop from s)) ≡ refused (numberOf k)
-    read-refused k f = sym (rw (less, links-stop (h .switches) (h .count - (i + 1)) before (drop at s) (numberOf k) (sym e ∙ ap (recordAnswer s) f)) at (r .rest))
+      answered : recordAnswer s a ≡ answer (link (h .switches) before (drop at s))
+      answered = e ∙ ap (λ (b : Link). answer (link (h .switches) b (drop at s))) same
 
-    pub read-one : (l : Link) (next : ℕ) → h .count ≤ maxLinks → a ≡ record-is.Link l next
-        → Read (i + 1) (record { switches = p .switches; count = p .count; start = p .start; links = set (p .links) i l }) (getD (set (p .links) i l) i zeroLink) next
-    unfolding withLinks
-    read-one l next few f = rw (getD-set-same (p .links) i l zeroLink room) (record {
-      within = omega arith;
-      have = r .have ++ (l ∷ []);
-      long = length-append (r .have) (l ∷ []) ∙ ap (λ (k : ℕ). k + 1) (r .long);
-      is = rw (r .is, sym (r .long)) (put h (r .have) l (omega (arith, r .long)));
-      rest =
-          sym (regroup (answer (links (h .switches) (h .count - (i + 1)) l (drop next s))))
-          ∙ rw (less, links-next (h .switches) (h .count - (i + 1)) before (drop at s) l (drop next s) (sym e ∙ ap (recordAnswer s) f)) at (r .rest);
-    })
-      where
-        room : i < length (p .links)
-        room = omega (arith, ap (λ (x : Plant). length (x .links)) (r .is) ∙ places h (r .have), r .long)
+      pub read-refused : (k : Refusal) → a ≡ record-is.Refused k → answer (linked h (drop from s)) ≡ refused (numberOf k)
+      read-refused k f = sym (rw (less, links-stop (h .switches) (h .count - (i + 1)) before (drop at s) (numberOf k) (sym answered ∙ ap (recordAnswer s) f)) at (r .rest))
 
-        regroup : (q : Answer (List Link × List ℕ))
-            → (q >>= ahead l >>= after h (r .have)) ≡ (q >>= after h (r .have ++ (l ∷ [])))
-        regroup (given t) = ap (λ (ks : List Link). given (withLinks h ks, t .1)) (sym (append-assoc (r .have) (l ∷ []) (t .0)))
-        regroup (refused n) = refl
+      pub read-one : (l : Link) (next : ℕ) → h .count ≤ maxLinks → a ≡ record-is.Link l next
+          → Read (i + 1) (record { switches = p .switches; count = p .count; start = p .start; links = set (p .links) i l }) (getD (set (p .links) i l) i zeroLink) next
+      unfolding withLinks
+      read-one l next few f = rw (getD-set-same (p .links) i l zeroLink room) (record {
+        within = omega arith;
+        have = r .have ++ (l ∷ []);
+        long = length-append (r .have) (l ∷ []) ∙ ap (λ (k : ℕ). k + 1) (r .long);
+        is = rw (r .is, sym (r .long)) (put h (r .have) l (omega (arith, r .long)));
+        rest =
+            sym (regroup (answer (links (h .switches) (h .count - (i + 1)) l (drop next s))))
+            ∙ rw (less, links-next (h .switches) (h .count - (i + 1)) before (drop at s) l (drop next s) (sym answered ∙ ap (recordAnswer s) f)) at (r .rest);
+      })
+        where
+          room : i < length (p .links)
+          room = omega (arith, ap (λ (x : Plant). length (x .links)) (r .is) ∙ places h (r .have), r .long)
+
+          regroup : (q : Answer (List Link × List ℕ))
+              → (q >>= ahead l >>= after h (r .have)) ≡ (q >>= after h (r .have ++ (l ∷ [])))
+          regroup (given t) = ap (λ (ks : List Link). given (withLinks h ks, t .1)) (sym (append-assoc (r .have) (l ∷ []) (t .0)))
+          regroup (refused n) = refl
 
   pub read-all : (i : ℕ) (p : Plant) (before : Link) (at : ℕ) → Read i p before at → h .count ≤ i → answer (linked h (drop from s)) ≡ given (p, drop at s)
   unfolding links

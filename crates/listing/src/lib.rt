@@ -245,8 +245,8 @@ fn read_records(s: &[u8], from: usize, switches: u8, count: u16, start: u8) -> L
         match read_link(s, at, before, switches) {
             Record::Link(l, next) => {
                 p.links[i] = l;
-                before = p.links[i];
                 at = next;
+                before = p.links[i];
             }
             Record::Refused(k) => {
                 return refused_links(k, from);
