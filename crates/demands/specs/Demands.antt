@@ -19,7 +19,6 @@ use Rattle.plant.specs.declared.Link.{Link}
 use Rattle.plant.specs.declared.Plant.{Plant}
 use Rattle.plant.specs.Links.{marked, outOfService, live}
 use Rattle.limits.specs.Sound.{Sound}
-use Rattle.codec.specs.declared.Field.{Field}
 use Rattle.codec.specs.Field.{Bytes}
 use Rattle.codec.specs.Part.{part, partBytes}
 use Rattle.listing.specs.Listing.{encode, reading}
@@ -365,10 +364,6 @@ pub record ByLabel (p : Plant) (x : ℕ) (states : List ℕ) : Type 0 where
 
 -- ---- document 02, order 7: links laid up, here out of service
 
--- document 01's fields of a link: an absent end is that of the record before
-abbrev pub plainFields : Link → List Field
-plainFields before = listing.field 1 (before .first) ∷ listing.field 1 (before .second) ∷ listing.field 2 0 ∷ []
-
 -- how a listing marks them
 pub record Marks : Type 0 where
   -- "bit 3 of a link's map, with no field, marks the link laid up. Its ends are still tested": a record with it is tried as the record without it, gives the same link with the
@@ -380,9 +375,9 @@ pub record Marks : Type 0 where
   -- a record without it is read and written by document 01's three fields, first end, second end and tag, as without this order
   pub plain-read : (switches : ℕ) (before : Link) (m : ℕ) (s : List ℕ) → m < 8
       → listing.link switches before (m ∷ s)
-      ≡ (part (plainFields before) (m ∷ s)
+      ≡ (part (listing.plainFields before) (m ∷ s)
       then λ r. listing.soundLink switches (marked false (listing.linkFrom (r .0))) then λ _. check [] (marked false (listing.linkFrom (r .0)), r .1))
-  pub plain-written : (before l : Link) → l .«out_of_service» ≡ false → listing.linkBytes before l ≡ partBytes (plainFields before) (l .first ∷ l .second ∷ l .tag ∷ [])
+  pub plain-written : (before l : Link) → l .«out_of_service» ≡ false → listing.linkBytes before l ≡ partBytes (listing.plainFields before) (l .first ∷ l .second ∷ l .tag ∷ [])
   -- the record after a marked one takes its ends from it, as from any other
   pub next : (switches : ℕ) (mark : Bool) (before : Link) (s : List ℕ) → listing.link switches (marked mark before) s ≡ listing.link switches before s
   -- "in a link's map refusal 2 now covers bits 4 to 7"; a header has no bit 3

@@ -20,7 +20,7 @@ use Rattle.answers.specs.Checks.{Conditions, Checked, check, answer, _then_}
 use Rattle.answers.proofs.Checks.{trying-then, refused-exactly, given-exactly, EachNumber, first-number}
 use Rattle.codec.specs.declared.Field.{Field}
 use Rattle.codec.specs.Part.{taken, rest, valueOf, redundant, mapMissing, mapUndefined, fieldMissing, fieldRedundant, fieldValues, afterPart, part, partBytes}
-use Rattle.listing.specs.Listing.{field, headerFields, linkFields, linkBytes, valueOutOfRange, headerOutOfRange, headerFrom, endOutOfRange, selfLink, header, linkFrom, soundLink, link}
+use Rattle.listing.specs.Listing.{headerFields, plainFields, linkFields, linkBytes, valueOutOfRange, headerOutOfRange, headerFrom, endOutOfRange, selfLink, header, linkFrom, soundLink, link}
 use Rattle.listing.specs.Writing.{isZero, plantOutOfRange, soundPlant, writing}
 
 -- ---- bit 3
@@ -50,14 +50,14 @@ module _ (switches : ℕ) (before : Link) (m : ℕ) (s : List ℕ) (h : m < 8) w
 
   -- it is read by document 01's three fields
   pub plain-read : link switches before (m ∷ s)
-      ≡ (part (field 1 (before .first) ∷ field 1 (before .second) ∷ field 2 0 ∷ []) (m ∷ s)
+      ≡ (part (plainFields before) (m ∷ s)
       then λ q. soundLink switches (marked false (linkFrom (q .0))) then λ _. check [] (marked false (linkFrom (q .0)), q .1))
   unfolding link part mapMissing mapUndefined fieldMissing fieldRedundant fieldValues afterPart valueOf taken redundant soundLink endOutOfRange selfLink
   plain-read = let d : m / 2 / 2 / 2 ≡ 0 = omega arith in rw d refl
 
 -- and written by them
 pub plain-written : (before l : Link) → l .«out_of_service» ≡ false
-    → linkBytes before l ≡ partBytes (field 1 (before .first) ∷ field 1 (before .second) ∷ field 2 0 ∷ []) (l .first ∷ l .second ∷ l .tag ∷ [])
+    → linkBytes before l ≡ partBytes (plainFields before) (l .first ∷ l .second ∷ l .tag ∷ [])
 unfolding linkBytes partBytes
 plain-written before l e = rw e refl
 

@@ -27,9 +27,13 @@ headerFields = field 1 1 ∷ field 2 0 ∷ field 1 0 ∷ []
 abbrev pub noBytes : Field
 noBytes = field 0 1
 
--- first end, second end, tag; an absent end is that of the record before. Bit 3 has no field and marks the link out of service: the value is 0 then, and else 1
+-- document 01's fields of a link: first end, second end, tag; an absent end is that of the record before
+abbrev pub plainFields : Link → List Field
+plainFields before = field 1 (before .first) ∷ field 1 (before .second) ∷ field 2 0 ∷ []
+
+-- and bit 3, which has no field and marks the link out of service: the value is 0 then, and else 1
 abbrev pub linkFields : Link → List Field
-linkFields before = field 1 (before .first) ∷ field 1 (before .second) ∷ field 2 0 ∷ noBytes ∷ []
+linkFields before = plainFields before ++ (noBytes ∷ [])
 
 -- ---- the conditions of refusals 5 to 8
 
