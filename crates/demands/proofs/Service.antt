@@ -38,8 +38,8 @@ use Rattle.rings.proofs.Injection.{probe-arcs}
 use Rattle.planning.specs.Planning.{planning, planningAt}
 use Rattle.planning.proofs.Plans.{plan-ready, given-at, at-given}
 use Rattle.judging.specs.Conditions.{statesShort}
-use Rattle.judging.proofs.Lent.{hops-own}
-use Rattle.probing.specs.Calls.{runIn, running, roundIn, roundRunning, link, nameIn, naming}
+use Rattle.judging.proofs.Lent.{trail-own, hops-own}
+use Rattle.probing.specs.Calls.{runIn, running, checkIn, checking, roundIn, roundRunning, probeIn, probing, link, nameIn, naming}
 use Rattle.probing.specs.Searches.{NoneBroken}
 use Rattle.probing.proofs.Injection.{ring-at, order-links}
 use Rattle.probing.proofs.NamedLinks.{named-live}
@@ -131,9 +131,11 @@ module _ (s : List ℕ) (b : Bytes s) (p : Plant) (g : answer (planning s) ≡ g
       rw (sym (planned r e)) (record { short = le-ltb (length states) (2 * p .count) (h .enough .0) ∙ sym (le-ltb (length states′) (2 * p .count) (h .enough .1)); same = h .same })
 
   pub states-of : StatesOf s p x
-  unfolding running runIn roundRunning roundIn statesShort
+  unfolding running runIn checking checkIn probing probeIn roundRunning roundIn statesShort
   states-of = record {
     cover = λ labels states h. goes-on (planningAt s x) (runIn x labels states) p (given-at s x p g x-in) ∙ rw (lt-ltb (length states) (p .count) h) refl;
+    cover-check = λ states h. goes-on (planningAt s x) (checkIn x (trailOf p) states) p (given-at s x p g x-in) ∙ rw (trail-own p, lt-ltb (length states) (p .count) h) refl;
+    cover-probe = λ states q h. goes-on (planningAt s x) (probeIn x (trailOf p) states q) p (given-at s x p g x-in) ∙ rw (trail-own p, lt-ltb (length states) (p .count) h) refl;
     cover-labels = λ spare states h.
         goes-on (planningAt s x) (roundIn x (roundOf p ++ spare) states) p (given-at s x p g x-in) ∙ rw (hops-own (roundOf p) spare, lt-ltb (length states) (2 * p .count) h) refl;
     run = λ labels states states′ h. running-bytes s x states states′ (by-link states states′ h) labels;

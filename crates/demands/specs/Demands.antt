@@ -385,7 +385,7 @@ pub record Marks : Type 0 where
   pub undefined-header : (m : ℕ) (s : List ℕ) → (answer (listing.header (m ∷ s)) ≡ refused 2) ↔ (8 ≤ m)
   -- a place past the last link has no mark
   pub past : (p : Plant) (b : List ℕ) (l : ℕ) → p .count ≤ l → outOfService p l ≡ true → answer (writing p b) ≡ refused 5
-  -- the longest listing is what it was
+  -- the longest listing has document 01's length: a mark takes no byte
   pub longest : (s : List ℕ) (p : Plant) → answer (reading s) ≡ given p → length s ≤ 1285
 
 -- for every listing s that is read as a connected plant p, and a link l of it that is marked
@@ -414,8 +414,10 @@ pub record SameByLabel (p : Plant) (states states′ : List ℕ) : Type 0 where
 
 -- for every listing s that is read as a connected plant p, and one of its switches x
 pub record StatesOf (s : List ℕ) (p : Plant) (x : ℕ) : Type 0 where
-  -- "state bytes still cover every link number", in the round run every label: with fewer the answer is 13
+  -- "state bytes still cover every link number", in the round run every label: with fewer, and the plant's own trail, the answer is 13
   pub cover : (labels states : List ℕ) → length states < p .count → answer (running s x labels states) ≡ refused 13
+  pub cover-check : (states : List ℕ) → length states < p .count → answer (checking s x (trailOf p) states) ≡ refused 13
+  pub cover-probe : (states : List ℕ) (q : Search) → length states < p .count → answer (probing s x (trailOf p) states q) ≡ refused 13
   pub cover-labels : (spare states : List ℕ) → length states < 2 * p .count → answer (roundRunning s x (roundOf p ++ spare) states) ≡ refused 13
   -- but that of a link out of service is looked at by nobody
   pub run : (labels states states′ : List ℕ) → SameByLink p states states′ → answer (running s x labels states) ≡ answer (running s x labels states′)

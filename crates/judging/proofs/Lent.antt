@@ -32,6 +32,10 @@ pub trail-same : (p : Plant) (w : List ℕ) → trailDiffers p w ≡ false → w
 unfolding trailDiffers
 trail-same p w f = same-is w (trailOf p) .0 (not-false _ f)
 
+pub trail-own : (p : Plant) → trailDiffers p (trailOf p) ≡ false
+unfolding trailDiffers
+trail-own p = rw (same-is (trailOf p) (trailOf p) .1 refl) refl
+
 -- ---- 12 by the hops alone: what a comparison tells of a lent trail
 
 module _ (w lent : List ℕ) where
