@@ -176,8 +176,8 @@ module _ {A B : Type 0} (c : Checked A) (f : A → B) where
   pub was-given : (b : B) → answer (c giving f) ≡ given b → (a : A) × (answer c ≡ given a) × (f a ≡ b)
   was-given b e = let r = then-given (answer c) (λ a. given (f a)) b (sym giving-is ∙ e) in (r .0, r .1, given-given (f (r .0)) b (r .2))
 
--- a refusal leaves a lent buffer as it was
-pub left-kept : {A : Type 0} (f : A → List ℕ) (b : List ℕ) (a : Answer A) (n : ℕ) → a ≡ refused n → leaves f b a ≡ b
+-- a refusal leaves what is lent as it was
+pub left-kept : {A B : Type 0} (f : A → B) (b : B) (a : Answer A) (n : ℕ) → a ≡ refused n → leaves f b a ≡ b
 left-kept f b a n e = rw e refl
 
 -- ---- a verdict

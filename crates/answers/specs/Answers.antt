@@ -26,6 +26,9 @@ numberOf is.SearchEnded = 15
 numberOf is.ListingBufferShort = 16
 numberOf is.SpareTooLarge = 17
 numberOf is.BuyingPageUnfit = 18
+numberOf is.ConsoleOutOfRange = 19
+numberOf is.SetOutOfRange = 20
+numberOf is.SwitchOutsideSet = 21
 
 -- what a call answers: its result, or the number of its refusal and nothing else
 pub data Answer (A : Type 0) : Type 0 where

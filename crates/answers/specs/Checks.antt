@@ -56,8 +56,8 @@ infixl 1 _giving_
 abbrev pub _giving_ : {A B : Type 0} → Checked A → (A → B) → Checked B
 c giving f = check (c .checks) (f (c .result))
 
--- what a call leaves in a lent buffer b: something by its result; at a refusal b as it was
-abbrev pub leaves : {A : Type 0} → (A → List ℕ) → List ℕ → Answer A → List ℕ
+-- what a call leaves of what it is lent, a buffer or a desk, b before: something by its result; at a refusal b as it was
+abbrev pub leaves : {A B : Type 0} → (A → B) → B → Answer A → B
 leaves f b (given a) = f a
 leaves f b (refused n) = b
 
@@ -68,7 +68,7 @@ pub record Answers {A : Type 0} (c : Checked A) : Type 0 where
   pub refusals : (n : ℕ) → (answer c ≡ refused n) ↔ FirstHolds n (c .checks)
   pub otherwise : ((n : ℕ) → FirstHolds n (c .checks) → ⊥) → answer c ≡ given (c .result)
 
--- and a refusal leaves the lent buffer, b before and `after` afterwards, as it was
-pub record AnswersInto {A : Type 0} (c : Checked A) (b after : List ℕ) : Type 0 where
+-- and a refusal leaves what is lent, b before and `after` afterwards, as it was
+pub record AnswersInto {A B : Type 0} (c : Checked A) (b after : B) : Type 0 where
   pub answers : Answers c
   pub kept : (n : ℕ) → answer c ≡ refused n → after ≡ b

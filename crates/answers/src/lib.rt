@@ -5,7 +5,7 @@ ghost use lib.Dec.{ltb};
 ghost use Rattle.answers.specs.Answers.{numberOf, firstOf};
 ghost use Rattle.answers.specs.Checks.{Judges};
 
-// The refusals, in the order of their numbers, 1 to 18. Each is named after its condition.
+// The refusals, in the order of their numbers, 1 to 21. Each is named after its condition.
 pub enum Refusal {
     MapMissing,
     MapUndefined,
@@ -25,6 +25,9 @@ pub enum Refusal {
     ListingBufferShort,
     SpareTooLarge,
     BuyingPageUnfit,
+    ConsoleOutOfRange,
+    SetOutOfRange,
+    SwitchOutsideSet,
 }
 
 impl Refusal {
@@ -50,6 +53,9 @@ impl Refusal {
             Refusal::ListingBufferShort => 16,
             Refusal::SpareTooLarge => 17,
             Refusal::BuyingPageUnfit => 18,
+            Refusal::ConsoleOutOfRange => 19,
+            Refusal::SetOutOfRange => 20,
+            Refusal::SwitchOutsideSet => 21,
         }
     }
 }

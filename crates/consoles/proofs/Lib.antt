@@ -1,0 +1,3 @@
+pub mod Serving
+pub mod Altered
+pub mod Isolation

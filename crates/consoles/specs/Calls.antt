@@ -1,0 +1,54 @@
+-- The calls on a desk of four consoles (document 02, order 8): what each tries, in which order, what it answers, and the desk after it. Of the desk a call knows its own
+-- console's set and search alone.
+use mathlib.Core.Bool.{Bool}
+use mathlib.Core.List.{List, [], _∷_}
+use Prim.Native.Nat.{ℕ}
+use lib.Dec.{ltb}
+use Rattle.answers.specs.Answers.{Answer, given, refused, numberOf}
+use Rattle.answers.specs.Checks.{Checked, check, answer, _then_, _giving_}
+use Rattle.walks.specs.Graph.{liveLinks}
+use Rattle.planning.specs.Planning.{planning}
+use Rattle.search.specs.declared.Outcome.{Outcome}
+use Rattle.desk.specs.declared.Console.{Console}
+use Rattle.desk.specs.declared.Desk.{Desk}
+use Rattle.desk.specs.Console.{replacing, starting, telling}
+use Rattle.desk.specs.Desk.{consoleOf, deskAfter}
+use Rattle.consoles.specs.declared.Sized.{Sized}
+use Rattle.consoles.specs.declared.Sized.the-variants as sized
+
+-- 19: "console above 3, tried before every listing refusal"
+unfoldable pub consoleOutOfRange : ℕ → Bool
+consoleOutOfRange k = ltb 3 k
+
+-- 19, then 1 to 9, then S and E of the listing's plant: its switches and its links in service
+unfoldable pub sizing : ℕ → List ℕ → Checked (ℕ × ℕ)
+sizing k s = check ((19, consoleOutOfRange k) ∷ []) s then λ t. planning t giving λ p. (p .switches, liveLinks p)
+
+-- what a console asks for: a new set, a search from a switch, or that an outcome (document 01: a fate) be given to its search
+pub data Request : Type 0 where
+  newSet : ℕ → Request
+  start : ℕ → Request
+  outcome : Outcome → Request
+
+-- what its console tries and does, for S and E
+abbrev pub asking : ℕ → ℕ → Request → Console → Checked Console
+asking s e (newSet set) c = replacing s set c
+asking s e (start x) c = starting s e x c
+asking s e (outcome o) c = telling s e o c
+
+-- a call of console k with the listing s, by that console's set and search
+unfoldable pub calling : ℕ → List ℕ → Request → Console → Checked Console
+calling k s r c = sizing k s then λ z. asking (z .0) (z .1) r c
+
+-- on a desk: what is answered is the console's set and search as they then stand
+abbrev pub serving : Desk → ℕ → List ℕ → Request → Checked Console
+serving d k s r = calling k s r (consoleOf d k)
+
+-- and the desk after it
+unfoldable pub served : Desk → ℕ → List ℕ → Request → Desk
+served d k s r = deskAfter d k (answer (serving d k s r))
+
+-- what the code's answer says
+abbrev pub sizedAnswer : Sized → Answer (ℕ × ℕ)
+sizedAnswer (sized.Of s e) = given (s, e)
+sizedAnswer (sized.Refused k) = refused (numberOf k)

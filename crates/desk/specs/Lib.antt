@@ -1,0 +1,2 @@
+pub mod Console
+pub mod Desk
