@@ -1,21 +1,21 @@
 -- Isolation: a call's answer, and its console's set and search afterwards, go by that console's set and search before it and by the call; the other three consoles stay. So
 -- a list of calls is, for one console, the list of its own calls on its own set and search. Assumes nothing.
 use mathlib.Core.Path.{_≡_, refl, sym, ap, ap₂, _∙_, subst}
-use mathlib.Core.Logic.{_⊎_, inl, inr}
 use mathlib.Core.Bool.{Bool, true, false}
 use mathlib.Core.List.{List, [], _∷_}
-use Prim.Native.Nat.{ℕ, _≤_, _<_}
-use native.Mathlib.Omega.{arith}
+use Prim.Native.Nat.{ℕ, _≤_}
 use lib.Dec.{eqb, ltb}
-use borrow.Author.Tests.{eqb-true, eqb-false, ltb-false}
+use borrow.Author.Tests.{eqb-true, eqb-false, ltb-false, le-ltb}
 use Rattle.lists.specs.Tests.{choose}
-use Rattle.lists.proofs.Tests.{bool?}
+use Rattle.plant.specs.declared.Plant.{Plant}
 use Rattle.answers.specs.Answers.{Answer, given, refused}
 use Rattle.answers.specs.Checks.{answer, leaves}
-use Rattle.answers.proofs.Checks.{came-from, refuse-given}
+use Rattle.answers.proofs.Checks.{came-from, refuse-given, goes-on, gives-so}
+use Rattle.walks.specs.Graph.{liveLinks}
+use Rattle.planning.specs.Planning.{planning}
 use Rattle.desk.specs.declared.Console.{Console}
 use Rattle.desk.specs.declared.Desk.{Desk}
-use Rattle.desk.specs.Desk.{consoleOf, withConsole, deskAfter}
+use Rattle.desk.specs.Desk.{consoleOf, deskAfter}
 use Rattle.desk.proofs.Consoles.{put-there, put-beside}
 use Rattle.consoles.specs.Calls.{consoleOutOfRange, sizing, Request, asking, calling, served}
 use Rattle.consoles.specs.Lists.{DeskCall, answerTo, after, afterAll, callsOf, answersOf}
@@ -36,6 +36,12 @@ unfolding calling sizing consoleOutOfRange
 among-four k s r c a e =
     let z = came-from (sizing k s) (λ y. asking (y .0) (y .1) r c) a e in
     ltb-false 3 k (refuse-given 19 (ltb 3 k) _ (z .0) (z .1) .0)
+
+-- with a listing that has a plant, it goes by that plant's switches and links in service
+pub asks-so : (k : ℕ) (s : List ℕ) (p : Plant) → k ≤ 3 → answer (planning s) ≡ given p → (r : Request) (c : Console) → answer (calling k s r c) ≡ answer (asking (p .switches) (liveLinks p) r c)
+unfolding calling sizing consoleOutOfRange
+asks-so k s p h e r c =
+    goes-on (sizing k s) (λ y. asking (y .0) (y .1) r c) (p .switches, liveLinks p) (rw (le-ltb 3 k h) (gives-so (planning s) (λ p. (p .switches, liveLinks p)) p e))
 
 module _ (d : Desk) (q : DeskCall) where
   -- by what is answered

@@ -1,3 +1,4 @@
 pub mod Serving
 pub mod Altered
 pub mod Isolation
+pub mod Fed

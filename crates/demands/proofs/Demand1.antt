@@ -9,9 +9,11 @@ use Rattle.answers.proofs.Checks.{answers, left-kept}
 use Rattle.listing.specs.Writing.{writing}
 use Rattle.listing.proofs.WriteRoundTrip.{buffer-refused}
 use Rattle.planner.specs.Calls.{rewriting, rewritten, rereading, trailing, laidOut, roundTrailing, roundLaidOut, buying, boughtOut}
+use Rattle.desk.specs.Desk.{withConsole}
+use Rattle.consoles.specs.Calls.{newSet, start, outcome, serving, served}
 use Rattle.demands.specs.Demands.{Demand1}
 
-into : {A : Type 0} (c : Checked A) (f : A → List ℕ) (b : List ℕ) → AnswersInto c b (leaves f b (answer c))
+into : {A B : Type 0} (c : Checked A) (f : A → B) (b : B) → AnswersInto c b (leaves f b (answer c))
 into c f b = record { answers = answers c; kept = λ n e. left-kept f b (answer c) n e }
 
 -- what is written and read again is refused as what is written is
@@ -20,7 +22,7 @@ unfolding rereading
 reread-refused p b n e = answers (writing p b) .refusals n .1 (answers (rereading p b) .refusals n .0 e)
 
 pub demand-1 : Demand1
-unfolding rewritten laidOut roundLaidOut boughtOut
+unfolding rewritten laidOut roundLaidOut boughtOut served
 demand-1 = record {
   read = λ s. answers _;
   write = λ p b. record { answers = answers _; kept = buffer-refused p b };
@@ -52,4 +54,8 @@ demand-1 = record {
   ask = λ q. answers _;
   give = λ q o. answers _;
   perform = λ s x cs. answers _;
+  fresh-desk = answers _;
+  replace-set = λ d s k set. into (serving d k s (newSet set)) (withConsole d k) d;
+  start-search = λ d s k x. into (serving d k s (start x)) (withConsole d k) d;
+  give-outcome = λ d s k o. into (serving d k s (outcome o)) (withConsole d k) d;
 }

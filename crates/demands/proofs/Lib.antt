@@ -9,3 +9,4 @@ pub mod BySwitches
 pub mod BuyingPages
 pub mod Rounds
 pub mod Service
+pub mod Consoles

@@ -5,7 +5,7 @@ use mathlib.Core.Path.{_≡_}
 use mathlib.Core.Logic.{_⊎_, _↔_}
 use mathlib.Core.Bool.{Bool, true, false}
 use mathlib.Core.List.{List, [], _∷_, _++_, map, flatten}
-use Prim.Native.Nat.{ℕ, suc, _+_, _*_, _/_, _≤_, _<_}
+use Prim.Native.Nat.{ℕ, suc, _+_, _*_, _/_, _^_, _≤_, _<_}
 use lib.Dec.{T, ltb}
 use lib.ListN.{length, getD, take, drop}
 use Rattle.lists.specs.Members.{In, Each, memb, Distinct}
@@ -13,11 +13,12 @@ use Rattle.lists.specs.Count.{count}
 use Rattle.lists.specs.Arrays.{at}
 use Rattle.lists.specs.Numbers.{range, keep}
 use Rattle.lists.specs.Sum.{sum}
-use Rattle.answers.specs.Answers.{given, refused, _>>=_}
+use Rattle.answers.specs.Answers.{Answer, given, refused, _>>=_}
 use Rattle.answers.specs.Checks.{check, answer, _then_, Answers, AnswersInto}
 use Rattle.plant.specs.declared.Link.{Link}
 use Rattle.plant.specs.declared.Plant.{Plant}
 use Rattle.plant.specs.Links.{marked, outOfService, live}
+use Rattle.limits.specs.Limits.{maxSwitches}
 use Rattle.limits.specs.Sound.{Sound}
 use Rattle.codec.specs.Field.{Bytes}
 use Rattle.codec.specs.Part.{part, partBytes}
@@ -64,8 +65,16 @@ use Rattle.planning.specs.Planning.{planning, planningAt}
 use Rattle.planner.specs.Calls.{rewriting, rewritten, rereading, summing, bridging, tabling, counting, trailing, laidOut, roundTrailing, roundLaidOut, buying, boughtOut}
 use Rattle.probing.specs.Calls.{running, checking, roundRunning, choosing, ordering, outLabels, outgoing, probeEnd, probing, link, naming, beginning, performing}
 use Rattle.probing.specs.Searches.{sentOver, actualOutcome, Says, Searches}
+use Rattle.desk.specs.declared.Held.{Held}
+use Rattle.desk.specs.declared.Held.the-variants.{Nothing, From}
+use Rattle.desk.specs.declared.Console.{Console}
+use Rattle.desk.specs.declared.Desk.{Desk}
+use Rattle.desk.specs.Console.{has, setOutOfRange, consoleWith, idle}
+use Rattle.desk.specs.Desk.{freshDesk, consoleOf}
+use Rattle.consoles.specs.Calls.{Request, newSet, start, outcome, asking, calling, serving, served}
+use Rattle.consoles.specs.Lists.{DeskCall, answerTo, after, afterAll, callsOf, answersOf, Fed, since, fedIn}
 
--- ---- demand 1: each call answers its result, or a refusal exactly under its condition, and a refusal leaves a lent buffer as it was
+-- ---- demand 1: each call answers its result, or a refusal exactly under its condition, and a refusal leaves a lent buffer or desk as it was
 
 -- A field for each call, as in docs/CALLS.md. What a call tries, in which order, and what it gives stand in its definition.
 pub record Demand1 : Type 0 where
@@ -101,6 +110,11 @@ pub record Demand1 : Type 0 where
   pub ask : (q : Search) → Answers (ask q)
   pub give : (q : Search) (o : Outcome) → Answers (give q o)
   pub perform : (s : List ℕ) (x : ℕ) (cs : List Call) → Answers (performing s x cs)
+  -- calls that are lent a desk d, and given a listing s and the number k of a console, with a set, a switch x or an outcome o
+  pub fresh-desk : Answers (check [] freshDesk)
+  pub replace-set : (d : Desk) (s : List ℕ) (k set : ℕ) → AnswersInto (serving d k s (newSet set)) d (served d k s (newSet set))
+  pub start-search : (d : Desk) (s : List ℕ) (k x : ℕ) → AnswersInto (serving d k s (start x)) d (served d k s (start x))
+  pub give-outcome : (d : Desk) (s : List ℕ) (k : ℕ) (o : Outcome) → AnswersInto (serving d k s (outcome o)) d (served d k s (outcome o))
 
 -- ---- demand 2: the definitions are document 01's, the round trips and the trail
 
@@ -431,3 +445,58 @@ pub record StatesOf (s : List ℕ) (p : Plant) (x : ℕ) : Type 0 where
 pub record AllInService (p : Plant) : Type 0 where
   pub links : live p ≡ λ l. ltb l (p .count)
   pub number : liveLinks p ≡ p .count
+
+-- ---- document 02, order 8: four consoles, each with its own switches
+
+-- sets of switches, and a fresh desk
+pub record Sets : Type 0 where
+  -- 20: "a bit at or above S in the calling console's set"
+  pub beyond : (s set : ℕ) → (setOutOfRange s set ≡ true) ↔ ((x : ℕ) × (s ≤ x) × (has set x ≡ true))
+  -- with as many switches as a plant can have, no set of 64 bits has one
+  pub none-beyond : (set : ℕ) → set < 2 ^ maxSwitches → setOutOfRange maxSwitches set ≡ false
+  -- "a fresh desk has empty sets and no search"
+  pub fresh : (k : ℕ) → k ≤ 3 → consoleOf freshDesk k ≡ idle
+  pub empty : (x : ℕ) → has (idle .set) x ≡ false
+
+-- for a console k of the four, and a listing s that is read as a connected plant p: what a call does goes by S and E of p
+pub record ConsoleCalls (k : ℕ) (s : List ℕ) (p : Plant) : Type 0 where
+  pub asks : (r : Request) (c : Console) → answer (calling k s r c) ≡ answer (asking (p .switches) (liveLinks p) r c)
+  -- "a console replaces its set": its search stays as it is, whatever it is
+  pub keeps-search : (set : ℕ) (c a : Console) → answer (calling k s (newSet set) c) ≡ given a → a ≡ consoleWith set (c .search)
+  -- "starts a search, which replaces its own", whatever that is; "injection must be at a switch of its set"
+  pub replaces : (x set : ℕ) (h h′ : Held) → answer (calling k s (start x) (consoleWith set h)) ≡ answer (calling k s (start x) (consoleWith set h′))
+  pub in-set : (x : ℕ) (c a : Console) → answer (calling k s (start x) c) ≡ given a
+      → (x < p .switches) × (has (c .set) x ≡ true) × (a ≡ consoleWith (c .set) (From x (newSearch (liveLinks p))))
+  -- "refusal 15 if it has none", right after 20
+  pub no-search : (o : Outcome) (set : ℕ) → setOutOfRange (p .switches) set ≡ false → answer (calling k s (outcome o) (consoleWith set Nothing)) ≡ refused 15
+
+-- "a call touches only its console's set and search, and answers with both as they then stand"
+pub record Isolated : Type 0 where
+  -- what a call answers, and its console's set and search afterwards, are a function of that console's set and search and of the call
+  pub own : (q : DeskCall) → (f : Console → Answer Console × Console)
+      × ((d : Desk) → (answerTo d q ≡ f (consoleOf d (q .console)) .0) × (consoleOf (after d q) (q .console) ≡ f (consoleOf d (q .console)) .1))
+  -- "as they then stand"
+  pub stands : (d : Desk) (q : DeskCall) (c : Console) → answerTo d q ≡ given c → consoleOf (after d q) (q .console) ≡ c
+  -- the other three are equal before and after
+  pub others : (d : Desk) (q : DeskCall) (k : ℕ) → k ≤ 3 → (q .console ≡ k → ⊥) → consoleOf (after d q) k ≡ consoleOf d k
+
+-- "two desks that agree on one console's set and search give that console equal answers for equal calls, whatever the other three hold": for all lists of calls that have the
+-- same calls of console k, with any calls of the others between, on desks d and e; and they agree on it afterwards
+pub record Agreement (k : ℕ) (d e : Desk) (cs ds : List DeskCall) : Type 0 where
+  pub answers : answersOf k d cs ≡ answersOf k e ds
+  pub afterwards : consoleOf (afterAll d cs) k ≡ consoleOf (afterAll e ds) k
+
+abbrev pub Agreeing : Type 0
+Agreeing = (k : ℕ) → k ≤ 3 → (d e : Desk) (cs ds : List DeskCall) → consoleOf d k ≡ consoleOf e k → callsOf k cs ≡ callsOf k ds → Agreement k d e cs ds
+
+-- demand 3 of a console's search, for every list cs of calls on a desk d: where the calls that start and feed the search of console k are the start at switch x with the
+-- listing s, and then the outcomes os, they do what demand 3 says of them, whatever the other consoles do between
+pub record ConsoleSearch (k : ℕ) (d : Desk) (cs : List DeskCall) (s : List ℕ) (x : ℕ) (os : List Call) : Type 0 where
+  pub plant : Plant
+  pub planned : answer (planningAt s x) ≡ given plant
+  -- the console has the search from x to which the outcomes lead
+  pub stands : consoleOf (afterAll d cs) k .search ≡ From x (perform (begun (liveLinks plant)) os .state)
+  pub searches : Searches plant x os (perform (begun (liveLinks plant)) os)
+
+abbrev pub ConsoleSearches : Type 0
+ConsoleSearches = (k : ℕ) → k ≤ 3 → (d : Desk) (cs : List DeskCall) (s : List ℕ) (x : ℕ) (os : List Call) → Bytes s → fedIn k d cs ≡ since s x os → ConsoleSearch k d cs s x os

@@ -1,0 +1,67 @@
+-- The promises of document 02's order 8: sets, the calls of a console, isolation, and demand 3 of a console's search. Assumes nothing.
+use mathlib.Core.Path.{_≡_, refl, sym, _∙_, subst}
+use mathlib.Core.Bool.{Bool, false}
+use mathlib.Core.List.{List, [], _∷_}
+use Prim.Native.Nat.{ℕ, _≤_}
+use lib.Pow.{pow-pos}
+use borrow.Author.Tests.{leb-false, not-false}
+use Rattle.plant.specs.declared.Plant.{Plant}
+use Rattle.limits.specs.Limits.{maxSwitches}
+use Rattle.answers.specs.Answers.{given}
+use Rattle.answers.specs.Checks.{answer}
+use Rattle.answers.proofs.Checks.{given-exactly, result-given}
+use Rattle.codec.specs.Field.{Bytes}
+use Rattle.walks.specs.Graph.{liveLinks}
+use Rattle.search.specs.Search.{newSearch}
+use Rattle.search.specs.Calls.{Call}
+use Rattle.planning.specs.Planning.{planning}
+use Rattle.planning.proofs.Plans.{plan-ready, at-given}
+use Rattle.probing.proofs.Searching.{searches}
+use Rattle.desk.specs.declared.Held.the-variants.{From}
+use Rattle.desk.specs.declared.Desk.{Desk}
+use Rattle.desk.specs.Console.{has, setOutOfRange, switchChecks, consoleWith, replacing, starting, telling}
+use Rattle.desk.specs.Desk.{consoleOf}
+use Rattle.desk.proofs.Sets.{small-has, none-above, beyond-is}
+use Rattle.desk.proofs.Consoles.{fresh-idle}
+use Rattle.consoles.specs.Calls.{newSet, start, outcome}
+use Rattle.consoles.specs.Lists.{DeskCall, afterAll, Fed, unknown, since, fedIn}
+use Rattle.consoles.proofs.Isolation.{answerOf, nextOf, asks-so, own-by, own-after, others-after, same-answers, same-after}
+use Rattle.consoles.proofs.Fed.{FedBy, fed-keeps}
+use Rattle.demands.specs.Demands.{Sets, ConsoleCalls, Isolated, Agreeing, ConsoleSearch, ConsoleSearches}
+
+pub sets : Sets
+sets = record {
+  beyond = beyond-is;
+  none-beyond = λ set h. sym (none-above set maxSwitches h);
+  fresh = fresh-idle;
+  empty = λ x. sym (small-has 0 x (pow-pos x));
+}
+
+pub console-calls : (k : ℕ) → k ≤ 3 → (s : List ℕ) (p : Plant) → answer (planning s) ≡ given p → ConsoleCalls k s p
+unfolding replacing starting telling
+console-calls k h s p e =
+    let so = asks-so k s p h e in
+    record {
+      asks = so;
+      keeps-search = λ set c a g. sym (result-given (replacing (p .switches) set c) a (sym (so (newSet set) c) ∙ g));
+      replaces = λ x set u v. so (start x) (consoleWith set u) ∙ sym (so (start x) (consoleWith set v));
+      in-set = λ x c a g.
+          let r
+          = given-exactly ((20, setOutOfRange (p .switches) (c .set)) ∷ switchChecks (p .switches) (c .set) x) (consoleWith (c .set) (From x (newSearch (liveLinks p)))) a .0
+          (sym (so (start x) c) ∙ g) in
+          (leb-false (p .switches) x (r .0 .1 .0), not-false (has (c .set) x) (r .0 .1 .1 .0), sym (r .1));
+      no-search = λ o set f. so (outcome o) (consoleWith set _) ∙ rw f;
+    }
+
+pub isolated : Isolated
+isolated = record { own = λ q. ((λ c. (answerOf q c, nextOf q c)), λ d. (refl, own-after d q)); stands = λ d q c e. own-by d q (given c) e; others = others-after }
+
+pub agreeing : Agreeing
+agreeing k h d e cs ds i j = record { answers = same-answers k h d e cs ds i j; afterwards = same-after k h d e cs ds i j }
+
+pub console-searches : ConsoleSearches
+console-searches k h d cs s x os b e =
+    let f = subst (FedBy (consoleOf (afterAll d cs) k)) e (fed-keeps k h d cs unknown tt) in
+    let g = at-given s x (f .0) (f .1) in
+    let r = plan-ready s (f .0) b (g .0) in
+    record { plant = f .0; planned = f .1; stands = f .2; searches = searches (f .0) (r .0) (r .1) x (g .1) os }
