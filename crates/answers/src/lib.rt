@@ -76,12 +76,19 @@ pub fn first_of(v: Verdict, w: Verdict) -> Verdict
     }
 }
 
+// The verdict of one condition: this refusal if it holds.
+pub fn judge(holds: bool, k: Refusal) -> Verdict
+    ensures { λ r. ⌜ Judges ((numberOf k, holds) ∷ []) r ⌝ }
+{
+    if holds {
+        return Verdict::Refused(k);
+    }
+    Verdict::Accepted
+}
+
 // The verdict on a lent buffer with this length, where so many bytes are to be laid: this refusal if it is shorter.
 pub fn judge_room(size: usize, room: usize, k: Refusal) -> Verdict
     ensures { λ r. ⌜ Judges ((numberOf k, ltb room size) ∷ []) r ⌝ }
 {
-    if room < size {
-        return Verdict::Refused(k);
-    }
-    Verdict::Accepted
+    judge(room < size, k)
 }

@@ -49,7 +49,7 @@ module _ (d : Desk) (q : DeskCall) where
   unfolding served
   own-by (given r) e =
       ap (λ (a : Answer Console). consoleOf (deskAfter d (q .console) a) (q .console)) e
-      ∙ put-there d r (q .console) (among-four (q .console) (q .listing) (q .request) (consoleOf d (q .console)) r e)
+      ∙ put-there d r (q .console)
   own-by (refused n) e = ap (λ (a : Answer Console). consoleOf (deskAfter d (q .console) a) (q .console)) e
 
   pub own-after : consoleOf (after d q) (q .console) ≡ nextOf q (consoleOf d (q .console))

@@ -1,4 +1,5 @@
 pub mod Serving
+pub mod Sizing
 pub mod Altered
 pub mod Isolation
 pub mod Fed

@@ -24,13 +24,11 @@ enum Sized {
 fn size_of(console: u8, listing: &[u8]) -> Sized
     ensures { λ r. ⌜ sizedAnswer r ≡ answer (sizing console (now (listing .entry))) ⌝ }
 {
-    if CONSOLES <= console {
-        return Sized::Refused(Refusal::ConsoleOutOfRange);
-    }
     let mut t = planning::blank();
     let d = planning::plan(listing, &mut t);
     let v = d.verdict;
-    match v {
+    let known = answers::judge(CONSOLES <= console, Refusal::ConsoleOutOfRange);
+    match answers::first_of(known, v) {
         Verdict::Accepted => {
             let links = arcs::links_in_service(d.parts.plant);
             Sized::Of(d.parts.plant.switches, links)

@@ -27,6 +27,10 @@ setOutOfRange s set = leb (2 ^ s) set
 abbrev pub switchChecks : ℕ → ℕ → ℕ → Conditions
 switchChecks s set x = (11, leb s x) ∷ (21, not (has set x)) ∷ []
 
+-- 20 of a set, then those of a switch
+abbrev pub startChecks : ℕ → ℕ → ℕ → Conditions
+startChecks s set x = (20, setOutOfRange s set) ∷ switchChecks s set x
+
 -- ---- the calls of a console
 
 abbrev pub consoleWith : ℕ → Held → Console
@@ -42,7 +46,7 @@ replacing s set c = check ((20, setOutOfRange s set) ∷ []) (consoleWith set (c
 
 -- "starts a search, which replaces its own": 20 of its set, then 11 and 21. The search that it had is not judged
 unfoldable pub starting : ℕ → ℕ → ℕ → Console → Checked Console
-starting s e x c = check ((20, setOutOfRange s (c .set)) ∷ switchChecks s (c .set) x) (consoleWith (c .set) (From x (newSearch e)))
+starting s e x c = check (startChecks s (c .set) x) (consoleWith (c .set) (From x (newSearch e)))
 
 -- 14 and 15 of a search over e links, then its next state
 unfoldable pub givingTo : ℕ → Search → Outcome → Checked Search

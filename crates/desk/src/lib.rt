@@ -9,7 +9,8 @@ use search::Told;
 ghost use mathlib.Core.Path.{_≡_};
 ghost use Rattle.answers.specs.Checks.{Judges, answer};
 ghost use Rattle.search.specs.Search.{toldOf};
-ghost use Rattle.desk.specs.Console.{has, setOutOfRange, switchChecks, replacing, starting, givingTo, feeding, telling};
+ghost use Rattle.desk.specs.Console.{has, setOutOfRange, switchChecks, startChecks, consoleWith, replacing, starting, givingTo, feeding, telling};
+ghost use Rattle.desk.specs.declared.Held.the-variants.{From};
 ghost use Rattle.desk.specs.Desk.{consoleOf, withConsole, deskAfter, freshDesk, shownAnswer, Serves};
 
 // At most one search, with its injection switch.
@@ -71,13 +72,18 @@ fn judge_switch(set: u64, switches: u8, x: u8) -> Verdict
     ensures { λ r. ⌜ Judges (switchChecks switches set x) r ⌝ }
 {
     let inside = has(set, x);
-    if switches <= x {
-        return Verdict::Refused(Refusal::SwitchOutOfRange);
-    }
-    if !inside {
-        return Verdict::Refused(Refusal::SwitchOutsideSet);
-    }
-    Verdict::Accepted
+    let range = answers::judge(switches <= x, Refusal::SwitchOutOfRange);
+    let member = answers::judge(!inside, Refusal::SwitchOutsideSet);
+    answers::first_of(range, member)
+}
+
+// Refusals 20, 11 and 21 of a set and an injection switch.
+fn judge_start(set: u64, switches: u8, x: u8) -> Verdict
+    ensures { λ r. ⌜ Judges (startChecks switches set x) r ⌝ }
+{
+    let beyond = out_of_range(set, switches);
+    let whole = answers::judge(beyond, Refusal::SetOutOfRange);
+    answers::first_of(whole, judge_switch(set, switches, x))
 }
 
 // ---- what a call does to a console
@@ -93,18 +99,20 @@ pub fn replaced(c: Console, switches: u8, set: u64) -> Shown
     Shown::Now(Console { set, search })
 }
 
+// The console with a search from switch x in place of its own.
+fn searching(c: Console, x: u8, q: Search) -> Console
+    ensures { λ r. ⌜ r ≡ consoleWith (c .set) (From x q) ⌝ }
+{
+    let search = Held::From(x, q);
+    Console { set: c.set, search }
+}
+
 // A new search from a switch replaces its own: refusals 20, 11 and 21.
 pub fn started(c: Console, switches: u8, links: u16, x: u8) -> Shown
     ensures { λ r. ⌜ shownAnswer r ≡ answer (starting switches links x c) ⌝ }
 {
-    if out_of_range(c.set, switches) {
-        return Shown::Refused(Refusal::SetOutOfRange);
-    }
-    match judge_switch(c.set, switches, x) {
-        Verdict::Accepted => {
-            let search = Held::From(x, Search::new(links));
-            Shown::Now(Console { set: c.set, search })
-        }
+    match judge_start(c.set, switches, x) {
+        Verdict::Accepted => Shown::Now(searching(c, x, Search::new(links))),
         Verdict::Refused(k) => Shown::Refused(k),
     }
 }
@@ -119,16 +127,13 @@ fn give_to(q: Search, links: u16, o: Outcome) -> Told
     q.give(o)
 }
 
-// An outcome is given to its search from switch x: refusals 11, 21, 14 and 15.
-fn fed(set: u64, switches: u8, links: u16, x: u8, q: Search, o: Outcome) -> Shown
-    ensures { λ r. ⌜ shownAnswer r ≡ answer (feeding switches links o set x q) ⌝ }
+// An outcome is given to a search q of its own from switch x: refusals 11, 21, 14 and 15.
+fn fed(c: Console, switches: u8, links: u16, x: u8, q: Search, o: Outcome) -> Shown
+    ensures { λ r. ⌜ shownAnswer r ≡ answer (feeding switches links o (c .set) x q) ⌝ }
 {
-    match judge_switch(set, switches, x) {
+    match judge_switch(c.set, switches, x) {
         Verdict::Accepted => match give_to(q, links, o) {
-            Told::State(state) => {
-                let search = Held::From(x, state);
-                Shown::Now(Console { set, search })
-            }
+            Told::State(state) => Shown::Now(searching(c, x, state)),
             Told::Refused(k) => Shown::Refused(k),
         },
         Verdict::Refused(k) => Shown::Refused(k),
@@ -145,7 +150,7 @@ pub fn told(c: Console, switches: u8, links: u16, o: Outcome) -> Shown
     let search = c.search;
     match search {
         Held::Nothing => Shown::Refused(Refusal::SearchEnded),
-        Held::From(x, q) => fed(c.set, switches, links, x, q, o),
+        Held::From(x, q) => fed(c, switches, links, x, q, o),
     }
 }
 
@@ -195,14 +200,18 @@ fn with_console(d: Desk, k: u8, c: Console) -> Desk
     }
 }
 
-// The desk after a call of console k that answers this, and the answer: a refusal leaves the desk as it is.
+// The desk after a call of console k that came to this, and the answer: the console as it then stands. A refusal leaves the desk as it is.
 pub fn kept(d: Desk, k: u8, shown: Shown) -> Served
     ensures { λ r. ⌜ Serves d k (shownAnswer shown) r ⌝ }
 {
     match shown {
         Shown::Now(c) => {
             let desk = with_console(d, k, c);
-            Served { desk, shown }
+            let now = console_of(desk, k);
+            Served {
+                desk,
+                shown: Shown::Now(now),
+            }
         }
         Shown::Refused(_) => Served { desk: d, shown },
     }
