@@ -83,7 +83,8 @@ fn judge_start(set: u64, switches: u8, x: u8) -> Verdict
 {
     let beyond = out_of_range(set, switches);
     let whole = answers::judge(beyond, Refusal::SetOutOfRange);
-    answers::first_of(whole, judge_switch(set, switches, x))
+    let place = judge_switch(set, switches, x);
+    answers::first_of(whole, place)
 }
 
 // ---- what a call does to a console
@@ -112,7 +113,10 @@ pub fn started(c: Console, switches: u8, links: u16, x: u8) -> Shown
     ensures { λ r. ⌜ shownAnswer r ≡ answer (starting switches links x c) ⌝ }
 {
     match judge_start(c.set, switches, x) {
-        Verdict::Accepted => Shown::Now(searching(c, x, Search::new(links))),
+        Verdict::Accepted => {
+            let begun = searching(c, x, Search::new(links));
+            Shown::Now(begun)
+        }
         Verdict::Refused(k) => Shown::Refused(k),
     }
 }

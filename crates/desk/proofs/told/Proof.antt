@@ -1,5 +1,5 @@
 -- Refusal 20 of its set, then 15 where it has no search, and else what its search comes to. Assumes nothing.
-use mathlib.Core.Path.{sym, ap, _∙_}
+use mathlib.Core.Path.{refl, sym, ap, _∙_}
 use borrow.Author.Needs.{needs}
 use Rattle.answers.proofs.Checks.{holds, fails}
 use Rattle.answers.specs.Answers.{given}
@@ -15,7 +15,7 @@ returns c = holds 20 _ _ (sym (c .before .out-of-range .ensures) ∙ c .if1 .tak
 
 returns-2 : tie.Need-returns-2
 unfolding telling
-returns-2 c = let d = c .before .before in fails 20 _ _ _ (sym (d .before .out-of-range .ensures) ∙ d .if1 .left) (rw (c .enum-told .given .1))
+returns-2 c = let d = c .before .before in fails 20 _ _ _ (sym (d .before .out-of-range .ensures) ∙ d .if1 .left) (rw (c .enum-told .given .1) refl)
 
 returns-3 : tie.Need-returns-3
 unfolding telling feeding
