@@ -1,5 +1,6 @@
 //! Every call with its refusals in checking order.
 
+use crate::desk::{Begun, Console, Desk};
 use crate::listing;
 use crate::net::{BySwitch, Net, Page};
 use crate::packet::{self, Order, Run, Under};
@@ -304,6 +305,47 @@ pub fn perform(listing: &[u8], switch: u8, calls: &[u8]) -> Answer<(Search, usiz
         }
     }
     Ok((state, probes, packets))
+}
+
+/// Replaces a console's set and leaves its search as it is; the console's set
+/// and search as they then stand. Refusals 19, 1 to 9, 20 of the new set.
+pub fn new_set(listing: &[u8], desk: &mut Desk, console: u8, set: u64) -> Answer<Console> {
+    let console = desk.at(console)?;
+    let net = net(listing)?;
+    let next = Console { set, ..*console };
+    next.check_for(&net.plant)?;
+    *console = next;
+    Ok(next)
+}
+
+/// Starts a console's search at a switch, in place of the one that it may have;
+/// the console's set and search as they then stand. Refusals 19, 1 to 9, 20 of
+/// its set, 11, 21.
+pub fn start(listing: &[u8], desk: &mut Desk, console: u8, switch: u8) -> Answer<Console> {
+    let console = desk.at(console)?;
+    let net = net(listing)?;
+    console.check_for(&net.plant)?;
+    console.check_switch(named(&net, switch)?)?;
+    console.search = Some(Begun {
+        switch,
+        search: Search::new(net.links as u16),
+    });
+    Ok(*console)
+}
+
+/// Gives the outcome of a sending to a console's search; the console's set and
+/// search as they then stand. Refusals 19, 1 to 9, 20 of its set, 15 without a
+/// search, 11 and 21 of the search's switch, 14, 15.
+pub fn outcome(listing: &[u8], desk: &mut Desk, console: u8, returned: bool) -> Answer<Console> {
+    let console = desk.at(console)?;
+    let net = net(listing)?;
+    console.check_for(&net.plant)?;
+    let Begun { switch, search } = console.search.ok_or(Refusal::SearchEnded)?;
+    console.check_switch(named(&net, switch)?)?;
+    sound(&net, search)?;
+    let search = search.give(returned)?;
+    console.search = Some(Begun { switch, search });
+    Ok(*console)
 }
 
 /// Reads a listing and writes its plant's listing to the front of the buffer;

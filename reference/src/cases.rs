@@ -4,13 +4,14 @@
 //! line of text.
 
 use crate::calls::{self, Choice};
+use crate::desk::{Begun, Console, Desk};
 use crate::packet::{Fate, Run};
 use crate::plant::{Link, Plant, Refusal};
 use crate::search::Search;
 use std::io::Write;
 
 /// The calls by their number in the case format.
-pub const NAMES: [&str; 30] = [
+pub const NAMES: [&str; 33] = [
     "",
     "read",
     "write",
@@ -41,6 +42,9 @@ pub const NAMES: [&str; 30] = [
     "choice",
     "write marked",
     "reread marked",
+    "new set",
+    "start",
+    "outcome",
 ];
 
 /// The input does not follow the format at this byte.
@@ -117,6 +121,44 @@ impl std::fmt::Display for Search {
             Search::Down(place) => write!(f, "Down {place}"),
         }
     }
+}
+
+impl std::fmt::Display for Console {
+    fn fmt(&self, f: &mut std::fmt::Formatter) -> std::fmt::Result {
+        match self.search {
+            Some(Begun { switch, search }) => write!(f, "{} from {switch} {search}", self.set),
+            None => write!(f, "{} none", self.set),
+        }
+    }
+}
+
+/// The kind of a search in the case format, and its two numbers.
+fn kind_and_numbers(search: Search) -> (u8, u16, u16) {
+    match search {
+        Search::Checking(count, _) => (0, count, 0),
+        Search::Halving(low, high, _) => (1, low, high),
+        Search::AllUp => (2, 0, 0),
+        Search::Down(place) => (3, place, 0),
+    }
+}
+
+/// A desk by the checksum of 14 numbers for each console: the eight bytes of
+/// its set, low byte first; whether it has a search; the switch, the kind and
+/// the two numbers of the search, and the sendings lost so far. The last six are
+/// 0 without a search.
+fn sum_of_desk(desk: &Desk) -> Sum {
+    Sum::of(desk.console.iter().flat_map(|console| {
+        let set = console.set.to_le_bytes().map(u32::from);
+        let search = match console.search {
+            Some(Begun { switch, search }) => {
+                let (kind, a, b) = kind_and_numbers(search);
+                let numbers = [a.into(), b.into(), search.lost().into()];
+                [[1, switch.into(), kind.into()], numbers]
+            }
+            None => [[0; 3]; 2],
+        };
+        set.into_iter().chain(search.into_iter().flatten())
+    }))
 }
 
 /// What follows the tag of a link out of service in the checksum of the links.
@@ -244,7 +286,34 @@ impl<'a> Input<'a> {
         }
         Ok(plant)
     }
+
+    /// A set of switches: eight bytes, low byte first.
+    fn set(&mut self) -> Result<u64, Malformed> {
+        let mut bytes = [0; 8];
+        bytes.copy_from_slice(self.take(8)?);
+        Ok(u64::from_le_bytes(bytes))
+    }
+
+    /// A desk. The bytes of a search that is not there tell nothing.
+    fn desk(&mut self) -> Result<Desk, Malformed> {
+        let mut desk = Desk::default();
+        for console in &mut desk.console {
+            console.set = self.set()?;
+            if self.byte()? != 0 {
+                console.search = Some(Begun {
+                    switch: self.byte()?,
+                    search: self.search()?,
+                });
+            } else {
+                self.take(NO_SEARCH.len())?;
+            }
+        }
+        Ok(desk)
+    }
 }
+
+/// What stands for the switch and the search of a console that has none.
+const NO_SEARCH: [u8; 7] = [0; 7];
 
 /// Answers cases in turn, with memory that is used again.
 #[derive(Default)]
@@ -501,6 +570,17 @@ impl Answerer {
                     put(format_args!("{word} {}", Sum::of_labels(hops)))
                 })
             }
+            30..=32 => {
+                let (listing, mut desk) = (input.string()?, input.desk()?);
+                let console = input.byte()?;
+                let answer = match call {
+                    30 => calls::new_set(listing, &mut desk, console, input.set()?),
+                    31 => calls::start(listing, &mut desk, console, input.byte()?),
+                    _ => calls::outcome(listing, &mut desk, console, input.byte()? != 0),
+                };
+                *lent = Some(sum_of_desk(&desk));
+                answer.map(|console| put(format_args!("{console}")))
+            }
             _ => return Err(Malformed(called_at)),
         })
     }
@@ -541,12 +621,7 @@ impl Case {
     }
 
     pub fn search(self, search: Search) -> Case {
-        let (kind, a, b) = match search {
-            Search::Checking(count, _) => (0, count, 0),
-            Search::Halving(low, high, _) => (1, low, high),
-            Search::AllUp => (2, 0, 0),
-            Search::Down(place) => (3, place, 0),
-        };
+        let (kind, a, b) = kind_and_numbers(search);
         let numbers = self.byte(kind).word(usize::from(a)).word(usize::from(b));
         numbers.byte(search.lost())
     }
@@ -570,5 +645,21 @@ impl Case {
     /// whether they are out of service.
     pub fn marked_plant(self, plant: &Plant, given: usize, marks: &[u8]) -> Case {
         self.plant(plant, given).string(marks)
+    }
+
+    pub fn set(mut self, set: u64) -> Case {
+        self.bytes.extend(set.to_le_bytes());
+        self
+    }
+
+    /// A desk, with zeros for a search that is not there.
+    pub fn desk(self, desk: &Desk) -> Case {
+        desk.console.iter().fold(self, |case, console| {
+            let case = case.set(console.set);
+            match console.search {
+                Some(Begun { switch, search }) => case.byte(1).byte(switch).search(search),
+                None => NO_SEARCH.into_iter().fold(case.byte(0), Case::byte),
+            }
+        })
     }
 }

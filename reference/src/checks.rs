@@ -3,8 +3,9 @@
 
 use crate::calls::{self, Choice, Named};
 use crate::cases::{prefilled, Answerer, Case, Sum};
+use crate::desk::{Begun, Console, Desk};
 use crate::listing;
-use crate::make::{self, Chance};
+use crate::make::{self, Chance, Sitting, Turn};
 use crate::net::{BySwitch, Net};
 use crate::packet::{self, Fate, Order, Run};
 use crate::page::{self, Counts};
@@ -2386,6 +2387,21 @@ fn case_lines() {
     let mut marked_written = written.clone();
     marked_written[9] += 8;
     let marked = |call, given, marks: &[u8]| Case::new(call).marked_plant(&plant, given, marks);
+    // A desk whose third console has a set, and a search at switch 2 or none; and
+    // a desk by the first of the 14 numbers that tell its third console's part.
+    let third = |set, search: Option<Search>| {
+        let mut desk = Desk::default();
+        let search = search.map(|search| Begun { switch: 2, search });
+        desk.console[2] = Console { set, search };
+        desk
+    };
+    let desk_sum = |numbers: &[u32]| {
+        let mut all = [0; 56];
+        all[28..28 + numbers.len()].copy_from_slice(numbers);
+        sum(&all)
+    };
+    let checking = Some(Search::Checking(3, 0));
+    let in_checking = [5, 0, 0, 0, 0, 0, 0, 0, 1, 2, 0, 3, 0, 0];
     // A mark past all places.
     let mut past = vec![0; Plant::MAX_LINKS + 1];
     past[Plant::MAX_LINKS] = 1;
@@ -2636,6 +2652,87 @@ fn case_lines() {
         (
             marked(29, 3, &[0, 0, 0, 1]).word(14),
             format!("refused 5 {}", sum(&wide)),
+        ),
+        // On a desk whose third console has a set, and later a search too.
+        (
+            on(30).desk(&Desk::default()).byte(2).set(5),
+            format!("5 none {}", desk_sum(&[5])),
+        ),
+        (
+            on(30).desk(&third(5, None)).byte(2).set(8),
+            format!("refused 20 {}", desk_sum(&[5])),
+        ),
+        (
+            on(30).desk(&third(5, None)).byte(4).set(5),
+            format!("refused 19 {}", desk_sum(&[5])),
+        ),
+        (
+            on(31).desk(&third(5, None)).byte(2).byte(2),
+            format!("5 from 2 Checking 3 0 {}", desk_sum(&in_checking)),
+        ),
+        (
+            on(31).desk(&third(5, None)).byte(2).byte(1),
+            format!("refused 21 {}", desk_sum(&[5])),
+        ),
+        (
+            on(31).desk(&third(5, None)).byte(2).byte(3),
+            format!("refused 11 {}", desk_sum(&[5])),
+        ),
+        (
+            on(32).desk(&third(5, checking)).byte(2).byte(0),
+            format!("5 from 2 Checking 3 1 {}", {
+                let mut numbers = in_checking;
+                numbers[13] = 1;
+                desk_sum(&numbers)
+            }),
+        ),
+        (
+            on(32).desk(&third(5, checking)).byte(2).byte(128),
+            format!("5 from 2 AllUp {}", {
+                let mut numbers = in_checking;
+                numbers[10..].copy_from_slice(&[2, 0, 0, 0]);
+                desk_sum(&numbers)
+            }),
+        ),
+        (
+            on(32).desk(&third(5, checking)).byte(0).byte(1),
+            format!("refused 15 {}", desk_sum(&in_checking)),
+        ),
+        (
+            Case::new(32)
+                .string(LAST_OUT)
+                .desk(&third(5, checking))
+                .byte(2)
+                .byte(1),
+            format!("refused 14 {}", desk_sum(&in_checking)),
+        ),
+        (
+            on(30)
+                .desk(&third(1 << 63, Some(Search::Halving(258, 7, 9))))
+                .byte(2)
+                .set(0),
+            format!(
+                "0 from 2 Halving 258 7 9 {}",
+                desk_sum(&[0, 0, 0, 0, 0, 0, 0, 0, 1, 2, 1, 258, 7, 9])
+            ),
+        ),
+        (
+            on(31)
+                .desk(&third(1 << 63 | 256, Some(Search::Down(700))))
+                .byte(2)
+                .byte(2),
+            format!(
+                "refused 20 {}",
+                desk_sum(&[0, 1, 0, 0, 0, 0, 0, 128, 1, 2, 3, 700, 0, 0])
+            ),
+        ),
+        (
+            Case::new(30)
+                .string(&make::listing_of(&make::path(64).plain()))
+                .desk(&Desk::default())
+                .byte(2)
+                .set(u64::MAX),
+            format!("18446744073709551615 none {}", desk_sum(&[255; 8])),
         ),
     ];
     for (case, answer) in cases {
@@ -3133,4 +3230,542 @@ fn out_of_service_made() {
         let listing = make::faulty(&mut chance, &unplugged, refusal);
         assert_eq!(plain_read(&listing), Err(refusal), "{listing:02x?}");
     }
+}
+
+/// A console's part of the desk restated: its switches, rising, and its search,
+/// if it has one, with the switch.
+#[derive(Clone, Debug, PartialEq, Eq)]
+struct Room {
+    switches: Vec<u8>,
+    search: Option<(u8, Search)>,
+}
+
+/// The switches of a set, by its bytes from the lowest.
+fn switches_of(set: u64) -> Vec<u8> {
+    let mut switches = Vec::new();
+    for (place, byte) in (0..).zip(set.to_le_bytes()) {
+        for (bit, value) in (0..).zip([1, 2, 4, 8, 16, 32, 64, 128]) {
+            if byte & value == value {
+                switches.push(8 * place + bit);
+            }
+        }
+    }
+    switches
+}
+
+impl Room {
+    fn of(console: &Console) -> Room {
+        Room {
+            switches: switches_of(console.set),
+            search: console.search.map(|begun| (begun.switch, begun.search)),
+        }
+    }
+}
+
+/// Whether a search can be one of so many links.
+fn is_sound(search: Search, links: u16) -> bool {
+    match search {
+        Search::Checking(count, lost) => count > 0 && count == links && lost <= 2,
+        Search::Halving(low, high, lost) => 0 < low && low < high && high <= links && lost <= 2,
+        Search::AllUp => true,
+        Search::Down(place) => place > 0 && place <= links,
+    }
+}
+
+/// A call of the desk restated: each condition of a refusal in the order tried,
+/// and what the console then has.
+fn plain_sitting(sitting: &Sitting) -> Result<Room, u8> {
+    if sitting.console > 3 {
+        return Err(19);
+    }
+    let plant = plain_read(&sitting.listing)?;
+    let (left, _) = left_out(&plant);
+    if !Plain::new(&left).is_whole() {
+        return Err(9);
+    }
+    let mut room = Room::of(&sitting.desk.console[usize::from(sitting.console)]);
+    let is_outcome = matches!(sitting.turn, Turn::Outcome(_));
+    // Where the injection is, and the search that the call is about.
+    let (injection, judged) = match sitting.turn {
+        Turn::Set(set) => {
+            room.switches = switches_of(set);
+            (None, None)
+        }
+        Turn::Start(switch) => (Some(switch), None),
+        Turn::Outcome(_) => (
+            room.search.map(|(switch, _)| switch),
+            room.search.map(|(_, search)| search),
+        ),
+    };
+    let past = |switch: &u8| *switch >= plant.switches;
+    let has_ended = |search| matches!(search, Search::AllUp | Search::Down(_));
+    let refusals = [
+        (20, room.switches.iter().any(past)),
+        (15, is_outcome && room.search.is_none()),
+        (11, injection.iter().any(past)),
+        (21, injection.is_some_and(|it| !room.switches.contains(&it))),
+        (14, judged.is_some_and(|it| !is_sound(it, left.links))),
+        (15, judged.is_some_and(has_ended)),
+    ];
+    if let Some((refusal, _)) = refusals.into_iter().find(|(_, met)| *met) {
+        return Err(refusal);
+    }
+    match (sitting.turn, injection, judged) {
+        (Turn::Start(switch), _, _) => {
+            let search = match left.links {
+                0 => Search::AllUp,
+                links => Search::Checking(links, 0),
+            };
+            room.search = Some((switch, search));
+        }
+        (Turn::Outcome(byte), Some(switch), Some(search)) => {
+            let next = search.give(byte > 0).map_err(Refusal::number)?;
+            room.search = Some((switch, next));
+        }
+        _ => {}
+    }
+    Ok(room)
+}
+
+/// Makes a call of the desk, and holds its answer and the desk after it to the
+/// restatement. Returns the refusal, 0 for none.
+fn hold_sitting(sitting: &Sitting) -> u8 {
+    let wanted = plain_sitting(sitting);
+    let mut made = sitting.clone();
+    let answer = made.make();
+    let told = answer.map(|console| Room::of(&console));
+    assert_eq!(told.map_err(Refusal::number), wanted, "{sitting:?}");
+    let parts = sitting.desk.console.iter().zip(&made.desk.console);
+    for (number, (before, after)) in (0..).zip(parts) {
+        match &wanted {
+            Ok(room) if number == sitting.console => assert_eq!(Room::of(after), *room),
+            _ => assert_eq!(after, before),
+        }
+    }
+    number(answer)
+}
+
+#[test]
+fn desk_by_hand() {
+    let mut desk = Desk::default();
+    assert_eq!(
+        desk.console,
+        [Console {
+            set: 0,
+            search: None
+        }; 4]
+    );
+    let at = |switch, search| Some(Begun { switch, search });
+    let steps = [
+        (1, TRIANGLE, Turn::Outcome(1), Err(15)),
+        (1, TRIANGLE, Turn::Start(0), Err(21)),
+        (1, TRIANGLE, Turn::Set(0b110), Ok((0b110, None))),
+        (
+            1,
+            TRIANGLE,
+            Turn::Start(2),
+            Ok((0b110, at(2, Search::Checking(3, 0)))),
+        ),
+        (
+            1,
+            TRIANGLE,
+            Turn::Outcome(0),
+            Ok((0b110, at(2, Search::Checking(3, 1)))),
+        ),
+        // Another number of links in service, and fewer switches.
+        (1, LAST_OUT, Turn::Outcome(0), Err(14)),
+        (1, ONE_LINK, Turn::Outcome(0), Err(20)),
+        (1, ONE_LINK, Turn::Start(1), Err(20)),
+        (
+            1,
+            ONE_LINK,
+            Turn::Set(0b010),
+            Ok((0b010, at(2, Search::Checking(3, 1)))),
+        ),
+        (1, ONE_LINK, Turn::Outcome(0), Err(11)),
+        (1, TRIANGLE, Turn::Outcome(0), Err(21)),
+        // Another console, and none.
+        (0, TRIANGLE, Turn::Outcome(0), Err(15)),
+        (4, TRIANGLE, Turn::Outcome(0), Err(19)),
+        (4, &[], Turn::Set(8), Err(19)),
+        // The switch again: the search has stayed as it was.
+        (
+            1,
+            TRIANGLE,
+            Turn::Set(0b100),
+            Ok((0b100, at(2, Search::Checking(3, 1)))),
+        ),
+        (
+            1,
+            TRIANGLE,
+            Turn::Outcome(0),
+            Ok((0b100, at(2, Search::Checking(3, 2)))),
+        ),
+        (
+            1,
+            TRIANGLE,
+            Turn::Outcome(0),
+            Ok((0b100, at(2, Search::Halving(1, 3, 0)))),
+        ),
+        (
+            1,
+            TRIANGLE,
+            Turn::Outcome(255),
+            Ok((0b100, at(2, Search::Down(3)))),
+        ),
+        (1, TRIANGLE, Turn::Outcome(1), Err(15)),
+        // A place that two links do not have.
+        (1, LAST_OUT, Turn::Outcome(1), Err(14)),
+        (
+            1,
+            LAST_OUT,
+            Turn::Start(2),
+            Ok((0b100, at(2, Search::Checking(2, 0)))),
+        ),
+        (
+            1,
+            TRIANGLE,
+            Turn::Set(0),
+            Ok((0, at(2, Search::Checking(2, 0)))),
+        ),
+        (
+            1,
+            &[0],
+            Turn::Set(1),
+            Ok((1, at(2, Search::Checking(2, 0)))),
+        ),
+        (1, &[0], Turn::Start(0), Ok((1, at(0, Search::AllUp)))),
+        (1, &[0], Turn::Outcome(0), Err(15)),
+    ];
+    for (step, (console, listing, turn, wanted)) in steps.into_iter().enumerate() {
+        let mut sitting = Sitting {
+            listing: listing.to_vec(),
+            desk,
+            console,
+            turn,
+        };
+        let answer = sitting.make().map_err(Refusal::number);
+        let wanted = wanted.map(|(set, search)| Console { set, search });
+        assert_eq!(answer, wanted, "{step}");
+        if let Ok(part) = wanted {
+            desk.console[usize::from(console)] = part;
+        }
+        assert_eq!(sitting.desk, desk, "{step}");
+    }
+}
+
+/// Calls drawn by chance: each refusal is met many times in each call that tries
+/// it, and each call is taken.
+#[test]
+fn desk_calls() {
+    let mut chance = Chance::new(25);
+    let mut seen = [[0; 22]; 3];
+    for _ in 0..16_000 {
+        let sitting = make::some_sitting(&mut chance, 6, 9);
+        let refusal = hold_sitting(&sitting);
+        let call = match sitting.turn {
+            Turn::Set(_) => 0,
+            Turn::Start(_) => 1,
+            Turn::Outcome(_) => 2,
+        };
+        seen[call][usize::from(refusal)] += 1;
+    }
+    let tried: [&[usize]; 3] = [
+        &[0, 1, 2, 3, 4, 5, 6, 7, 8, 9, 19, 20],
+        &[0, 1, 2, 3, 4, 5, 6, 7, 8, 9, 11, 19, 20, 21],
+        &[0, 1, 2, 3, 4, 5, 6, 7, 8, 9, 11, 14, 15, 19, 20, 21],
+    ];
+    for (seen, tried) in seen.iter().zip(tried) {
+        for (refusal, count) in seen.iter().enumerate() {
+            let least = if tried.contains(&refusal) { 10 } else { 0 };
+            assert!(*count >= least, "{seen:?}");
+            assert!(least > 0 || *count == 0, "{seen:?}");
+        }
+    }
+}
+
+/// Small plants, every set of three switches and some above, switches in range
+/// and not, searches of few links, sound or not, and each console in turn.
+#[test]
+fn every_small_desk() {
+    let listings = [&[0][..], ONE_LINK, TRIANGLE, LAST_OUT, &[1, 2]];
+    let sets = [0, 1, 2, 3, 4, 5, 6, 7, 8, 12, 1 << 63, u64::MAX];
+    let switches = [0, 1, 2, 3, 63, 64, 255];
+    let mut searches = vec![Search::AllUp];
+    for one in 0..=4 {
+        searches.push(Search::Down(one));
+        searches.extend([0, 2, 3].map(|lost| Search::Checking(one, lost)));
+        for two in 0..=4 {
+            let lost = ((one + two) % 4) as u8;
+            searches.push(Search::Halving(one, two, lost));
+        }
+    }
+    let other = Console {
+        set: 5,
+        search: Some(Begun {
+            switch: 2,
+            search: Search::Checking(3, 0),
+        }),
+    };
+    let mut turn = 0;
+    let mut hold = |listing: &[u8], own: Console, call: Turn| {
+        turn += 1;
+        let mut desk = Desk {
+            console: [other; 4],
+        };
+        desk.console[turn % 4] = own;
+        let mut sitting = Sitting {
+            listing: listing.to_vec(),
+            desk,
+            console: (turn % 4) as u8,
+            turn: call,
+        };
+        hold_sitting(&sitting);
+        if turn % 16 < 4 {
+            sitting.console += 4;
+            assert_eq!(hold_sitting(&sitting), 19);
+        }
+    };
+    for listing in listings {
+        for set in sets {
+            for switch in switches {
+                let at = |search| Some(Begun { switch, search });
+                for search in [None, at(Search::AllUp), at(Search::Checking(0, 255))] {
+                    let own = Console { set, search };
+                    hold(listing, own, Turn::Start(switch));
+                    let set = sets[usize::from(switch % 12)];
+                    hold(listing, own, Turn::Set(set));
+                }
+                for search in &searches {
+                    let search = at(*search);
+                    hold(listing, Console { set, search }, Turn::Outcome(0));
+                    hold(listing, Console { set, search }, Turn::Outcome(1));
+                }
+            }
+            hold(listing, Console { set, search: None }, Turn::Outcome(1));
+        }
+    }
+}
+
+/// Every number of switches and every bit of a set: the new one and the stored
+/// one.
+#[test]
+fn sets_in_range() {
+    for switches in 1..=64 {
+        let listing = make::listing_of(&make::star(switches).plain());
+        let links = switches as u16 - 1;
+        for bit in 0..64 {
+            let refusal = if bit < switches { 0 } else { 20 };
+            let own = Console {
+                set: 1 | 1 << bit,
+                search: Some(Begun {
+                    switch: 0,
+                    search: Search::new(links),
+                }),
+            };
+            let made = |own: Console, call: Turn| {
+                let mut desk = Desk::default();
+                desk.console[bit % 4] = own;
+                let mut sitting = Sitting {
+                    listing: listing.clone(),
+                    desk,
+                    console: (bit % 4) as u8,
+                    turn: call,
+                };
+                number(sitting.make())
+            };
+            assert_eq!(made(Console::default(), Turn::Set(1 << bit)), refusal);
+            assert_eq!(made(own, Turn::Start(0)), refusal);
+            let ended = if links == 0 { 15 } else { 0 };
+            assert_eq!(made(own, Turn::Outcome(1)), refusal.max(ended));
+            // At the switch itself, and with no other bit.
+            let alone = Console {
+                set: 1 << bit,
+                search: None,
+            };
+            assert_eq!(made(alone, Turn::Start(bit as u8)), refusal);
+        }
+        // All switches, and all bits.
+        let all = make::all_switches(switches as u8);
+        assert_eq!(switches_of(all).len(), switches);
+        for (set, refusal) in [(all, 0), (u64::MAX, if switches < 64 { 20 } else { 0 })] {
+            let mut desk = Desk::default();
+            assert_eq!(number(calls::new_set(&listing, &mut desk, 3, set)), refusal);
+            for (switch, wanted) in [(switches - 1, 0), (switches, 11), (255, 11)] {
+                desk.console[3].set = set;
+                let start = calls::start(&listing, &mut desk, 3, switch as u8);
+                assert_eq!(number(start), refusal.max(wanted * u8::from(refusal == 0)));
+            }
+        }
+    }
+}
+
+/// Two desks that agree on one console give it equal answers, and leave it the
+/// same, whatever the others hold.
+#[test]
+fn desks_that_agree_on_one_console() {
+    let mut chance = Chance::new(26);
+    for _ in 0..3_000 {
+        let mut one = make::some_sitting(&mut chance, 5, 8);
+        let mut two = one.clone();
+        two.desk = make::any_desk(&mut chance);
+        let own = usize::from(one.console);
+        if own < 4 {
+            two.desk.console[own] = one.desk.console[own];
+        }
+        let before = [one.desk, two.desk];
+        let answer = one.make();
+        assert_eq!(answer, two.make());
+        for (before, after) in before.iter().zip([one.desk, two.desk]) {
+            for number in 0..4 {
+                match answer {
+                    Ok(part) if number == own => assert_eq!(after.console[number], part),
+                    _ => assert_eq!(after.console[number], before.console[number]),
+                }
+            }
+        }
+    }
+}
+
+/// Calls of all four consoles in turn by chance on one desk: the answers that
+/// each has are those of its own calls alone on a desk where the others have
+/// nothing.
+#[test]
+fn consoles_apart() {
+    let mut chance = Chance::new(27);
+    for _ in 0..60 {
+        let first = make::any_desk(&mut chance);
+        let plants = [3, 5].map(|switches| {
+            let sketch = make::exact(&mut chance, switches, 6);
+            let plant = sketch.mixed(&mut chance);
+            make::listing_of(&make::with_unplugged(&mut chance, &plant, 1))
+        });
+        let mut desk = first;
+        let mut answers: [Vec<_>; 4] = Default::default();
+        for _ in 0..60 {
+            let console = chance.below(4);
+            let listing = chance.of(&[0, 0, 0, 1]);
+            let switch = chance.below(4) as u8;
+            let turn = match chance.below(8) {
+                0 => Turn::Set(chance.below(32) as u64),
+                1 | 2 => Turn::Start(switch),
+                _ => Turn::Outcome(chance.of(&[0, 0, 1])),
+            };
+            let mut sitting = Sitting {
+                listing: plants[listing].clone(),
+                desk,
+                console: console as u8,
+                turn,
+            };
+            let answer = sitting.make();
+            desk = sitting.desk;
+            answers[console].push((listing, turn, answer));
+        }
+        for (console, answers) in answers.into_iter().enumerate() {
+            let mut alone = Desk::default();
+            alone.console[console] = first.console[console];
+            for (listing, turn, answer) in answers {
+                let mut sitting = Sitting {
+                    listing: plants[listing].clone(),
+                    desk: alone,
+                    console: console as u8,
+                    turn,
+                };
+                assert_eq!(sitting.make(), answer);
+                alone = sitting.desk;
+            }
+            assert_eq!(alone.console[console], desk.console[console]);
+        }
+    }
+}
+
+/// Searches of all four consoles at once: each is the one that the same list of
+/// outcomes leads to without a desk.
+#[test]
+fn searches_of_a_desk() {
+    let mut chance = Chance::new(28);
+    let mut ended = 0;
+    let mut plants = plants_partly_out(28, 100, 2);
+    plants.push(make::bundle(Plant::MAX_LINKS).plain());
+    for plant in plants {
+        let listing = make::listing_of(&plant);
+        let all = make::all_switches(plant.switches);
+        let mut desk = make::any_desk(&mut chance);
+        let mut lists: [Vec<u8>; 4] = Default::default();
+        let switches = [0; 4].map(|_| chance.below(usize::from(plant.switches)) as u8);
+        for console in 0..4 {
+            let switch = switches[usize::from(console)];
+            calls::new_set(&listing, &mut desk, console, all).unwrap();
+            let started = calls::start(&listing, &mut desk, console, switch).unwrap();
+            let search = calls::new_search(&listing, switch).unwrap();
+            assert_eq!(started.search, Some(Begun { switch, search }));
+        }
+        for _ in 0..60 {
+            let console = chance.below(4);
+            let (list, switch) = (&mut lists[console], switches[console]);
+            let before = desk.console[console].search.unwrap().search;
+            let returned = chance.percent(30);
+            let answer = calls::outcome(&listing, &mut desk, console as u8, returned);
+            let given = before.give(returned);
+            let search = answer.map(|part| part.search.unwrap().search);
+            assert_eq!(search, given);
+            list.push(if returned { 1 } else { 2 });
+            let (search, ..) = calls::perform(&listing, switch, list).unwrap();
+            let part = Console {
+                set: all,
+                search: Some(Begun { switch, search }),
+            };
+            assert_eq!(desk.console[console], part);
+            ended += usize::from(given.is_err());
+        }
+    }
+    assert!(ended > 100, "{ended}");
+}
+
+/// A desk takes 64 bytes. Any byte but 0 tells of a search, and the bytes of one
+/// that is not there tell nothing.
+#[test]
+fn desk_bytes() {
+    let mut desk = Desk::default();
+    desk.console[1] = Console {
+        set: 0x8007_0605_0403_0201,
+        search: Some(Begun {
+            switch: 200,
+            search: Search::Halving(3, 258, 9),
+        }),
+    };
+    desk.console[3].set = 7;
+    let part = [1, 2, 3, 4, 5, 6, 7, 128, 1, 200, 1, 3, 0, 2, 1, 9];
+    let last = [7, 0, 0, 0, 0, 0, 0, 0, 0, 0, 0, 0, 0, 0, 0, 0];
+    let bytes = [[0; 16], part, [0; 16], last].concat();
+    assert_eq!(Case::new(9).desk(&desk).bytes, [&[9], &bytes[..]].concat());
+    let answered = |bytes: &[u8]| {
+        let case = [&[31, 1, 0, 0], bytes, &[3, 0]].concat();
+        let mut output = Vec::new();
+        let answer = Answerer::default().answer(&case, 0, &mut output);
+        answer.map(|((_, refusal), end)| {
+            assert_eq!(end, case.len());
+            (refusal, output)
+        })
+    };
+    // Beyond the one switch of the listing.
+    let plain = answered(&bytes).unwrap();
+    assert_eq!(plain.0, Some(Refusal::SetOutOfRange));
+    for has in [2, 127, 128, 255] {
+        let mut bytes = bytes.clone();
+        bytes[16 + 8] = has;
+        assert_eq!(answered(&bytes), Ok(plain.clone()));
+    }
+    for idle in [9..16, 41..48, 57..64] {
+        let mut bytes = bytes.clone();
+        bytes[idle].fill(255);
+        assert_eq!(answered(&bytes), Ok(plain.clone()));
+    }
+    // A kind that no search has, and a number that All up has not.
+    for (place, byte) in [(26, 4), (26, 2), (26, 0)] {
+        let mut bytes = bytes.clone();
+        bytes[place] = byte;
+        assert!(answered(&bytes).is_err());
+    }
+    assert!(answered(&bytes[1..]).is_err());
 }

@@ -5,8 +5,9 @@
 
 use reference::calls;
 use reference::cases::{Answerer, Case, NAMES};
+use reference::desk::{Begun, Console, Desk};
 use reference::listing;
-use reference::make::{self, Chance, Draft, Sketch};
+use reference::make::{self, Chance, Draft, Sitting, Sketch, Turn};
 use reference::net::Net;
 use reference::packet::{self, Fate, Order};
 use reference::page::{self, Counts};
@@ -22,12 +23,13 @@ use std::process::ExitCode;
 
 const SEED: u64 = 1;
 /// The first cases are of every call but the long run, the rules by switch, the
-/// pages, those of the round trail and those given marks, those after them of
-/// packet runs alone, the next of rules by switch alone, of pages written alone,
-/// of pages read alone, of searches alone, of the allowance alone, of round
-/// trails alone, of round runs alone, of choices alone, of listings with links
-/// out of service, of plants written with marks and of plants reread with marks,
-/// and any more are of the kinds before the allowance.
+/// pages, those of the round trail, those given marks and those of the desk,
+/// those after them of packet runs alone, the next of rules by switch alone, of
+/// pages written alone, of pages read alone, of searches alone, of the allowance
+/// alone, of round trails alone, of round runs alone, of choices alone, of
+/// listings with links out of service, of plants written with marks, of plants
+/// reread with marks and of the desk alone, and any more are of the kinds before
+/// the allowance.
 const FIRST: usize = 18_000;
 const RUNS: usize = 1_000;
 const BY_SWITCH: usize = 1_000;
@@ -41,14 +43,17 @@ const CHOICES: usize = 500;
 const MARKED: usize = 1_100;
 const WRITTEN_MARKED: usize = 250;
 const REREAD: usize = 150;
+const DESKS: usize = 1_500;
 /// The cases before those of the allowance.
 const KINDS: usize = FIRST + RUNS + BY_SWITCH + WRITTEN + READ + SEARCHES;
 /// The cases before those with links out of service.
 const IN_SERVICE: usize = KINDS + ALLOWANCES + ROUND_TRAILS + ROUND_RUNS + CHOICES;
-const COUNT: usize = IN_SERVICE + MARKED + WRITTEN_MARKED + REREAD;
+/// The cases before those of the desk.
+const NO_DESK: usize = IN_SERVICE + MARKED + WRITTEN_MARKED + REREAD;
+const COUNT: usize = NO_DESK + DESKS;
 
 /// The highest number of a refusal.
-const REFUSALS: usize = 18;
+const REFUSALS: usize = 21;
 
 const SWITCHES: usize = Plant::MAX_SWITCHES;
 const LINKS: usize = Plant::MAX_LINKS;
@@ -3513,7 +3518,7 @@ fn drawn_choice(chance: &mut Chance) -> Case {
 /// The number of the call that reads a listing.
 const LISTING_READ: u8 = 1;
 
-/// The calls that take a listing, but the long run.
+/// The calls that take a listing, but the long run and those of the desk.
 const LISTED: [u8; 19] = [
     LISTING_READ,
     3,
@@ -4712,14 +4717,747 @@ fn drawn_writing(chance: &mut Chance, call: u8) -> Case {
     writing.in_places(places).case(call)
 }
 
+/// The numbers of the calls of the desk.
+const NEW_SET: u8 = 30;
+const START: u8 = 31;
+const OUTCOME: u8 = 32;
+const OF_DESK: [u8; 3] = [NEW_SET, START, OUTCOME];
+
+const CONSOLES: u8 = Desk::CONSOLES as u8;
+/// Some consoles that a desk does not have.
+const NO_CONSOLES: [u8; 5] = [4, 5, 127, 128, 255];
+
+/// How many bytes tell a console's part of a desk, and the one of them that
+/// tells whether there is a search.
+const PART: usize = 16;
+const HAS_SEARCH: usize = 8;
+
+/// The case of a call of the desk. Any byte but 0 tells of a search, and now and
+/// then any bytes stand for one that is not there.
+fn sat(chance: &mut Chance, sitting: &Sitting) -> Case {
+    let call = match sitting.turn {
+        Turn::Set(_) => NEW_SET,
+        Turn::Start(_) => START,
+        Turn::Outcome(_) => OUTCOME,
+    };
+    let Sitting { listing, desk, .. } = sitting;
+    let mut case = Case::new(call).string(listing).desk(desk);
+    let begin = case.bytes.len() - PART * Desk::CONSOLES;
+    let parts = case.bytes[begin..].chunks_mut(PART);
+    for (console, part) in desk.console.iter().zip(parts) {
+        if console.search.is_some() {
+            part[HAS_SEARCH] = some_up(chance);
+        } else if chance.percent(20) {
+            part[HAS_SEARCH + 1..].fill_with(|| chance.byte());
+        }
+    }
+    let case = case.byte(sitting.console);
+    match sitting.turn {
+        Turn::Set(set) => case.set(set),
+        Turn::Start(switch) => case.byte(switch),
+        Turn::Outcome(outcome) => case.byte(outcome),
+    }
+}
+
+fn some_console(chance: &mut Chance) -> u8 {
+    chance.below(Desk::CONSOLES) as u8
+}
+
+/// A byte for an outcome: lost more often than returned.
+fn some_outcome(chance: &mut Chance) -> u8 {
+    let returned = some_return(chance);
+    chance.of(&[0, 0, returned])
+}
+
+/// The set of one switch, which is empty for one that no set can have.
+fn alone(switch: u8) -> u64 {
+    u64::checked_shl(1, switch.into()).unwrap_or(0)
+}
+
+/// A switch of a set that is not empty.
+fn one_of(chance: &mut Chance, set: u64) -> u8 {
+    let inside: Vec<u8> = (0..64).filter(|switch| set & alone(*switch) != 0).collect();
+    chance.of(&inside)
+}
+
+/// How many links of a plant are in service.
+fn service(plant: &Plant) -> usize {
+    plant.in_service().count()
+}
+
+/// A small plant with links, of which some may be out of service.
+fn small_plant(chance: &mut Chance) -> Plant {
+    let switches = chance.within(2, 6);
+    let links = chance.within(switches - 1, 8);
+    let plant = make::exact(chance, switches, links).mixed(chance);
+    let more = chance.of(&[0, 0, 1, 2]);
+    make::with_unplugged(chance, &plant, more)
+}
+
+/// A console's part of a desk with which each of its calls is taken: its set has
+/// the switch, and its search, of a plant with links, is at the switch and has
+/// not ended.
+fn going(chance: &mut Chance, plant: &Plant, switch: u8) -> Console {
+    let all = make::all_switches(plant.switches);
+    let some = chance.draw() & all | alone(switch);
+    let search = right(chance, service(plant), 0);
+    Console {
+        set: chance.of(&[alone(switch), some, some, all]),
+        search: Some(Begun {
+            switch,
+            search: search.having_lost(chance.of(&FEW)),
+        }),
+    }
+}
+
+/// A call of a console that has this part of the desk. The others have any; all
+/// have this one where the desk has no such console.
+fn seated(chance: &mut Chance, listing: &[u8], console: u8, own: Console, turn: Turn) -> Sitting {
+    let mut desk = make::any_desk(chance);
+    match desk.console.get_mut(usize::from(console)) {
+        Some(part) => *part = own,
+        None => desk.console = [own; Desk::CONSOLES],
+    }
+    Sitting {
+        listing: listing.to_vec(),
+        desk,
+        console,
+        turn,
+    }
+}
+
+/// A case of such a call, of any console.
+fn called(chance: &mut Chance, listing: &[u8], own: Console, turn: Turn) -> Case {
+    let console = some_console(chance);
+    let sitting = seated(chance, listing, console, own, turn);
+    sat(chance, &sitting)
+}
+
+/// What can be wrong with a call of the desk, each met by a refusal.
+#[derive(Clone, Copy, PartialEq, Eq)]
+enum Fault {
+    /// 19.
+    Console,
+    /// 1 to 9: this one.
+    Listing(u8),
+    /// 20.
+    Set,
+    /// 15.
+    NoSearch,
+    /// 11.
+    Switch,
+    /// 21.
+    Outside,
+    /// 14.
+    Unsound,
+    /// 15.
+    Ended,
+}
+
+/// What can be wrong with a call, besides the listing.
+fn faults(call: u8) -> Vec<Fault> {
+    use Fault::*;
+    match call {
+        NEW_SET => vec![Console, Set],
+        START => vec![Console, Set, Switch, Outside],
+        _ => vec![Console, Set, NoSearch, Switch, Outside, Unsound, Ended],
+    }
+}
+
+/// The plant with a switch more, to which no link leads.
+fn with_switch(plant: &Plant) -> Plant {
+    let mut apart = plant.clone();
+    apart.switches += 1;
+    apart
+}
+
+/// A listing of the plant, damaged so that it meets a refusal, 1 to 8.
+fn bad_listing(chance: &mut Chance, plant: &Plant, refusal: u8) -> Vec<u8> {
+    loop {
+        let listing = make::damaged(chance, plant);
+        if calls::net(&listing).is_err_and(|met| met.number() == refusal) {
+            return listing;
+        }
+    }
+}
+
+/// A search of a plant with so many links, wrong or ended as asked.
+fn faulty_search(chance: &mut Chance, links: u16, unsound: bool, ended: bool) -> Search {
+    let past = links + 1;
+    match (unsound, ended) {
+        (false, false) => {
+            let lost = chance.of(&FEW);
+            right(chance, usize::from(links), 0).having_lost(lost)
+        }
+        (false, true) => chance.of(&[Search::AllUp, Search::Down(1), Search::Down(links)]),
+        (true, false) => chance.of(&[
+            Search::Checking(0, 0),
+            Search::Checking(links - 1, 1),
+            Search::Checking(past, 0),
+            Search::Checking(links, 3),
+            Search::Halving(links, links, 0),
+            Search::Halving(1, past, 2),
+            Search::Halving(0, links, 255),
+        ]),
+        (true, true) => chance.of(&[0, past, links + 256, 0xffff].map(Search::Down)),
+    }
+}
+
+/// A call with these faults and no other, of a plant with links and few
+/// switches; but a switch out of range is also outside every set in range.
+fn faulty(chance: &mut Chance, plant: &Plant, call: u8, faults: &[Fault]) -> Sitting {
+    let has = |fault: Fault| faults.contains(&fault);
+    let apart = with_switch(plant);
+    let plant = if has(Fault::Listing(9)) {
+        &apart
+    } else {
+        plant
+    };
+    let count = plant.switches;
+    let all = make::all_switches(count);
+    let mut switch = chance.below(usize::from(count)) as u8;
+    if has(Fault::Switch) {
+        switch = chance.of(&[count, count + 1, 63, 64, 255]);
+        if has(Fault::Set) && !has(Fault::Outside) {
+            switch = switch.min(63);
+        }
+    }
+    let mut set = chance.draw() & all & !alone(switch);
+    if has(Fault::Set) {
+        let above = !all & !alone(switch);
+        let any = chance.draw() & above;
+        set |= alone(one_of(chance, above)) | chance.of(&[0, any]);
+    }
+    if !has(Fault::Outside) && (switch < count || has(Fault::Set)) {
+        set |= alone(switch);
+    }
+    let (unsound, ended) = (has(Fault::Unsound), has(Fault::Ended));
+    let begun = Begun {
+        switch,
+        search: faulty_search(chance, service(plant) as u16, unsound, ended),
+    };
+    let mut own = Console {
+        set,
+        search: (!has(Fault::NoSearch)).then_some(begun),
+    };
+    let turn = match call {
+        NEW_SET => Turn::Set(set),
+        START => Turn::Start(switch),
+        _ => Turn::Outcome(some_outcome(chance)),
+    };
+    // What the call does not look at.
+    let any = make::any_console(chance);
+    if call == NEW_SET {
+        own.set = any.set;
+    }
+    if call != OUTCOME {
+        own.search = any.search;
+    }
+    let mut console = some_console(chance);
+    if has(Fault::Console) {
+        let any = chance.within(Desk::CONSOLES, 255) as u8;
+        console = chance.of(&[4, 5, 128, 255, any]);
+    }
+    let listing = faults.iter().find_map(|fault| match fault {
+        Fault::Listing(refusal @ 1..=8) => Some(bad_listing(chance, plant, *refusal)),
+        _ => None,
+    });
+    let listing = listing.unwrap_or_else(|| make::listing_of(plant));
+    seated(chance, &listing, console, own, turn)
+}
+
+/// The cases of the desk that do not wait for chance.
+fn fixed_desks(chance: &mut Chance, out: &mut Out) -> io::Result<()> {
+    fixed_consoles(chance, out)?;
+    fixed_sets(chance, out)?;
+    fixed_all_switches(chance, out)?;
+    fixed_injections(chance, out)?;
+    fixed_outcomes(chance, out)?;
+    fixed_desk_refused(chance, out)?;
+    for console in 0..CONSOLES {
+        fixed_scene(chance, out, console)?;
+    }
+    fixed_chains(chance, out)
+}
+
+/// Every console, and some that a desk does not have: on a fresh desk, and on
+/// one on which the call is right.
+fn fixed_consoles(chance: &mut Chance, out: &mut Out) -> io::Result<()> {
+    for call in OF_DESK {
+        for console in (0..CONSOLES).chain(NO_CONSOLES) {
+            let plant = small_plant(chance);
+            let Sitting {
+                listing,
+                desk,
+                console: other,
+                turn,
+            } = faulty(chance, &plant, call, &[]);
+            let own = desk.console[usize::from(other)];
+            let mut sitting = seated(chance, &listing, console, own, turn);
+            out.put(sat(chance, &sitting))?;
+            sitting.desk = Desk::default();
+            out.put(sat(chance, &sitting))?;
+        }
+    }
+    Ok(())
+}
+
+/// Every number of switches: sets up to the last switch, and sets with the bit
+/// after it or with some above, new ones and such as date from a larger plant.
+fn fixed_sets(chance: &mut Chance, out: &mut Out) -> io::Result<()> {
+    for switches in 1..=SWITCHES {
+        let plant = make::tree(chance, switches).mixed(chance);
+        let listing = make::listing_of(&plant);
+        let last = plant.switches - 1;
+        let all = make::all_switches(plant.switches);
+        let some = chance.draw() & all;
+        let within = [alone(last), alone(last) | some, all][switches % 3];
+        let own = |chance: &mut Chance, set: u64| Console {
+            set,
+            ..make::any_console(chance)
+        };
+        let any = chance.draw();
+        let before = own(chance, any);
+        out.put(called(chance, &listing, before, Turn::Set(within)))?;
+        let before = own(chance, within);
+        out.put(called(chance, &listing, before, Turn::Start(last)))?;
+        if switches == SWITCHES {
+            break;
+        }
+        let after = alone(last + 1);
+        let above = [after, !all, after | any & !all, after][switches % 4];
+        let before = own(chance, within);
+        out.put(called(chance, &listing, before, Turn::Set(above | some)))?;
+        // The stored set, with a start and with an outcome in turn.
+        let mut before = own(chance, above | within);
+        let turn = if switches % 2 == 0 {
+            Turn::Start(last)
+        } else {
+            before.search = Some(Begun {
+                switch: last,
+                search: Search::new(plant.links),
+            });
+            Turn::Outcome(some_outcome(chance))
+        };
+        out.put(called(chance, &listing, before, turn))?;
+    }
+    Ok(())
+}
+
+/// As many switches as there can be, where no bit is out of range, and one
+/// fewer; and a single switch, which has no link.
+fn fixed_all_switches(chance: &mut Chance, out: &mut Out) -> io::Result<()> {
+    let last = SWITCHES as u8 - 1;
+    let top = alone(last);
+    let tree = make::tree(chance, SWITCHES).mixed(chance);
+    let most = make::exact(chance, SWITCHES, LINKS).mixed(chance);
+    let marks = make::marking(chance, &most, 9);
+    let marked = make::marked(most.clone(), &marks);
+    let fewer = make::tree(chance, SWITCHES - 1).mixed(chance);
+    for (plant, step) in [(&tree, 1), (&most, 3), (&marked, 3), (&fewer, 2)] {
+        let listing = make::listing_of(plant);
+        let mut turns = Vec::new();
+        for set in [u64::MAX, top, top >> 1, 0] {
+            turns.push((set, last, Turn::Set(set)));
+            for switch in [last, last - 1, last + 1] {
+                turns.push((set, last, Turn::Start(switch)));
+                let outcome = some_outcome(chance);
+                turns.push((set, switch, Turn::Outcome(outcome)));
+            }
+        }
+        let skip = chance.below(step);
+        for (set, switch, turn) in turns.into_iter().skip(skip).step_by(step) {
+            let mut own = going(chance, plant, 0);
+            own.set = set;
+            if let Some(begun) = &mut own.search {
+                begun.switch = switch;
+            }
+            out.put(called(chance, &listing, own, turn))?;
+        }
+    }
+    let one = make::listing_of(&make::path(1).plain());
+    for (set, search, turn) in [
+        (0, None, Turn::Set(1)),
+        (1, None, Turn::Set(2)),
+        (1, None, Turn::Set(3)),
+        (1, None, Turn::Start(0)),
+        (1, Some(Search::Checking(1, 0)), Turn::Start(0)),
+        (1, None, Turn::Start(1)),
+        (0, None, Turn::Start(0)),
+        (2, None, Turn::Start(0)),
+        (3, None, Turn::Start(1)),
+        (1, None, Turn::Outcome(1)),
+        (1, Some(Search::AllUp), Turn::Outcome(0)),
+        (1, Some(Search::AllUp), Turn::Outcome(1)),
+        (1, Some(Search::Checking(0, 0)), Turn::Outcome(0)),
+        (1, Some(Search::Checking(1, 0)), Turn::Outcome(1)),
+        (1, Some(Search::Down(1)), Turn::Outcome(1)),
+        (0, Some(Search::AllUp), Turn::Outcome(1)),
+        (3, Some(Search::AllUp), Turn::Outcome(0)),
+    ] {
+        let search = search.map(|search| Begun { switch: 0, search });
+        out.put(called(chance, &one, Console { set, search }, turn))?;
+    }
+    Ok(())
+}
+
+/// Starts and searches at switches below S, at S and above, with sets that have
+/// none, all, the switch alone, and all but the switch.
+fn fixed_injections(chance: &mut Chance, out: &mut Out) -> io::Result<()> {
+    let plant = make::exact(chance, 5, 6).mixed(chance);
+    let listing = make::listing_of(&plant);
+    let all = make::all_switches(5);
+    for switch in [0, 2, 4, 5, 6, 63, 64, 255] {
+        for set in [0, all, alone(switch), all & !alone(switch)] {
+            let mut own = going(chance, &plant, 0);
+            own.set = set;
+            out.put(called(chance, &listing, own, Turn::Start(switch)))?;
+            if let Some(begun) = &mut own.search {
+                begun.switch = switch;
+            }
+            let turn = Turn::Outcome(some_outcome(chance));
+            out.put(called(chance, &listing, own, turn))?;
+        }
+    }
+    Ok(())
+}
+
+/// Outcomes for searches of as many links as are in service, of other numbers,
+/// unsound and ended ones.
+fn fixed_outcomes(chance: &mut Chance, out: &mut Out) -> io::Result<()> {
+    let three = make::cycle(3).plain();
+    let six = make::exact(chance, 4, 6).mixed(chance);
+    let six = make::with_unplugged(chance, &six, 2);
+    for plant in [&make::path(2).plain(), &three, &six] {
+        let listing = make::listing_of(plant);
+        let (links, listed) = (service(plant) as u16, plant.links);
+        let mut put = |chance: &mut Chance, search: Search, outcome: u8| {
+            let switch = chance.below(usize::from(plant.switches)) as u8;
+            let mut own = going(chance, plant, switch);
+            own.search = Some(Begun { switch, search });
+            out.put(called(chance, &listing, own, Turn::Outcome(outcome)))
+        };
+        for lost in FEW {
+            for search in [
+                Search::Checking(links, lost),
+                Search::Halving(1, links, lost),
+                Search::Halving(links - 1, links, lost),
+            ] {
+                if search.check_for(links).is_ok() {
+                    put(chance, search, 0)?;
+                    let returned = some_return(chance);
+                    put(chance, search, returned)?;
+                }
+            }
+        }
+        for (turn, search) in [
+            Search::Checking(links - 1, 0),
+            Search::Checking(links + 1, 0),
+            Search::Checking(listed, 1),
+            Search::Checking(links, 3),
+            Search::Checking(links, 255),
+            Search::Checking(0, 0),
+            Search::Checking(links + 256, 0),
+            Search::Halving(0, links, 0),
+            Search::Halving(links, links, 0),
+            Search::Halving(1, links + 1, 2),
+            Search::Halving(1, listed, 0),
+            Search::Halving(1, links, 3),
+            Search::Halving(links + 1, links + 2, 0),
+            Search::Halving(1, links + 256, 0),
+            Search::Down(0),
+            Search::Down(1),
+            Search::Down(links),
+            Search::Down(links + 1),
+            Search::Down(listed),
+            Search::Down(links + 256),
+            Search::AllUp,
+            Search::AllUp,
+        ]
+        .into_iter()
+        .enumerate()
+        {
+            // Fewer of them for a single link.
+            if links > 1 || turn % 3 == 0 {
+                let outcome = [0, some_return(chance)][turn % 2];
+                put(chance, search, outcome)?;
+            }
+        }
+    }
+    Ok(())
+}
+
+/// Each refusal of the listing, of short listings and of long ones, and together
+/// with each other fault; and every set of other faults that a call can have,
+/// those of no more than two of them twice.
+fn fixed_desk_refused(chance: &mut Chance, out: &mut Out) -> io::Result<()> {
+    let mut put = |chance: &mut Chance, plant: &Plant, call: u8, some: &[Fault]| {
+        let sitting = faulty(chance, plant, call, some);
+        out.put(sat(chance, &sitting))
+    };
+    for call in OF_DESK {
+        for refusal in 1..=9 {
+            let listing = Fault::Listing(refusal);
+            let long = make::tailed(chance, 12, 24).mixed(chance);
+            put(chance, &long, call, &[listing])?;
+            let small = small_plant(chance);
+            put(chance, &small, call, &[listing])?;
+            for fault in faults(call) {
+                let small = small_plant(chance);
+                put(chance, &small, call, &[listing, fault])?;
+            }
+        }
+        let faults = faults(call);
+        for choice in 0..1 << faults.len() {
+            let chosen = (0..faults.len()).filter(|place| choice >> place & 1 == 1);
+            let some: Vec<Fault> = chosen.map(|place| faults[place]).collect();
+            // Nothing is wrong with a search that is not there.
+            let of_search = [Fault::Switch, Fault::Outside, Fault::Unsound, Fault::Ended];
+            let judged = some.iter().any(|fault| of_search.contains(fault));
+            if judged && some.contains(&Fault::NoSearch) {
+                continue;
+            }
+            for _ in 0..if some.len() <= 2 { 2 } else { 1 } {
+                let small = small_plant(chance);
+                put(chance, &small, call, &some)?;
+            }
+        }
+    }
+    Ok(())
+}
+
+/// Calls on one desk: each case has the desk that the one before it left.
+struct Sequence<'o> {
+    out: &'o mut Out,
+    desk: Desk,
+}
+
+impl Sequence<'_> {
+    fn call(
+        &mut self,
+        chance: &mut Chance,
+        listing: &[u8],
+        console: u8,
+        turn: Turn,
+    ) -> io::Result<()> {
+        let mut sitting = Sitting {
+            listing: listing.to_vec(),
+            desk: self.desk,
+            console,
+            turn,
+        };
+        self.out.put(sat(chance, &sitting))?;
+        // A refusal leaves the desk as it was.
+        let _ = sitting.make();
+        self.desk = sitting.desk;
+        Ok(())
+    }
+}
+
+/// A sequence that is written out, of one console, with calls of others now and
+/// then: a plant of six switches and seven links, the same with a link out of
+/// service, and a ring of three.
+fn fixed_scene(chance: &mut Chance, out: &mut Out, console: u8) -> io::Result<()> {
+    let plant = make::exact(chance, 6, 7).mixed(chance);
+    let marks = make::marking(chance, &plant, 5);
+    let seven = make::listing_of(&plant);
+    let six = make::listing_of(&make::marked(plant.clone(), &marks));
+    let ring = make::listing_of(&make::cycle(3).mixed(chance));
+    let mut desk = Desk::default();
+    if console % 2 == 1 {
+        desk = make::any_desk(chance);
+        desk.console[usize::from(console)] = Console::default();
+    }
+    let mut scene = Sequence { out, desk };
+    let (lost, back) = (Turn::Outcome(0), Turn::Outcome(some_return(chance)));
+    for (turn, (listing, call)) in [
+        // No search, and a set that is empty.
+        (&seven, lost),
+        (&seven, Turn::Start(5)),
+        (&seven, Turn::Set(0b11_1111)),
+        (&seven, Turn::Set(0b11_1111)),
+        (&seven, Turn::Start(5)),
+        (&seven, lost),
+        // A link fewer.
+        (&six, lost),
+        (&seven, lost),
+        // No switch under a search, and its switch again.
+        (&seven, Turn::Set(0)),
+        (&seven, lost),
+        (&seven, Turn::Start(5)),
+        (&seven, Turn::Set(0b10_0000)),
+        (&seven, lost),
+        // It is halving from 1 to 7, and then from 5 to 7.
+        (&six, back),
+        (&seven, back),
+        (&seven, lost),
+        // The set is of a larger plant, and then the search's switch is.
+        (&ring, back),
+        (&ring, Turn::Start(0)),
+        (&ring, Turn::Set(0b11_1111)),
+        (&ring, Turn::Set(0b101)),
+        (&ring, back),
+        (&seven, back),
+        (&ring, Turn::Start(5)),
+        (&ring, Turn::Start(1)),
+        // It is halving from 5 to 6, which a link fewer allows.
+        (&seven, Turn::Set(0b10_0101)),
+        (&seven, lost),
+        (&seven, lost),
+        (&six, back),
+        // It has ended, and another takes its place.
+        (&six, lost),
+        (&seven, back),
+        (&seven, Turn::Start(2)),
+        (&seven, lost),
+        (&seven, Turn::Start(2)),
+        (&six, Turn::Start(0)),
+        (&seven, back),
+        (&six, back),
+        // An ended search, with sets that have its switch and not.
+        (&ring, lost),
+        (&ring, Turn::Set(0b011)),
+        (&ring, lost),
+        (&ring, Turn::Set(0b100)),
+        (&ring, lost),
+        (&ring, Turn::Start(2)),
+        (&ring, back),
+    ]
+    .into_iter()
+    .enumerate()
+    {
+        scene.call(chance, listing, console, call)?;
+        if turn % 9 == 4 {
+            let other = (console + chance.within(1, 3) as u8) % CONSOLES;
+            let other = chance.of(&[other, other, console + CONSOLES]);
+            let call = chance.of(&[Turn::Set(0b111), Turn::Start(1), lost]);
+            scene.call(chance, listing, other, call)?;
+        }
+    }
+    Ok(())
+}
+
+impl Course {
+    /// Whether the packet rule brings back probe m.
+    fn is_home(&self, begin: u8, m: u16, states: &[u8]) -> bool {
+        let (trail, switch) = (&self.subject.trail, usize::from(begin));
+        let order = Order::new(&self.net, trail, packet::place(&self.net, trail, switch));
+        let m = usize::from(m);
+        packet::run_probe(&self.net, trail, switch, &order, m, states).fate() == Fate::Home
+    }
+
+    /// What a console may well ask next: a set if it wants one, a start if it
+    /// has no search that goes on, or else what became of a sending under link
+    /// states. So often of a hundred one vanishes that the packet rule brings
+    /// back.
+    fn next_turn(&self, chance: &mut Chance, own: Console, states: &[u8], vanish: usize) -> Turn {
+        let all = make::all_switches(self.switches());
+        let some = chance.draw() & all | alone(self.subject.plant.start);
+        if own.set & all == 0 || own.set & !all != 0 {
+            return Turn::Set(some);
+        }
+        let start = Turn::Start(one_of(chance, own.set));
+        let Some(Begun { switch, search }) = own.search else {
+            return start;
+        };
+        if own.set & alone(switch) == 0 {
+            let back = Turn::Set(own.set | alone(switch) & all);
+            return chance.of(&[back, start]);
+        }
+        match search.ask() {
+            Ok(m) if search.check_for(self.net.links as u16).is_ok() => {
+                let returned = self.is_home(switch, m, states) && !chance.percent(vanish);
+                Turn::Outcome(if returned { some_return(chance) } else { 0 })
+            }
+            _ => chance.of(&[start, start, Turn::Outcome(0), Turn::Outcome(1)]),
+        }
+    }
+}
+
+/// Calls of all four consoles on one desk, each with a search of its own: from
+/// a fresh desk and from any, with sets replaced, searches begun again and
+/// refused calls between.
+fn fixed_chains(chance: &mut Chance, out: &mut Out) -> io::Result<()> {
+    let ring = make::cycle(3);
+    let tailed = make::tailed(chance, 3, 5);
+    let dense = make::exact(chance, 4, 8);
+    for (turn, (sketch, more, kind, calls)) in [
+        (&make::path(2), 0, 1, 30),
+        (&ring, 0, 1, 60),
+        (&tailed, 0, 0, 35),
+        (&tailed, 2, 1, 80),
+        (&dense, 1, 2, 90),
+        (&ring, 1, 3, 60),
+    ]
+    .into_iter()
+    .enumerate()
+    {
+        let plant = sketch.mixed(chance);
+        let course = Course::new(make::with_unplugged(chance, &plant, more))?;
+        let plant = &course.subject.plant;
+        let listing = &course.subject.listing;
+        let all = make::all_switches(plant.switches);
+        // The links that are down are in service.
+        let numbers: Vec<usize> = plant.in_service().map(|(number, _)| number).collect();
+        let down = some_down(chance, numbers.len(), kind).into_iter();
+        let down: Vec<usize> = down.map(|place| numbers[place]).collect();
+        let states = course.down(chance, &down);
+        let desk = match turn % 3 {
+            2 => make::any_desk(chance),
+            _ => Desk::default(),
+        };
+        let mut chain = Sequence { out, desk };
+        for _ in 0..calls {
+            let console = some_console(chance);
+            let own = chain.desk.console[usize::from(console)];
+            let next = course.next_turn(chance, own, &states, 25);
+            let some = chance.draw() & all;
+            let any = chance.below(usize::from(plant.switches) + 1) as u8;
+            let refusal = chance.within(1, 9) as u8;
+            match chance.below(32) {
+                0 => chain.call(chance, listing, console + CONSOLES, next)?,
+                1 => {
+                    let bad = match refusal {
+                        9 => make::listing_of(&with_switch(plant)),
+                        _ => bad_listing(chance, plant, refusal),
+                    };
+                    chain.call(chance, &bad, console, next)?;
+                }
+                // Of another plant.
+                2 => {
+                    let other = make::listing_of(&small_plant(chance));
+                    chain.call(chance, &other, console, next)?;
+                }
+                3 => chain.call(chance, listing, console, Turn::Set(!all | some))?,
+                4 => chain.call(chance, listing, console, Turn::Set(own.set))?,
+                5 => {
+                    let set = chance.of(&[0, some, all]);
+                    chain.call(chance, listing, console, Turn::Set(set))?;
+                }
+                6 => chain.call(chance, listing, console, Turn::Start(any))?,
+                _ => chain.call(chance, listing, console, next)?,
+            }
+        }
+    }
+    Ok(())
+}
+
+/// One case of the desk, drawn by chance.
+fn drawn_desk(chance: &mut Chance) -> Case {
+    let (switches, links) = chance.of(&[(5, 8), (5, 8), (5, 8), (12, 16), (24, 40)]);
+    let sitting = make::some_sitting(chance, switches, links);
+    sat(chance, &sitting)
+}
+
 /// How often each call is drawn, from call 1; the long run, the rules by switch,
-/// the pages, the calls of the round trail and those given marks are drawn apart.
+/// the pages, the calls of the round trail, those given marks and those of the
+/// desk are drawn apart.
 const WEIGHTS: [usize; NAMES.len() - 1] = [
-    14, 9, 7, 5, 5, 9, 9, 7, 6, 8, 9, 7, 4, 2, 3, 6, 2, 7, 7, 1, 0, 0, 0, 0, 0, 0, 0, 0, 0,
+    14, 9, 7, 5, 5, 9, 9, 7, 6, 8, 9, 7, 4, 2, 3, 6, 2, 7, 7, 1, 0, 0, 0, 0, 0, 0, 0, 0, 0, 0, 0, 0,
 ];
 
 /// One case of any call but the long run, the rules by switch, the pages, those
-/// of the round trail and those given marks, drawn by chance.
+/// of the round trail, those given marks and those of the desk, drawn by chance.
 fn drawn_any(chance: &mut Chance) -> Case {
     let call = 1 + chance.weighed(&WEIGHTS) as u8;
     drawn(chance, call)
@@ -4745,7 +5483,8 @@ fn make(folder: &Path, seed: u64, count: usize) -> io::Result<Out> {
     // Packet runs are drawn by a chance of their own, and so are the rules by
     // switch, the pages written, the pages read, the searches, the allowance,
     // the round trails, the round runs, the choices, the listings with links
-    // out of service, and the plants written and reread with marks.
+    // out of service, the plants written and reread with marks, and the calls
+    // of the desk.
     let mut other = Chance::new(!seed);
     out.most = count.min(FIRST + RUNS);
     fixed_runs(&mut other, &mut out)?;
@@ -4813,10 +5552,16 @@ fn make(folder: &Path, seed: u64, count: usize) -> io::Result<Out> {
         out.put(drawn_writing(&mut twelfth, WRITE_MARKED))?;
     }
     let mut thirteenth = Chance::new(seed ^ u64::from(REREAD_MARKED) << 32);
-    out.most = count.min(COUNT);
+    out.most = count.min(NO_DESK);
     fixed_writings(&mut thirteenth, &mut out, REREAD_MARKED)?;
     while !out.full() {
         out.put(drawn_writing(&mut thirteenth, REREAD_MARKED))?;
+    }
+    let mut fourteenth = Chance::new(seed ^ u64::from(NEW_SET) << 32);
+    out.most = count.min(COUNT);
+    fixed_desks(&mut fourteenth, &mut out)?;
+    while !out.full() {
+        out.put(drawn_desk(&mut fourteenth))?;
     }
     out.most = count;
     while !out.full() {

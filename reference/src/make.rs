@@ -1,10 +1,13 @@
-//! Generator of plants, of links out of service, of damaged listings and of
-//! buying pages.
+//! Generator of plants, of links out of service, of damaged listings, of buying
+//! pages and of calls of the desk.
 
+use crate::calls;
+use crate::desk::{Begun, Console, Desk};
 use crate::listing;
 use crate::net::Net;
 use crate::page::{self, Counts};
-use crate::plant::{Link, Plant};
+use crate::plant::{Answer, Link, Plant};
+use crate::search::Search;
 use std::ops::Range;
 
 /// A small generator of pseudo-random numbers with a fixed course for each
@@ -998,4 +1001,173 @@ pub fn damaged_page(chance: &mut Chance, counts: &Counts) -> Vec<u8> {
         }
     }
     draft.bytes()
+}
+
+/// The set of all switches of a plant that has so many.
+pub fn all_switches(switches: u8) -> u64 {
+    (0..switches).fold(0, |set, switch| set | 1 << switch)
+}
+
+/// Any search, sound or not.
+pub fn any_search(chance: &mut Chance) -> Search {
+    let mut number = || {
+        let (small, any) = (chance.below(10) as u16, chance.word());
+        chance.of(&[small, small, small, 255, 256, 257, any])
+    };
+    let (a, b) = (number(), number());
+    let any = chance.byte();
+    let lost = chance.of(&[0, 0, 1, 2, 3, 255, any]);
+    match chance.below(6) {
+        0 | 1 => Search::Checking(a, lost),
+        2 | 3 => Search::Halving(a, b, lost),
+        4 => Search::Down(a),
+        _ => Search::AllUp,
+    }
+}
+
+/// A search that is more often than not one of so many links.
+pub fn some_search(chance: &mut Chance, links: u16) -> Search {
+    let any = any_search(chance);
+    let lost = chance.below(3) as u8;
+    if links == 0 {
+        return chance.of(&[Search::AllUp, any]);
+    }
+    let high = chance.within(1, usize::from(links));
+    let low = chance.within(1, high) as u16;
+    let high = high as u16;
+    match chance.below(10) {
+        0..=3 => Search::Checking(links, lost),
+        4..=6 if low < high => Search::Halving(low, high, lost),
+        7 => chance.of(&[Search::Down(low), Search::Down(links), Search::AllUp]),
+        8 => any,
+        _ => Search::Checking(links + 1, lost),
+    }
+}
+
+/// A set, more often than not one of so many switches.
+pub fn some_set(chance: &mut Chance, switches: u8) -> u64 {
+    let all = all_switches(switches);
+    let any = chance.draw();
+    match chance.below(16) {
+        0 => 0,
+        1..=3 => all,
+        4 => 1 << (switches - 1),
+        5 => any,
+        // The one after the last switch, if there is one.
+        6 => any & all | u64::checked_shl(1, switches.into()).unwrap_or(0),
+        _ => any & all,
+    }
+}
+
+/// Any part of a desk.
+pub fn any_console(chance: &mut Chance) -> Console {
+    let (any, few) = (chance.draw(), chance.below(64) as u64);
+    let switch = chance.byte();
+    let begun = Begun {
+        switch: chance.of(&[switch, switch % 64, switch % 8]),
+        search: any_search(chance),
+    };
+    Console {
+        set: chance.of(&[any, few, few, 0, u64::MAX]),
+        search: chance.percent(70).then_some(begun),
+    }
+}
+
+/// Any desk.
+pub fn any_desk(chance: &mut Chance) -> Desk {
+    Desk {
+        console: std::array::from_fn(|_| any_console(chance)),
+    }
+}
+
+/// What a console asks of the desk: a new set, a start at a switch, or an
+/// outcome for its search, lost by 0 and returned by any other byte.
+#[derive(Clone, Copy, Debug, PartialEq, Eq)]
+pub enum Turn {
+    Set(u64),
+    Start(u8),
+    Outcome(u8),
+}
+
+/// A call of the desk with all that it is given.
+#[derive(Clone, Debug)]
+pub struct Sitting {
+    pub listing: Vec<u8>,
+    pub desk: Desk,
+    pub console: u8,
+    pub turn: Turn,
+}
+
+impl Sitting {
+    /// Makes the call. The desk is then as the call leaves it.
+    pub fn make(&mut self) -> Answer<Console> {
+        let Sitting {
+            listing,
+            desk,
+            console,
+            turn,
+        } = self;
+        match *turn {
+            Turn::Set(set) => calls::new_set(listing, desk, *console, set),
+            Turn::Start(switch) => calls::start(listing, desk, *console, switch),
+            Turn::Outcome(byte) => calls::outcome(listing, desk, *console, byte != 0),
+        }
+    }
+}
+
+/// A call of the desk with a plant of at most so many switches and links: taken
+/// more often than any one refusal is met.
+pub fn some_sitting(chance: &mut Chance, switches: usize, links: usize) -> Sitting {
+    let mut plant = joined(chance, switches, links).mixed(chance);
+    if chance.percent(30) {
+        let more = chance.within(1, 3);
+        plant = with_unplugged(chance, &plant, more);
+    }
+    let listing = match chance.below(20) {
+        0 => listing_of(&apart(chance, switches, links).mixed(chance)),
+        1 | 2 => damaged(chance, &plant),
+        _ => listing_of(&plant),
+    };
+    let service = plant.in_service().count() as u16;
+    let set = some_set(chance, plant.switches);
+    // A switch of the set more often than another.
+    let inside: Vec<u8> = (0..64).filter(|switch| set >> switch & 1 == 1).collect();
+    let mut switch = chance.below(usize::from(plant.switches)) as u8;
+    if !inside.is_empty() && chance.percent(75) {
+        switch = chance.of(&inside);
+    }
+    if chance.percent(5) {
+        let any = chance.byte();
+        switch = chance.of(&[plant.switches, plant.switches + 1, 63, 64, 255, any]);
+    }
+    let begun = Begun {
+        switch,
+        search: some_search(chance, service),
+    };
+    let turn = match chance.below(5) {
+        0 => Turn::Set(some_set(chance, plant.switches)),
+        1 | 2 => Turn::Start(switch),
+        _ => Turn::Outcome(chance.of(&[0, 0, 0, 1, 1, 2, 128, 255])),
+    };
+    let mut desk = any_desk(chance);
+    let own = chance.below(Desk::CONSOLES);
+    if chance.percent(90) {
+        desk.console[own] = Console {
+            set,
+            search: chance.percent(90).then_some(begun),
+        };
+    } else if chance.percent(50) {
+        desk = Desk::default();
+    }
+    let any = chance.within(Desk::CONSOLES, 255) as u8;
+    let mut console = own as u8;
+    if chance.percent(5) {
+        console = chance.of(&[4, 5, 127, 128, 255, any, console + 4, console + 128]);
+    }
+    Sitting {
+        listing,
+        desk,
+        console,
+        turn,
+    }
 }

@@ -35,7 +35,8 @@ pub enum Refusal {
     StatesShort = 13,
     /// A search state that cannot be, or cannot be of this plant.
     SearchUnsound = 14,
-    /// A fate is given to, or a probe is wanted of, All up or Down.
+    /// A fate is given to, or a probe is wanted of, All up or Down; or a fate
+    /// is given to the search of a console that has none.
     SearchEnded = 15,
     /// The buffer lent to the writer is shorter than the listing.
     ListingBufferShort = 16,
@@ -43,6 +44,12 @@ pub enum Refusal {
     SpareTooLarge = 17,
     /// The lent page is too short or, in reading, not of the form.
     PageUnfit = 18,
+    /// The console is above 3.
+    ConsoleOutOfRange = 19,
+    /// The calling console's set has a bit at or above S.
+    SetOutOfRange = 20,
+    /// The switch is outside the calling console's set.
+    SwitchOutsideSet = 21,
 }
 
 impl Refusal {
