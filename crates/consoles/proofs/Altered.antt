@@ -54,13 +54,13 @@ use Rattle.reading.proofs.Cells.{var, part, sets, gets, gone}
 use Rattle.reading.proofs.Promised.{Promise, Promised, calls-to}
 use Rattle.consoles.specs.Calls.{Request, serving, served}
 
-abbrev desk-val : Desk → Val
+abbrev pub desk-val : Desk → Val
 desk-val = LL.val D.the-type D′.the-laws
 
-abbrev shown-val : Shown → Val
+abbrev pub shown-val : Shown → Val
 shown-val = EL.val E.the-type E′.the-laws
 
-abbrev served-val : Served → Val
+abbrev pub served-val : Served → Val
 served-val = LL.val S.the-type S′.the-laws
 
 -- X is the last parameter's type, τ its MIR type, and `asks` what is asked for by it
