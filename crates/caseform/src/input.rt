@@ -1,6 +1,7 @@
 // The arguments of a case, at a place of the input. What lies past the end of the input counts as zeros, and a place past it as its end.
 use plant::Link;
 use plant::Plant;
+use search::Outcome;
 use search::Search;
 ghost use mathlib.Core.Path.{_≡_};
 ghost use Prim.Native.Nat.{_+_, _≤_};
@@ -147,6 +148,15 @@ pub fn search(s: &[u8], at: usize) -> Search {
 
 pub fn past_search(s: &[u8], at: usize) -> usize {
     past(s, at, 6)
+}
+
+// An outcome that is given to a search: lost if the byte is 0.
+pub fn outcome(s: &[u8], at: usize) -> Outcome {
+    if byte(s, at) == 0 {
+        Outcome::Lost
+    } else {
+        Outcome::Returned
+    }
 }
 
 fn link(s: &[u8], at: usize) -> Link {

@@ -35,12 +35,17 @@
 // 27 shorter trail   listing, switch, trail, round trail      trail or round, checksum of the labels handed back
 // 28 write marked    plant, marks, buffer length              length
 // 29 reread marked   plant, marks, buffer length              as of read
+// 30 new set         listing, desk, console, set              set, search
+// 31 start           listing, desk, console, switch           set, search
+// 32 outcome         listing, desk, console, outcome          set, search
 //
 // A plant is its switches, links (two bytes) and start, a two-byte number of link places, and first end, second end and tag (two bytes) of each; the other link
 // places are zero. Marks are a byte string, a byte for each link place from the first on: it is out of service if its byte is not 0, and in service where there is
-// none. The links that are read are printed as the list of first end, second end and tag of each, with 255 after the tag of one out of service. A refusal is the
-// word `refused` and its number. The line of a call that is lent a buffer ends with the buffer's checksum after the call. A list prints as its count, a colon and
-// its checksum.
+// none. A set is eight bytes, low byte first. A desk is its four consoles, each a set, a byte that is 0 if there is no search, and a switch and a search. A console is
+// printed as its set, and then the word `none`, or `from`, the switch and the search. The links that are read are printed as the list of first end, second end and tag of each, with 255 after the tag of one out of service. A refusal is the
+// word `refused` and its number. The line of a call that is lent a buffer or a desk ends with its checksum after the call. A list prints as its count, a colon and
+// its checksum. A desk is the list of 14 numbers for each console: the bytes of its set, 1, the switch, the kind of the search, its two numbers, and the sendings lost so
+// far, with 0 for a number that is not there, and six zeros for no search.
 mod searches;
 
 use caseform::input;
@@ -51,7 +56,7 @@ ghost use Prim.Native.Nat.{_≤_};
 ghost use lib.ListN.{length};
 
 // The most bytes of input that are read.
-const INPUT: usize = 2050000;
+const INPUT: usize = 2250000;
 
 // Prints the answer of the case at a place; the place after it. A byte that is no call ends the input.
 fn answer(s: &[u8], at: usize) -> usize {
@@ -62,6 +67,9 @@ fn answer(s: &[u8], at: usize) -> usize {
     }
     if call < 13 || call == 21 || call == 26 || call == 27 {
         return casepackets::answer(call, s, from);
+    }
+    if 30 <= call {
+        return casedesks::answer(call, s, from);
     }
     if call == 18 || call == 19 || 22 <= call {
         return caseplans::answer(call, s, from);

@@ -5,7 +5,6 @@ use probing::Begun;
 use probing::Performed;
 use quantity::Quantity;
 use search::Asked;
-use search::Outcome;
 use search::Progress;
 use search::Told;
 
@@ -27,17 +26,9 @@ fn ask(s: &[u8], at: usize) -> usize {
     input::past_search(s, at)
 }
 
-fn outcome(b: u8) -> Outcome {
-    if b == 0 {
-        Outcome::Lost
-    } else {
-        Outcome::Returned
-    }
-}
-
 fn give(s: &[u8], at: usize) -> usize {
     let from = input::past_search(s, at);
-    match probing::give(input::search(s, at), outcome(input::byte(s, from))) {
+    match probing::give(input::search(s, at), input::outcome(s, from)) {
         Told::State(state) => show::search(state),
         Told::Refused(k) => show::refusal(k),
     }
