@@ -1,2 +1,3 @@
 pub mod Calls
 pub mod Lists
+pub mod Cases
