@@ -1,4 +1,4 @@
-// The allowance of a search: the least k with 2^k at least the number of links, worked out. Inner: the calls are the crates `planner` and `probing`.
+// The allowance of a search: the least k with 2^k at least the number of links, worked out. Inner: the calls are those of docs/CALLS.md.
 ghost use mathlib.Core.Path.{_≡_};
 ghost use Rattle.allowance.specs.Allowance.{allowance, clipped};
 use plant::Plant;

@@ -1,4 +1,4 @@
-// The bridges of a plant, read from a visit of it. Inner: the calls are the crates `planner` and `probing`.
+// The bridges of a plant, read from a visit of it. Inner: the calls are those of docs/CALLS.md.
 ghost use mathlib.Core.Path.{_≡_};
 ghost use mathlib.Core.Bool.{true};
 ghost use Prim.Native.Nat.{_+_, _*_, _<_};

@@ -1,4 +1,4 @@
-// Which of two lent trails has fewer hops, and its hops as a part of it (document 02, order 6). Inner: the calls are the crates `planner` and `probing`.
+// Which of two lent trails has fewer hops, and its hops as a part of it (document 02, order 6). Inner: the calls are those of docs/CALLS.md.
 ghost use mathlib.Core.Path.{_≡_};
 ghost use Rattle.choosing.specs.Choice.{choiceOf, hopsIn};
 

@@ -1,4 +1,4 @@
-// A part of a listing (document 01, "Listing bytes"): a map byte, then the fields whose bit is set, by rising bit. Its reader, for any fields. Inner: the calls are the crates `planner` and `probing`.
+// A part of a listing (document 01, "Listing bytes"): a map byte, then the fields whose bit is set, by rising bit. Its reader, for any fields. Inner: the calls are those of docs/CALLS.md.
 use answers::Refusal;
 use answers::Verdict;
 ghost use mathlib.Core.Path.{_≡_};

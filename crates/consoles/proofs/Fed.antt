@@ -4,12 +4,12 @@ use mathlib.Core.Path.{_≡_, refl, sym, ap, _∙_, subst}
 use mathlib.Core.Bool.{Bool, true, false}
 use mathlib.Core.List.{List, [], _∷_, _++_}
 use Prim.Native.Nat.{ℕ, _≤_, _<_}
-use lib.Dec.{eqb, leb}
+use lib.Dec.{eqb}
 use borrow.Author.Tests.{eqb-true, eqb-false, leb-false}
 use Rattle.lists.specs.Tests.{choose}
 use Rattle.plant.specs.declared.Plant.{Plant}
 use Rattle.answers.specs.Answers.{Answer, given, refused}
-use Rattle.answers.specs.Checks.{NoneHolds, trying, answer, leaves}
+use Rattle.answers.specs.Checks.{trying, answer}
 use Rattle.answers.proofs.Checks.{came-from, refuse-given, was-given, given-exactly, result-given}
 use Rattle.walks.specs.Graph.{liveLinks}
 use Rattle.planning.specs.Planning.{planning, planningAt}
@@ -20,7 +20,6 @@ use Rattle.search.specs.declared.Progress.{Progress}
 use Rattle.search.specs.Search.{newSearch, next, give}
 use Rattle.search.specs.Calls.{Call, gives, counted, step, perform, begun}
 use Rattle.search.proofs.Sound.{answers-given}
-use Rattle.judging.specs.Conditions.{searchUnsound}
 use Rattle.judging.proofs.Searching.{sound-here}
 use Rattle.desk.specs.declared.Held.{Held}
 use Rattle.desk.specs.declared.Held.the-variants.{From}

@@ -1,6 +1,6 @@
 -- Refusal 19 before those of a listing, then the switches and the links in service of its plant: by the verdict on the console, and by the plan. Assumes nothing.
-use mathlib.Core.Path.{_≡_, sym, ap, ap₂, _∙_, subst}
-use mathlib.Core.List.{List, [], _∷_, _++_}
+use mathlib.Core.Path.{_≡_, sym, ap, _∙_, subst}
+use mathlib.Core.List.{List, [], _∷_}
 use Prim.Native.Nat.{ℕ}
 use Rattle.plant.specs.declared.Plant.{Plant}
 use Rattle.answers.specs.Answers.{given, refused, numberOf, firstOf, valueOr, Beside}
@@ -8,7 +8,7 @@ use Rattle.answers.specs.Checks.{Conditions, answer, Judges}
 use Rattle.answers.specs.declared.Refusal.{Refusal}
 use Rattle.answers.specs.declared.Verdict.{Verdict}
 use Rattle.answers.specs.declared.Verdict.the-variants as verdict
-use Rattle.answers.proofs.Checks.{first-judges, none-judged, none-append, none-trying, passed, turned-down}
+use Rattle.answers.proofs.Checks.{first-judges, none-judged, none-trying, passed, turned-down}
 use Rattle.answers.proofs.Beside.{beside-judges}
 use Rattle.listing.specs.Answers.{emptyPlant}
 use Rattle.walks.specs.Graph.{liveLinks}

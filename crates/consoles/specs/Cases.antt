@@ -15,17 +15,16 @@ use Rattle.walks.specs.Graph.{arcs, others, visitFrom, liveLinks}
 use Rattle.codec.specs.Part.{taken, valueOf, redundant, mapMissing, mapUndefined, fieldMissing, fieldRedundant, fieldValues, afterPart, part}
 use Rattle.listing.specs.Listing as listing
 use Rattle.planning.specs.Planning.{notConnected, planning}
-use Rattle.search.specs.declared.Search.the-variants.{Checking, Halving, AllUp, Down}
+use Rattle.search.specs.declared.Search.the-variants.{Checking}
 use Rattle.search.specs.declared.Outcome.the-variants.{Returned, Lost}
 use Rattle.search.specs.Search.{newSearch}
 use Rattle.judging.specs.Conditions.{searchUnsound}
 use Rattle.desk.specs.declared.Held.the-variants.{Nothing, From}
 use Rattle.desk.specs.declared.Console.{Console}
-use Rattle.desk.specs.declared.Desk.{Desk}
 use Rattle.desk.specs.Console.{setOutOfRange, consoleWith, replacing, starting, telling}
 use Rattle.desk.specs.Desk.{freshDesk, consoleOf, withConsole}
 use Rattle.desk.specs.Cases.{console}
-use Rattle.consoles.specs.Calls.{consoleOutOfRange, sizing, Request, newSet, start, outcome, calling, serving, served}
+use Rattle.consoles.specs.Calls.{consoleOutOfRange, sizing, Request, newSet, start, outcome, calling, served}
 use Rattle.consoles.specs.Lists.{DeskCall, afterAll, answersOf}
 
 -- the triangle, and that with its last link out of service

@@ -1,7 +1,6 @@
 -- The promises of document 02's order 8: sets, the calls of a console, isolation, and demand 3 of a console's search. Assumes nothing.
 use mathlib.Core.Path.{_≡_, refl, sym, _∙_, subst}
-use mathlib.Core.Bool.{Bool, false}
-use mathlib.Core.List.{List, [], _∷_}
+use mathlib.Core.List.{List, _∷_}
 use Prim.Native.Nat.{ℕ, _≤_}
 use lib.Pow.{pow-pos}
 use borrow.Author.Tests.{leb-false, not-false}
@@ -10,24 +9,21 @@ use Rattle.limits.specs.Limits.{maxSwitches}
 use Rattle.answers.specs.Answers.{given}
 use Rattle.answers.specs.Checks.{answer}
 use Rattle.answers.proofs.Checks.{given-exactly, result-given}
-use Rattle.codec.specs.Field.{Bytes}
 use Rattle.walks.specs.Graph.{liveLinks}
 use Rattle.search.specs.Search.{newSearch}
-use Rattle.search.specs.Calls.{Call}
 use Rattle.planning.specs.Planning.{planning}
 use Rattle.planning.proofs.Plans.{plan-ready, at-given}
 use Rattle.probing.proofs.Searching.{searches}
 use Rattle.desk.specs.declared.Held.the-variants.{From}
-use Rattle.desk.specs.declared.Desk.{Desk}
 use Rattle.desk.specs.Console.{has, setOutOfRange, switchChecks, consoleWith, replacing, starting, telling}
 use Rattle.desk.specs.Desk.{consoleOf}
 use Rattle.desk.proofs.Sets.{small-has, none-above, beyond-is}
 use Rattle.desk.proofs.Consoles.{fresh-idle}
 use Rattle.consoles.specs.Calls.{newSet, start, outcome}
-use Rattle.consoles.specs.Lists.{DeskCall, afterAll, Fed, unknown, since, fedIn}
+use Rattle.consoles.specs.Lists.{afterAll, unknown}
 use Rattle.consoles.proofs.Isolation.{answerOf, nextOf, asks-so, own-by, own-after, others-after, same-answers, same-after}
 use Rattle.consoles.proofs.Fed.{FedBy, fed-keeps}
-use Rattle.demands.specs.Demands.{Sets, ConsoleCalls, Isolated, Agreeing, ConsoleSearch, ConsoleSearches}
+use Rattle.demands.specs.Demands.{Sets, ConsoleCalls, Isolated, Agreeing, ConsoleSearches}
 
 pub sets : Sets
 sets = record {

@@ -72,7 +72,7 @@ use Rattle.desk.specs.declared.Desk.{Desk}
 use Rattle.desk.specs.Console.{has, setOutOfRange, consoleWith, idle}
 use Rattle.desk.specs.Desk.{freshDesk, consoleOf}
 use Rattle.consoles.specs.Calls.{Request, newSet, start, outcome, asking, calling, serving, served}
-use Rattle.consoles.specs.Lists.{DeskCall, answerTo, after, afterAll, callsOf, answersOf, Fed, since, fedIn}
+use Rattle.consoles.specs.Lists.{DeskCall, answerTo, after, afterAll, callsOf, answersOf, since, fedIn}
 
 -- ---- demand 1: each call answers its result, or a refusal exactly under its condition, and a refusal leaves a lent buffer or desk as it was
 

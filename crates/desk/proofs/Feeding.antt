@@ -2,7 +2,6 @@
 -- answers by that. Assumes nothing.
 use mathlib.Core.Path.{_≡_, refl, sym, ap, _∙_}
 use mathlib.Core.Bool.{Bool, true, false, not, _&&_}
-use mathlib.Core.List.{[], _∷_}
 use Prim.Native.Nat.{ℕ}
 use Rattle.answers.specs.Answers.{given, refused, numberOf, refuse}
 use Rattle.answers.specs.Checks.{answer, trying, Judges}
@@ -17,7 +16,6 @@ use Rattle.search.specs.declared.Told.the-variants as told
 use Rattle.search.specs.Search.{sound, soundFor, ended, next, give, toldOf}
 use Rattle.judging.specs.Conditions.{searchUnsound, wantedChecks}
 use Rattle.desk.specs.declared.Held.the-variants.{From}
-use Rattle.desk.specs.declared.Console.{Console}
 use Rattle.desk.specs.Console.{switchChecks, consoleWith, givingTo, feeding}
 
 and-false : (b : Bool) → b && false ≡ false

@@ -2,16 +2,16 @@
 -- least exactly if it has a bit at or above s. Assumes nothing.
 use mathlib.Core.Path.{_≡_, refl, sym, ap, _∙_, subst}
 use mathlib.Core.Logic.{_⊎_, inl, inr, _↔_}
-use mathlib.Core.Bool.{Bool, true, false, not}
-use Prim.Native.Nat.{ℕ, zero, suc, _+_, _*_, _/_, _%_, _^_, _≤_, _<_}
+use mathlib.Core.Bool.{true, false, not}
+use Prim.Native.Nat.{ℕ, zero, suc, _/_, _^_, _≤_, _<_}
 use native.Mathlib.Nat.{lt-of-not-le, div-eq-of-lt, div-eq-of-lt-le, le-div-iff-mul-le, pow-zero, pow-suc}
 use native.Mathlib.Omega.{arith}
 use lib.Dec.{eqb, leb}
 use lib.Ieee.{size}
 use lib.Ieee.Digits.{size-lt, size-reaches}
 use lib.Pow.{pow-pos, pow-mono}
-use borrow.Author.Tests.{leb-true, leb-false, le-leb, lt-leb, eqb-true, eq-eqb, ne-eqb, not-true}
-use Rattle.lists.proofs.Tests.{bool?, same-test, not-both}
+use borrow.Author.Tests.{leb-true, leb-false, lt-leb, eq-eqb, ne-eqb}
+use Rattle.lists.proofs.Tests.{bool?, not-both}
 use Rattle.desk.specs.Console.{has, setOutOfRange}
 
 pub small-has : (set x : ℕ) → set < 2 ^ x → false ≡ has set x

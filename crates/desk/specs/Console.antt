@@ -48,10 +48,6 @@ replacing s set c = check ((20, setOutOfRange s set) ∷ []) (consoleWith set (c
 unfoldable pub starting : ℕ → ℕ → ℕ → Console → Checked Console
 starting s e x c = check (startChecks s (c .set) x) (consoleWith (c .set) (From x (newSearch e)))
 
--- 14 and 15 of a search over e links, then its next state
-unfoldable pub givingTo : ℕ → Search → Outcome → Checked Search
-givingTo e q o = check (wantedChecks e q) (next q o)
-
 -- what "gives a fate to it" tries of a console's search: with none, 15; else 11 and 21 of the search's own switch, then 14 and 15
 abbrev pub heldChecks : ℕ → ℕ → ℕ → Held → Conditions
 heldChecks s e set Nothing = (15, true) ∷ []
@@ -65,6 +61,12 @@ heldAfter o (From x q) = From x (next q o)
 -- 20 of its set, then those of its search
 unfoldable pub telling : ℕ → ℕ → Outcome → Console → Checked Console
 telling s e o c = check ((20, setOutOfRange s (c .set)) ∷ heldChecks s e (c .set) (c .search)) (consoleWith (c .set) (heldAfter o (c .search)))
+
+-- ---- inner: the parts of an outcome, as the code takes them
+
+-- 14 and 15 of a search over e links, then its next state
+unfoldable pub givingTo : ℕ → Search → Outcome → Checked Search
+givingTo e q o = check (wantedChecks e q) (next q o)
 
 -- of a console that has a search
 unfoldable pub feeding : ℕ → ℕ → Outcome → ℕ → ℕ → Search → Checked Console

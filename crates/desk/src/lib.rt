@@ -1,5 +1,5 @@
 // The desk of four consoles (document 02, order 8), by value: a console's set and search, what each call does to them for a listing of so many switches and links in
-// service, and the console's place on the desk. Inner: the calls are the crates `planner`, `probing` and `consoles`.
+// service, and the console's place on the desk. Inner: the calls are those of docs/CALLS.md.
 use answers::Refusal;
 use answers::Verdict;
 use plant::Plant;

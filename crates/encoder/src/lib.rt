@@ -1,4 +1,4 @@
-// The writer of a part of a listing (document 01, "Listing bytes"), for any fields, and its size. Inner: the calls are the crates `planner` and `probing`.
+// The writer of a part of a listing (document 01, "Listing bytes"), for any fields, and its size. Inner: the calls are those of docs/CALLS.md.
 use codec::Field;
 use codec::Layout;
 use codec::measure;

@@ -1,4 +1,4 @@
-// The links at each switch of a plant (document 02, order 3). Inner: the calls are the crates `planner` and `probing`.
+// The links at each switch of a plant (document 02, order 3). Inner: the calls are those of docs/CALLS.md.
 use plant::Plant;
 use plant::in_service;
 ghost use mathlib.Core.Path.{_≡_};

@@ -1,4 +1,4 @@
-// The conditions of refusals 12 to 15 in a call that is given a listing: of a lent trail, of state bytes and of a search. Inner: the calls are the crates `planner` and `probing`.
+// The conditions of refusals 12 to 15 in a call that is given a listing: of a lent trail, of state bytes and of a search. Inner: the calls are those of docs/CALLS.md.
 use answers::Refusal;
 use answers::Verdict;
 use planning::Parts;

@@ -1,5 +1,4 @@
-// The listing of a plant (document 01, "Listing bytes"): the layouts of its parts, the conditions on its values, and its reader. Inner: the calls are the crates `planner` and
-// `probing`.
+// The listing of a plant (document 01, "Listing bytes"): the layouts of its parts, the conditions on its values, and its reader. Inner: the calls are those of docs/CALLS.md.
 use answers::Refusal;
 use answers::Verdict;
 use codec::Field;

@@ -1,4 +1,4 @@
-// The ring of an injection switch in a lent trail: its place, the order of links by first crossing, and the outward labels of a probe as parts of the trail. Inner: the calls are the crates `planner` and `probing`.
+// The ring of an injection switch in a lent trail: its place, the order of links by first crossing, and the outward labels of a probe as parts of the trail. Inner: the calls are those of docs/CALLS.md.
 ghost use mathlib.Core.Path.{_≡_};
 ghost use Prim.Native.Nat.{ℕ, _/_, _≤_, _<_};
 ghost use lib.ListN.{length, getD, take, drop};

@@ -1,5 +1,5 @@
 // Packet runs: under rules that are flags of labels, by a state byte for each link, or for each label; the full check, the round run, every probe, and the outcome of a
-// run. Inner: the calls are the crates `planner` and `probing`.
+// run. Inner: the calls are those of docs/CALLS.md.
 ghost use mathlib.Core.Path.{_≡_};
 ghost use mathlib.Core.Bool.{not, _&&_};
 ghost use Prim.Native.Nat.{_+_, _*_, _%_, _≤_, _<_};

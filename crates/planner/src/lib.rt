@@ -1,5 +1,5 @@
 // The calls on listings, plants and orders: each is given a listing, a plant or numbers, asks nothing, and refuses what is wrong (docs/CALLS.md). Every public
-// function here is a call. Calls on packets and searches are in the crate `probing`.
+// function here is a call. Calls on packets and searches are in the crate `probing`, those on a desk in `consoles`.
 use answers::Refusal;
 use answers::Verdict;
 use listing::Decoded;

@@ -1,4 +1,4 @@
-// The plan of a listing, which every call that plans goes through. Inner: the calls are the crates `planner` and `probing`.
+// The plan of a listing, which every call that plans goes through. Inner: the calls are those of docs/CALLS.md.
 use answers::Refusal;
 use answers::Verdict;
 use arcs::Legs;

@@ -1,5 +1,5 @@
 // The calls on packets, probes and searches: each is given a listing, a search or a lent trail, asks nothing, and refuses what is wrong (docs/CALLS.md). Every public
-// function here is a call. Calls on listings, plants and orders are in the crate `planner`.
+// function here is a call. Calls on listings, plants and orders are in the crate `planner`, those on a desk in `consoles`.
 use answers::Refusal;
 use answers::Verdict;
 use choosing::Choice;

@@ -1,4 +1,4 @@
-// The order quantity: how many rules to order, with a spare in percent. Inner: the calls are the crates `planner` and `probing`.
+// The order quantity: how many rules to order, with a spare in percent. Inner: the calls are those of docs/CALLS.md.
 ghost use mathlib.Core.Path.{_≡_};
 ghost use Rattle.answers.specs.Checks.{answer};
 ghost use Rattle.quantity.specs.Quantity.{orderQuantity, quantityOf};

@@ -1,4 +1,4 @@
-// The buying page of a plan (document 02, order 3). Inner: the calls are the crates `planner` and `probing`.
+// The buying page of a plan (document 02, order 3). Inner: the calls are those of docs/CALLS.md.
 use answers::Refusal;
 use answers::Verdict;
 use answers::first_of;

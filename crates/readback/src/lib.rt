@@ -1,4 +1,4 @@
-// The buying page (document 02, order 3) read: whether lent bytes are of its form, and the counts in it. Inner: the calls are the crates `planner` and `probing`.
+// The buying page (document 02, order 3) read: whether lent bytes are of its form, and the counts in it. Inner: the calls are those of docs/CALLS.md.
 use answers::Refusal;
 use answers::Verdict;
 use columns::LAST;

@@ -1,5 +1,4 @@
-// The round trail of a plant from a root, read from a visit of it: the hop after each hop; laid into a lent buffer, or compared with a lent one. Inner: the calls are the crates
-// `planner` and `probing`.
+// The round trail of a plant from a root, read from a visit of it: the hop after each hop; laid into a lent buffer, or compared with a lent one. Inner: the calls are those of docs/CALLS.md.
 use arcs::Visited;
 use arcs::opposite;
 use plant::Plant;

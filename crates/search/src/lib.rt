@@ -1,4 +1,4 @@
-// The search for the first broken link: its state, the call for a probe and the call that gives an outcome. Inner: the calls are the crates `planner` and `probing`.
+// The search for the first broken link: its state, the call for a probe and the call that gives an outcome. Inner: the calls are those of docs/CALLS.md.
 ghost use mathlib.Core.Path.{_≡_};
 ghost use mathlib.Core.Bool.{true};
 ghost use Rattle.answers.specs.Checks.{Judges, answer};

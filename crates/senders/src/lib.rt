@@ -1,4 +1,4 @@
-// The rules of a forwarding table by sending switch (document 02, order 2). Inner: the calls are the crates `planner` and `probing`.
+// The rules of a forwarding table by sending switch (document 02, order 2). Inner: the calls are those of docs/CALLS.md.
 use plant::Plant;
 use table::Table;
 use table::sender_of;

@@ -1,4 +1,4 @@
-// The buying page (document 02, order 3): its counts, its lines, and its writer. Inner: the calls are the crates `planner` and `probing`.
+// The buying page (document 02, order 3): its counts, its lines, and its writer. Inner: the calls are those of docs/CALLS.md.
 use answers::Verdict;
 use columns::LAST;
 use columns::LINE;

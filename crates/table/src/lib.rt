@@ -1,4 +1,4 @@
-// The forwarding table (document 01's rule page), by value. Inner: the calls are the crates `planner` and `probing`.
+// The forwarding table (document 01's rule page), by value. Inner: the calls are those of docs/CALLS.md.
 use plant::Plant;
 ghost use mathlib.Core.Path.{_≡_};
 ghost use mathlib.Core.List.{[]};

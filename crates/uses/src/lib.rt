@@ -1,5 +1,4 @@
-// The arcs in use of a plant and the leading arcs of its round trail, read from a visit of it, and how many flags are set. Inner: the calls are the crates `planner` and
-// `probing`.
+// The arcs in use of a plant and the leading arcs of its round trail, read from a visit of it, and how many flags are set. Inner: the calls are those of docs/CALLS.md.
 ghost use mathlib.Core.Path.{_≡_};
 ghost use Prim.Native.Nat.{_*_};
 ghost use Rattle.limits.specs.Limits.{maxLinks};

@@ -1,4 +1,4 @@
-// The depth-first visit of a plant from a root, and whether it reached all switches. Inner: the calls are the crates `planner` and `probing`.
+// The depth-first visit of a plant from a root, and whether it reached all switches. Inner: the calls are those of docs/CALLS.md.
 ghost use mathlib.Core.Path.{_≡_};
 ghost use Prim.Native.Nat.{_*_, _≤_, _<_};
 ghost use Rattle.lists.specs.Arrays.{at};

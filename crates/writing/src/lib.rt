@@ -1,4 +1,4 @@
-// The writer of a plant's listing (document 01, "Listing bytes"). Inner: the calls are the crates `planner` and `probing`.
+// The writer of a plant's listing (document 01, "Listing bytes"). Inner: the calls are those of docs/CALLS.md.
 use answers::Refusal;
 use answers::Verdict;
 use answers::first_of;

@@ -1,5 +1,4 @@
 -- The console of each number. Assumes nothing.
-use mathlib.Core.Path.{ap}
 use borrow.Author.Tests.{ne-eqb}
 use Rattle.desk.specs.Desk.{consoleOf}
 use Rattle.desk.proofs.console_of.Statement.{statement}
