@@ -40,12 +40,13 @@
 // 32 outcome         listing, desk, console, outcome          set, search
 //
 // A plant is its switches, links (two bytes) and start, a two-byte number of link places, and first end, second end and tag (two bytes) of each; the other link
-// places are zero. Marks are a byte string, a byte for each link place from the first on: it is out of service if its byte is not 0, and in service where there is
-// none. A set is eight bytes, low byte first. A desk is its four consoles, each a set, a byte that is 0 if there is no search, and a switch and a search. A console is
-// printed as its set, and then the word `none`, or `from`, the switch and the search. The links that are read are printed as the list of first end, second end and tag of each, with 255 after the tag of one out of service. A refusal is the
-// word `refused` and its number. The line of a call that is lent a buffer or a desk ends with its checksum after the call. A list prints as its count, a colon and
-// its checksum. A desk is the list of 14 numbers for each console: the bytes of its set, 1, the switch, the kind of the search, its two numbers, and the sendings lost so
-// far, with 0 for a number that is not there, and six zeros for no search.
+// places are zero. Marks are a byte string, a byte for each link place from the first on: it is out of service if its byte is not 0, and in service where there
+// is none. A set is eight bytes, low byte first. A desk is its four consoles, each a set, a byte that is 0 if there is no search, and a switch and a search. A
+// console is printed as its set, and then the word `none`, or `from`, the switch and the search. The links that are read are printed as the list of first end,
+// second end and tag of each, with 255 after the tag of one out of service. A refusal is the word `refused` and its number. The line of a call that is lent a
+// buffer or a desk ends with its checksum after the call. A list prints as its count, a colon and its checksum. A desk is the list of 14 numbers for each
+// console: the bytes of its set, 1, the switch, the kind of the search, its two numbers, and the sendings lost so far, with 0 for a number that is not there,
+// and six zeros for no search.
 mod searches;
 
 use caseform::input;

@@ -1,24 +1,27 @@
 -- The promises of document 02's order 8: sets, the calls of a console, isolation, and demand 3 of a console's search. Assumes nothing.
-use mathlib.Core.Path.{_≡_, refl, sym, _∙_, subst}
+use mathlib.Core.Path.{_≡_, refl, sym, ap, _∙_, subst}
 use mathlib.Core.List.{List, _∷_}
 use Prim.Native.Nat.{ℕ, _≤_}
 use lib.Pow.{pow-pos}
-use borrow.Author.Tests.{leb-false, not-false}
+use borrow.Author.Tests.{leb-false, lt-leb, not-false}
 use Rattle.plant.specs.declared.Plant.{Plant}
 use Rattle.limits.specs.Limits.{maxSwitches}
-use Rattle.answers.specs.Answers.{given}
+use Rattle.answers.specs.Answers.{Answer, given, _>>=_}
 use Rattle.answers.specs.Checks.{answer}
-use Rattle.answers.proofs.Checks.{given-exactly, result-given}
+use Rattle.answers.proofs.Checks.{trying-then, given-exactly, result-given}
 use Rattle.walks.specs.Graph.{liveLinks}
-use Rattle.search.specs.Search.{newSearch}
+use Rattle.search.specs.declared.Search.{Search}
+use Rattle.search.specs.Search.{newSearch, next}
+use Rattle.judging.specs.Conditions.{wantedChecks}
 use Rattle.planning.specs.Planning.{planning}
 use Rattle.planning.proofs.Plans.{plan-ready, at-given}
 use Rattle.probing.proofs.Searching.{searches}
 use Rattle.desk.specs.declared.Held.the-variants.{From}
-use Rattle.desk.specs.Console.{has, setOutOfRange, switchChecks, consoleWith, replacing, starting, telling}
+use Rattle.desk.specs.Console.{has, setOutOfRange, switchChecks, consoleWith, replacing, starting, telling, givingTo}
 use Rattle.desk.specs.Desk.{consoleOf}
 use Rattle.desk.proofs.Sets.{small-has, none-above, beyond-is}
 use Rattle.desk.proofs.Consoles.{fresh-idle}
+use Rattle.desk.proofs.Feeding.{given-sound}
 use Rattle.consoles.specs.Calls.{newSet, start, outcome}
 use Rattle.consoles.specs.Lists.{afterAll, unknown}
 use Rattle.consoles.proofs.Isolation.{answerOf, nextOf, asks-so, own-by, own-after, others-after, same-answers, same-after}
@@ -34,7 +37,7 @@ sets = record {
 }
 
 pub console-calls : (k : ℕ) → k ≤ 3 → (s : List ℕ) (p : Plant) → answer (planning s) ≡ given p → ConsoleCalls k s p
-unfolding replacing starting telling
+unfolding replacing starting telling givingTo
 console-calls k h s p e =
     let so = asks-so k s p h e in
     record {
@@ -46,6 +49,10 @@ console-calls k h s p e =
           = given-exactly ((20, setOutOfRange (p .switches) (c .set)) ∷ switchChecks (p .switches) (c .set) x) (consoleWith (c .set) (From x (newSearch (liveLinks p)))) a .0
           (sym (so (start x) c) ∙ g) in
           (leb-false (p .switches) x (r .0 .1 .0), not-false (has (c .set) x) (r .0 .1 .1 .0), sym (r .1));
+      feeds = λ o set x q f h i j.
+          so (outcome o) (consoleWith set (From x q)) ∙ rw (f, lt-leb (p .switches) x h, i)
+          (sym (ap (λ (a : Answer Search). a >>= λ r. given (consoleWith set (From x r))) (given-sound (liveLinks p) q o j)
+          ∙ trying-then (wantedChecks (liveLinks p) q) (given (next q o)) (λ r. given (consoleWith set (From x r)))));
       no-search = λ o set f. so (outcome o) (consoleWith set _) ∙ rw f;
     }
 

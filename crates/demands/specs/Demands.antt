@@ -54,7 +54,7 @@ use Rattle.quantity.specs.Quantity.{orderQuantity}
 use Rattle.search.specs.declared.Search.{Search}
 use Rattle.search.specs.declared.Outcome.{Outcome}
 use Rattle.search.specs.declared.Outcome.the-variants.{Returned}
-use Rattle.search.specs.Search.{newSearch, wanted, ended, ask, give}
+use Rattle.search.specs.Search.{newSearch, soundFor, wanted, ended, ask, give}
 use Rattle.search.specs.Calls.{Call, perform, begun, TrueSending, OneReturns}
 use Rattle.sheet.specs.declared.Sheet.{Sheet}
 use Rattle.sheet.specs.Columns.{lineColumns}
@@ -467,6 +467,9 @@ pub record ConsoleCalls (k : ℕ) (s : List ℕ) (p : Plant) : Type 0 where
   pub replaces : (x set : ℕ) (h h′ : Held) → answer (calling k s (start x) (consoleWith set h)) ≡ answer (calling k s (start x) (consoleWith set h′))
   pub in-set : (x : ℕ) (c a : Console) → answer (calling k s (start x) c) ≡ given a
       → (x < p .switches) × (has (c .set) x ≡ true) × (a ≡ consoleWith (c .set) (From x (newSearch (liveLinks p))))
+  -- "or gives a fate to it": a search at a switch of the set that is sound for the listing is fed as by its own call, 14 and 15 included
+  pub feeds : (o : Outcome) (set x : ℕ) (q : Search) → setOutOfRange (p .switches) set ≡ false → x < p .switches → has set x ≡ true → soundFor (liveLinks p) q ≡ true
+      → answer (calling k s (outcome o) (consoleWith set (From x q))) ≡ (answer (give q o) >>= λ r. given (consoleWith set (From x r)))
   -- "refusal 15 if it has none", right after 20
   pub no-search : (o : Outcome) (set : ℕ) → setOutOfRange (p .switches) set ≡ false → answer (calling k s (outcome o) (consoleWith set Nothing)) ≡ refused 15
 
