@@ -1,5 +1,8 @@
 -- Refusal 19, then those of the listing, or the switches and the links in service of its plant. Assumes nothing.
+use mathlib.Core.List.{[], _∷_}
+use lib.Dec.{ltb}
 use borrow.Author.Needs.{needs}
+use Rattle.answers.specs.Checks.{Judges}
 use Rattle.consoles.specs.Calls.{consoleOutOfRange}
 use Rattle.consoles.proofs.Sizing.{sized-on, sized-off}
 use Rattle.consoles.proofs.size_of.Statement.{statement}
@@ -11,7 +14,8 @@ returns c =
     let m = c .before in
     let f = m .before .before in
     let u = f .before in
-    sized-on _ _ _ _ (u .before .plan .ensures .0) _ (u .judge .ensures) _ (f .first-of .ensures) (m .enum-told .given .1) _ (c .links-in-service .ensures)
+    let known : Judges ((19, ltb 3 (u .before .before .before .before .before .args .console)) ∷ []) (u .judge .result) = u .judge .ensures in
+    sized-on _ _ _ _ (u .before .plan .ensures .0) _ known _ (f .first-of .ensures) (m .enum-told .given .1) _ (c .links-in-service .ensures)
 
 returns-2 : tie.Need-returns-2
 unfolding consoleOutOfRange
@@ -19,7 +23,8 @@ returns-2 c =
     let m = c .before in
     let f = m .before .before in
     let u = f .before in
-    sized-off _ _ _ _ (u .before .plan .ensures .0) _ (u .judge .ensures) _ (f .first-of .ensures) _ (m .k .given .1)
+    let known : Judges ((19, ltb 3 (u .before .before .before .before .before .args .console)) ∷ []) (u .judge .result) = u .judge .ensures in
+    sized-off _ _ _ _ (u .before .plan .ensures .0) _ known _ (f .first-of .ensures) _ (m .k .given .1)
 
 pub size-of-spec : {M : Type 1} → statement M
 size-of-spec =
