@@ -14,8 +14,9 @@ returns c =
     let m = c .before in
     let f = m .before .before in
     let u = f .before in
-    let known : Judges ((19, ltb 3 (u .before .before .before .before .before .args .console)) ∷ []) (u .judge .result) = u .judge .ensures in
-    sized-on _ _ _ _ (u .before .plan .ensures .0) _ known _ (f .first-of .ensures) (m .enum-told .given .1) _ (c .links-in-service .ensures)
+    let k = u .before .before .before .before .before .args .console in
+    let known : Judges ((19, ltb 3 k) ∷ []) (u .judge .result) = u .judge .ensures in
+    sized-on k _ _ _ (u .before .plan .ensures .0) _ known _ (f .first-of .ensures) (m .enum-told .given .1) _ (c .links-in-service .ensures)
 
 returns-2 : tie.Need-returns-2
 unfolding consoleOutOfRange
@@ -23,8 +24,9 @@ returns-2 c =
     let m = c .before in
     let f = m .before .before in
     let u = f .before in
-    let known : Judges ((19, ltb 3 (u .before .before .before .before .before .args .console)) ∷ []) (u .judge .result) = u .judge .ensures in
-    sized-off _ _ _ _ (u .before .plan .ensures .0) _ known _ (f .first-of .ensures) _ (m .k .given .1)
+    let k = u .before .before .before .before .before .args .console in
+    let known : Judges ((19, ltb 3 k) ∷ []) (u .judge .result) = u .judge .ensures in
+    sized-off k _ _ _ (u .before .plan .ensures .0) _ known _ (f .first-of .ensures) _ (m .k .given .1)
 
 pub size-of-spec : {M : Type 1} → statement M
 size-of-spec =
