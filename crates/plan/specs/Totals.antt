@@ -1,4 +1,4 @@
--- What document 02's order 2 says of the rules by sending switch, for a plant that can be planned.
+-- What document 02's order 2 says of the rules by sending switch, for a sound plant.
 use mathlib.Core.Path.{_≡_}
 use Prim.Native.Nat.{ℕ, _+_, _≤_, _<_}
 use Rattle.lists.specs.Arrays.{at}
@@ -7,7 +7,8 @@ use Rattle.plant.specs.declared.Plant.{Plant}
 use Rattle.walks.specs.Graph.{liveLinks, bridges}
 use Rattle.senders.specs.declared.BySwitch.{BySwitch}
 use Rattle.senders.specs.Senders.{sentBy}
-use Rattle.plan.specs.Plan.{arcsUsed, rulesOf}
+use Rattle.walks.specs.Components.{arcsUsed}
+use Rattle.plan.specs.Plan.{rulesOf}
 
 pub record Totals (p : Plant) (b : BySwitch) : Type 0 where
   -- "the number of rules that each switch sends by": of the rules in the forwarding table, those that have it as sending switch

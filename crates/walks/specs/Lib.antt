@@ -2,6 +2,7 @@ pub mod Walk
 pub mod Visit
 pub mod Arcs
 pub mod Graph
+pub mod Components
 pub mod Round
 pub mod ByLinks
 pub mod Cases
