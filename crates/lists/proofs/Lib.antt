@@ -11,3 +11,4 @@ pub mod Parts
 pub mod Padded
 pub mod Laid
 pub mod Sum
+pub mod SumOf
