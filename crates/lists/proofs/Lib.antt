@@ -12,3 +12,4 @@ pub mod Padded
 pub mod Laid
 pub mod Sum
 pub mod SumOf
+pub mod Chained

@@ -3,7 +3,8 @@ use mathlib.Core.Path.{_≡_, refl, sym, ap, _∙_}
 use mathlib.Core.Logic.{_⊎_, inl, inr, _↔_}
 use mathlib.Core.Bool.{Bool}
 use mathlib.Core.List.{List, [], _∷_, map}
-use Prim.Native.Nat.{ℕ, zero, suc, _+_, _≤_, _<_}
+use Prim.Native.Nat.{ℕ, zero, suc, _+_, _*_, _≤_, _<_}
+use native.Mathlib.Nat.{mul-add}
 use native.Mathlib.Omega.{arith}
 use lib.Dec.{T}
 use lib.ListN.{length}
@@ -22,6 +23,10 @@ sums-same f g (r ∷ rs) e = omega (arith, e r (inl refl), sums-same f g rs (λ 
 pub sums-plus : (f g : ℕ → ℕ) (rs : List ℕ) → sumOf (map (λ r. f r + g r) rs) ≡ sumOf (map f rs) + sumOf (map g rs)
 sums-plus f g [] = refl
 sums-plus f g (r ∷ rs) = omega (arith, sums-plus f g rs)
+
+pub sums-times : (k : ℕ) (f : ℕ → ℕ) (rs : List ℕ) → sumOf (map (λ r. k * f r) rs) ≡ k * sumOf (map f rs)
+sums-times k f [] = omega arith
+sums-times k f (r ∷ rs) = ap (λ (n : ℕ). k * f r + n) (sums-times k f rs) ∙ sym (mul-add k (f r) (sumOf (map f rs)))
 
 pub sums-none : (f : ℕ → ℕ) (rs : List ℕ) → ((r : ℕ) → In r rs → f r ≡ 0) → sumOf (map f rs) ≡ 0
 sums-none f [] e = refl

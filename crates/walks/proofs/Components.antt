@@ -1,6 +1,6 @@
 -- The components of a plant (document 02, order 9): to be joined goes both ways and on; every component has one root, the roots are listed once each, and they are as order 9
 -- says; theorem B over the whole plant, and that the components together have its switches, its links, its bridges and its arcs in use. At the end, the same for a plant
--- whose switches are all reached from the start. Assumes a valid plant whose start is a switch of it; `used-arc` assumes nothing.
+-- whose switches are all reached from the start. Assumes a valid plant whose start is a switch of it; `used-arc` and `used-reached` assume nothing.
 use mathlib.Core.Path.{_≡_, refl, sym, ap, _∙_, subst}
 use mathlib.Core.Logic.{_⊎_, inl, inr, ⊎-elim, _↔_}
 use mathlib.Core.Bool.{Bool, true, not, _&&_}
@@ -36,6 +36,10 @@ module _ (p : Plant) where
   pub used-arc : (a : ℕ) → T (used p a) → Arc p a
   unfolding used
   used-arc a t = from-arc p (rootOf p (tail p a)) a t
+
+  -- an arc in use from a root leaves a switch that is reached from it
+  pub used-reached : (r a : ℕ) → T (usedFrom p r a) → T (reachedFrom p r (tail p a))
+  used-reached r a t = in→memb (tail p a) (visitedFrom p r .ord) (used-is p r a .0 t .0)
 
 module _ (p : Plant) (ok : Valid p) (start-in : p .start < p .switches) where
   abbrev S : ℕ
@@ -216,7 +220,7 @@ module _ (p : Plant) (ok : Valid p) (start-in : p .start < p .switches) where
   -- ---- the arcs in use
 
   -- the root of what a listed root reaches
-  reaches-root : (r x : ℕ) → In r (roots p) → T (reachedFrom p r x) → rootOf p x ≡ r
+  pub reaches-root : (r x : ℕ) → In r (roots p) → T (reachedFrom p r x) → rootOf p x ≡ r
   reaches-root r x i t = let q = in-roots r .0 i in reached-root r x (q .0) (q .1) .0 t .1
 
   pub used-in : (r a : ℕ) → In r (roots p) → T (reachedFrom p r (tail p a)) → used p a ≡ usedFrom p r a
@@ -227,11 +231,8 @@ module _ (p : Plant) (ok : Valid p) (start-in : p .start < p .switches) where
   unfolding used
   used-own r a e t = subst (λ (k : ℕ). T (usedFrom p k a)) e t
 
-  used-reached : (r a : ℕ) → T (usedFrom p r a) → T (reachedFrom p r (tail p a))
-  used-reached r a t = in→memb (tail p a) (visitedFrom p r .ord) (used-is p r a .0 t .0)
-
   pub used-from : (r a : ℕ) → In r (roots p) → T (usedFrom p r a) → T (used p a)
-  used-from r a i t = subst T (sym (used-in r a i (used-reached r a t))) t
+  used-from r a i t = subst T (sym (used-in r a i (used-reached p r a t))) t
 
   pub used-root : (a : ℕ) → T (used p a) → (r : ℕ) × In r (roots p) × T (usedFrom p r a)
   unfolding used
@@ -323,7 +324,7 @@ module _ (p : Plant) (ok : Valid p) (start-in : p .start < p .switches) where
   unfolding arcsUsedFrom arcsUsed
   arcs-sum =
       parts-count (used p) (usedFrom p) (λ a. rootOf p (tail p a)) (roots p) roots-distinct (2 * p .count)
-      (λ a h t. root-listed (tail p a) (tail-in p ok a (used-arc p a t))) (λ r a i h. (λ t. (used-from r a i t, reaches-root r (tail p a) i (used-reached r a t)), λ q. used-own r a (q .1) (q .0)))
+      (λ a h t. root-listed (tail p a) (tail-in p ok a (used-arc p a t))) (λ r a i h. (λ t. (used-from r a i t, reaches-root r (tail p a) i (used-reached p r a t)), λ q. used-own r a (q .1) (q .0)))
 
   -- each component has fewer bridges than switches
   pub few-roots-bridges : bridges p + length (roots p) ≤ S
