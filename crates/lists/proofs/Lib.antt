@@ -11,3 +11,5 @@ pub mod Parts
 pub mod Padded
 pub mod Laid
 pub mod Sum
+pub mod SumOf
+pub mod Chained

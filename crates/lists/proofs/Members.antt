@@ -1,5 +1,5 @@
 -- Laws of membership: as a relation, as a test, at a place; a test at all members, and what holds of each. Assumes nothing.
-use mathlib.Core.Path.{_≡_, refl, sym, ap, _∙_}
+use mathlib.Core.Path.{_≡_, refl, sym, ap, _∙_, subst}
 use mathlib.Core.Logic.{_⊎_, inl, inr, ⊎-elim}
 use mathlib.Core.Bool.{Bool, true, _&&_, _||_, and-assoc, or-assoc}
 use mathlib.Core.List.{List, [], _∷_, _++_, map}
@@ -70,6 +70,14 @@ pub in-getD : (xs : List ℕ) (x : ℕ) → In x xs → (i : ℕ) × (i < length
 in-getD [] x h = absurd h
 in-getD (y ∷ xs) x (inl e) = (0, omega arith, sym e)
 in-getD (y ∷ xs) x (inr h) = let r = in-getD xs x h in (suc (r .0), omega (arith, r .1), r .2)
+
+-- in a list without a member twice, a member has one place
+pub distinct-at : (xs : List ℕ) → Distinct xs → (i j : ℕ) → i < length xs → j < length xs → getD xs i 0 ≡ getD xs j 0 → i ≡ j
+distinct-at [] d i j h k e = absurd (omega arith)
+distinct-at (x ∷ xs) d zero zero h k e = refl
+distinct-at (x ∷ xs) d zero (suc j) h k e = absurd (d .0 (subst (λ (y : ℕ). In y xs) (sym e) (getD-in xs j (omega arith))))
+distinct-at (x ∷ xs) d (suc i) zero h k e = absurd (d .0 (subst (λ (y : ℕ). In y xs) e (getD-in xs i (omega arith))))
+distinct-at (x ∷ xs) d (suc i) (suc j) h k e = ap suc (distinct-at xs (d .1) i j (omega arith) (omega arith) e)
 
 pub all-at : (p : ℕ → Bool) (xs : List ℕ) → all p xs ≡ true → (x : ℕ) → In x xs → p x ≡ true
 all-at p [] e x h = absurd h

@@ -53,6 +53,11 @@ in-keep p a (x ∷ xs) h t = go (λ i. in-keep p a xs i t) h (T-or (p x))
     go rec (inl e) (inr f) = absurd (f (subst (λ (k : ℕ). T (p k)) e t))
     go rec (inr i) (inr f) = subst (λ (l : List ℕ). In a l) (sym (keep-no p x xs f)) (rec i)
 
+-- where no member passes, none is kept
+pub keep-none : (p : ℕ → Bool) (xs : List ℕ) → ((x : ℕ) → In x xs → T (p x) → ⊥) → keep p xs ≡ []
+keep-none p [] f = refl
+keep-none p (x ∷ xs) f = keep-no p x xs (f x (inl refl)) ∙ keep-none p xs (λ y h. f y (inr h))
+
 pub every-at : (n : ℕ) (p : ℕ → Bool) → T (every n p) → (k : ℕ) → k < n → T (p k)
 unfolding every
 every-at zero p t k h = absurd (omega arith)

@@ -57,7 +57,7 @@ module _ (p : Plant) (ok : Valid p) (r : ℕ) (r-in : r < p .switches) where
       (bit-ltb (rank (tail p a) found) (rank (head p a) found) (λ e. ends-apart p ok a h (rank-inj (tail p a) (head p a) found i j e))))
 
   module _ (l : ℕ) (here : T (reachedFrom p r (first p l))) (part : T (live p l)) where
-    used-pair : bit (usedFrom p r (2 * l)) + bit (usedFrom p r (2 * l + 1)) ≡ suc (bit (bridge p l))
+    pub used-pair : bit (usedFrom p r (2 * l)) + bit (usedFrom p r (2 * l + 1)) ≡ suc (bit (bridge p l))
     used-pair =
         let e = used-opposite (2 * l) (even-arc p l part) (subst (λ (x : ℕ). In x found) (sym (tail-even p l)) (memb→in (first p l) found here)) in
         rw (opposite-even l, even-half l) at e

@@ -7,6 +7,7 @@ pub mod Visited
 pub mod Tests
 pub mod Orientation
 pub mod Counting
+pub mod Components
 pub mod Cycles
 pub mod Fewest
 pub mod ByLinks
