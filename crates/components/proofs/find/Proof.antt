@@ -1,55 +1,59 @@
+-- `components::find` meets its contract. The loop's invariant: the components of the start and of the roots below x are found. Assumes nothing.
+use mathlib.Core.Path.{_≡_, sym, subst}
+use mathlib.Core.Logic.{⊎-elim}
+use mathlib.Core.List.{List, [], _∷_}
+use Prim.Native.Nat.{ℕ, _-_, _≤_}
+use native.Mathlib.Omega.{arith}
+use Rattle.lists.specs.Numbers.{range, keep}
+use Rattle.walks.specs.Components.{begunAt}
+use Rattle.components.specs.Inner.{Covers}
+use Rattle.components.proofs.Scanning.{rootsTo, roots-to, to-begun, to-other, room, apart, begins, begins-not, finds}
 use Rattle.components.proofs.find.Statement.{statement}
 use Rattle.components.proofs.find.Tie as tie
-use Rattle.components.proofs.find.Reads as reads
-use Rattle.components.proofs.find.Lts as lts
-use Rattle.components.proofs.nothing.Reads as nothing-reads
-use Rattle.components.proofs.with_component.Reads as with-component-reads
 
 abbrev Inv-loop : tie.InvT-loop
-Inv-loop p tails heads f₀ x₀ f x = ?
+Inv-loop p tails heads f₀ x₀ f x = (x ≤ p .switches) × Covers p (p .start ∷ keep (begunAt p) (range 0 x)) f
 
 abbrev μ-loop : tie.MeasureT-loop
-μ-loop p tails heads f₀ x₀ f x = ?
+μ-loop p tails heads f₀ x₀ f x = p .switches - x
 
--- src/lib.rt:113:49
-nothing-requires : tie.Need-nothing-requires Inv-loop μ-loop
-nothing-requires c κs = ?
-
--- src/lib.rt:113:17
 with-component-requires : tie.Need-with-component-requires Inv-loop μ-loop
-with-component-requires c κs = ?
+with-component-requires c κs = let h = c .before .pre in (h .0, (h .1, (h .0 .start-in, (omega (arith, c .nothing .ensures (c .before .args .p) .count-is), ([], c .nothing .ensures (c .before .args .p))))))
 
--- src/lib.rt:115:5
 loop-holds : tie.Need-loop-holds Inv-loop μ-loop
-loop-holds c = ?
+loop-holds c =
+    let n = c .before in
+    (omega arith, c .with-component .ensures [] (n .nothing .ensures (n .before .args .p)) (λ s x z. absurd z))
 
--- src/lib.rt:116:17
-cast-i : tie.Need-cast-i Inv-loop μ-loop
-cast-i c = ?
-
--- src/lib.rt:117:12
-element-copy-out-if2 : tie.Need-element-copy-out-if2 Inv-loop μ-loop
-element-copy-out-if2 c = ?
-
--- src/lib.rt:118:17
 with-component-requires-2 : tie.Need-with-component-requires-2 Inv-loop μ-loop
-with-component-requires-2 c κs = ?
+with-component-requires-2 c κs =
+    let l = c .before .before .before .before in
+    let h = l .before .before .before .pre in
+    let x-in = c .before .before .if1 .taken in
+    let t = begins _ (h .0) _ x-in _ (l .loop .inv .1) (c .if2 .taken) in
+    (h .0, (h .1, (x-in, (omega (arith, l .loop .inv .1 .count-is, room _ (h .0) _ x-in t), (_, l .loop .inv .1)))))
 
--- src/lib.rt:120:9
-add-x : tie.Need-add-x Inv-loop μ-loop
-add-x c = ?
-
--- src/lib.rt:115:5
-loop-less : tie.Need-loop-less Inv-loop μ-loop
-loop-less c = ?
-
--- src/lib.rt:115:5
 loop-again : tie.Need-loop-again Inv-loop μ-loop
-loop-again c = ?
+loop-again c =
+    let i = c .before .before in
+    let l = i .before .before in
+    let h = l .before .before .before .pre in
+    let p = l .before .before .before .args .p in
+    let x-in = i .if1 .taken in (
+      omega (arith, x-in),
+      ⊎-elim
+          (λ w. let t = begins _ (h .0) _ x-in _ (l .loop .inv .1) (w .0 .taken) in
+          rw (w .2) (subst (λ (rs : List ℕ). Covers p rs (w .1 .result)) (sym (to-begun _ (h .0) _ t)) (w .1 .ensures _ (l .loop .inv .1) (apart _ (h .0) _ x-in t))))
+          (λ w. rw (w .1) (subst (λ (rs : List ℕ). Covers p rs (l .loop .f)) (sym (to-other _ (h .0) _ (begins-not _ (h .0) _ x-in _ (l .loop .inv .1) (w .0 .left)))) (l .loop .inv .1))) (c .if2 .came),
+    )
 
--- src/lib.rt:108:1
 returns : tie.Need-returns Inv-loop μ-loop
-returns c = ?
+returns c =
+    let l = c .before .before in
+    let h = l .before .before .before .pre in
+    let p = l .before .before .before .args .p in
+    let e : l .loop .x ≡ p .switches = omega (arith, c .if1 .left) in
+    finds _ (h .0) _ (subst (λ (rs : List ℕ). Covers p rs (l .loop .f)) (roots-to p (h .0)) (subst (λ (n : ℕ). Covers p (rootsTo p (h .0) n) (l .loop .f)) e (l .loop .inv .1)))
 
 pub find-spec : {M : Type 1} → statement M
 find-spec =
@@ -57,13 +61,13 @@ find-spec =
     (tie.spec
     Inv-loop
     μ-loop
-    nothing-requires
+    (λ c κs. tt)
     with-component-requires
     loop-holds
-    cast-i
-    element-copy-out-if2
+    (λ c. omega (arith, c .if1 .taken, c .before .before .before .before .before .pre .0 .few-switches))
+    (λ c. omega (arith, c .if1 .taken, c .before .before .before .before .before .pre .0 .few-switches))
     with-component-requires-2
-    add-x
-    loop-less
+    (λ c. omega (arith, c .before .before .if1 .taken, c .before .before .before .before .before .before .before .pre .0 .few-switches))
+    (λ c. omega (arith, c .before .before .if1 .taken))
     loop-again
     returns)
