@@ -1,45 +1,70 @@
--- Inner: what the parts of a plan are: each is what the definitions say of the plant from the root. Inner functions ask for it. Assumes nothing.
+-- Inner: what the parts of a plan are: each is what the definitions say of the plant, over all its components. Inner functions ask for it. Assumes nothing.
 use mathlib.Core.Path.{_≡_}
-use mathlib.Core.List.{List}
-use Prim.Native.Nat.{ℕ, _*_}
+use mathlib.Core.Bool.{Bool}
+use mathlib.Core.List.{List, map}
+use Prim.Native.Nat.{ℕ, _*_, _<_}
+use lib.ListN.{length, getD}
+use Rattle.lists.specs.Arrays.{at}
+use Rattle.lists.specs.Members.{In}
+use Rattle.lists.specs.Numbers.{range}
 use Rattle.plant.specs.declared.Plant.{Plant}
 use Rattle.limits.specs.Limits.{maxLinks}
 use Rattle.limits.specs.Sound.{Sound}
-use Rattle.walks.specs.Graph.{bridgeFrom, usedFrom}
-use Rattle.plan.specs.Plan.{Connected}
+use Rattle.walks.specs.Graph.{bridge, usedFrom, linksFrom}
+use Rattle.walks.specs.Components.{roots, componentOf, used}
+use Rattle.plan.specs.Plan.{trailOf}
 use Rattle.arcs.specs.declared.Net.{Net}
+use Rattle.arcs.specs.declared.Legs.{Legs}
 use Rattle.arcs.specs.Net.{Ends}
 use Rattle.arcs.specs.Parts as network
 use Rattle.arcs.specs.Flags.{Flags}
-use Rattle.arcs.specs.Shows.{Visits}
 use Rattle.arcs.specs.Legs.{LegsOf}
 use Rattle.planning.specs.declared.Parts.{Parts}
+use Rattle.planning.specs.Components.{componentsOf}
 
--- the network of a plant from the root r
+-- the network of a plant from the root r, and flags of its arcs in use from there, which no code holds
 abbrev pub netOf : Plant → ℕ → Net
 netOf p r = record { switches = p .switches; labels = 2 * p .count; root = r }
 
--- the parts x are those of the plant p from the root r
-pub record PartsOf (p : Plant) (r : ℕ) (x : Parts) : Type 0 where
-  pub plant-is : x .plant ≡ p
-  pub net-is : x .net ≡ netOf p r
-  pub ends : Ends p (x .tails) (x .heads)
-  pub bridges-are : Flags maxLinks (bridgeFrom p r) (x .bridges)
-  pub used-are : Flags (2 * maxLinks) (usedFrom p r) (x .used)
-  pub legs-are : LegsOf (x .net) (x .tails) (x .heads) (x .used) (x .legs)
-  pub visits : Visits p r (x .visited)
+unfoldable pub usedFlags : Plant → ℕ → List Bool
+usedFlags p r = map (usedFrom p r) (range 0 (2 * maxLinks))
 
--- the parts x are those of a sound plant that is connected, from its start
-pub record FromStart (x : Parts) : Type 0 where
-  pub sound : Sound (x .plant)
-  pub connected : Connected (x .plant)
-  pub parts : PartsOf (x .plant) (x .plant .start) x
+-- the links in service of each component, by its number
+abbrev pub LinksBy : Plant → List ℕ → Type 0
+LinksBy p links = (i : ℕ) → i < length (roots p) → at links i ≡ linksFrom p (getD (roots p) i 0)
 
--- with the table of distances t they are what the trail is laid by
-abbrev pub WithTable : Parts → List (List ℕ) → Type 0
-WithTable x t = network.Parts (x .net) (x .tails) (x .heads) (x .used) (x .first) (x .after) t
+module _ (x : Parts) where
+  -- the plant is sound, and these are its ends of arcs, components, bridges and arcs in use
+  pub record Charted : Type 0 where
+    pub sound : Sound (x .plant)
+    pub net-is : x .net ≡ netOf (x .plant) (x .plant .start)
+    pub ends : Ends (x .plant) (x .tails) (x .heads)
+    pub count-is : x .count ≡ length (roots (x .plant))
+    pub roots-are : (i : ℕ) → i < length (roots (x .plant)) → at (x .roots) i ≡ getD (roots (x .plant)) i 0
+    pub homes : (y : ℕ) → y < x .plant .switches → at (x .home) y ≡ componentOf (x .plant) y
+    pub bridges-are : Flags maxLinks (bridge (x .plant)) (x .bridges)
+    pub used-are : Flags (2 * maxLinks) (used (x .plant)) (x .used)
 
--- the parts x and the table t are the plan of such a plant
-pub record Plan (x : Parts) (t : List (List ℕ)) : Type 0 where
-  pub from-start : FromStart x
-  pub table : WithTable x t
+  -- the components with their hops, and the hops of all
+  pub record Measured : Type 0 where
+    pub components-are : x .components ≡ componentsOf (x .plant)
+    pub hops-are : x .hops ≡ length (trailOf (x .plant))
+
+  pub record OfPlant : Type 0 where
+    pub charted : Charted
+    pub measured : Measured
+
+  -- these are the legs of the trail from the root r
+  abbrev pub LegsFrom : ℕ → Legs → Type 0
+  LegsFrom r legs = LegsOf (netOf (x .plant) r) (x .tails) (x .heads) (usedFlags (x .plant) r) legs
+
+  -- with the table of distances t they are what the trail of each component is laid by
+  pub record Laying (t : List (List ℕ)) : Type 0 where
+    pub charted : Charted
+    pub tables : (r : ℕ) → In r (roots (x .plant)) → network.Parts (netOf (x .plant) r) (x .tails) (x .heads) (usedFlags (x .plant) r) (x .first) (x .after) t
+    pub legs-are : LegsFrom (x .plant .start) (x .legs)
+
+  -- the parts x and the table t are the plan of a plant
+  pub record Plan (t : List (List ℕ)) : Type 0 where
+    pub laying : Laying t
+    pub measured : Measured
