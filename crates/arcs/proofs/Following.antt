@@ -1,4 +1,5 @@
--- What follows along a chain: from label a on, the lowest label of a flagged arc that leaves x, or the number of labels if there is none. Assumes nothing.
+-- What follows along a chain: from label a on, the lowest label of a flagged arc that leaves x, or the number of labels if there is none. The chains of the parts of a
+-- plan tell it.
 use mathlib.Core.Path.{_≡_, sym, ap, _∙_, subst}
 use mathlib.Core.Logic.{⊎-elim}
 use mathlib.Core.Bool.{Bool}
@@ -6,11 +7,12 @@ use mathlib.Core.List.{List}
 use Prim.Native.Nat.{ℕ, suc, _≤_, _<_}
 use native.Mathlib.Omega.{arith}
 use lib.Dec.{T, eqb, eqb→eq}
-use Rattle.lists.specs.Arrays.{at}
+use Rattle.lists.specs.Arrays.{flag, at}
 use Rattle.lists.proofs.Least.{First}
 use Rattle.lists.proofs.Tests.{below?, eq→eqb, and-left, and-right, and-both}
-use Rattle.limits.specs.Limits.{maxSwitches}
-use Rattle.arcs.specs.Chains.{leaving, following, Chained}
+use Rattle.arcs.specs.declared.Net.{Net}
+use Rattle.arcs.specs.Chains.{leaving, following}
+use Rattle.arcs.specs.Parts.{Parts}
 use Rattle.arcs.proofs.Chain.{following-is}
 
 module _ (n : ℕ) (tl : ℕ → ℕ) (ok : ℕ → Bool) (x : ℕ) where
@@ -36,9 +38,10 @@ module _ (n : ℕ) (tl : ℕ → ℕ) (ok : ℕ → Bool) (x : ℕ) where
       f : First a n (leaving n tl ok x) k
       f = following-is n tl ok x a h
 
-module _ {n : ℕ} {tl : ℕ → ℕ} {ok : ℕ → Bool} {first after : List ℕ} (chained : Chained n tl ok first after) where
-  pub follows-first : (x : ℕ) → x < maxSwitches → Follows n tl ok x 0 (at first x)
-  follows-first x h = follows n tl ok x 0 (at first x) (omega arith) (chained .firsts x h)
+module _ {net : Net} {tails heads : List ℕ} {used : List Bool} {first after : List ℕ} {t : List (List ℕ)} (p : Parts net tails heads used first after t) where
+  pub follows-first : (x : ℕ) → T (p .part x) → Follows (net .labels) (at tails) (flag used) x 0 (at first x)
+  follows-first x h = follows (net .labels) (at tails) (flag used) x 0 (at first x) (omega arith) (p .firsts x h)
 
-  pub follows-after : (x a : ℕ) → a < n → T (ok a) → tl a ≡ x → Follows n tl ok x (suc a) (at after a)
-  follows-after x a h t e = follows n tl ok x (suc a) (at after a) h (chained .afters a h t ∙ ap (λ (y : ℕ). following n tl ok y (suc a)) e)
+  pub follows-after : (x a : ℕ) → a < net .labels → T (flag used a) → at tails a ≡ x → Follows (net .labels) (at tails) (flag used) x (suc a) (at after a)
+  follows-after x a h l e =
+      follows (net .labels) (at tails) (flag used) x (suc a) (at after a) h (p .afters a h l ∙ ap (λ (y : ℕ). following (net .labels) (at tails) (flag used) y (suc a)) e)

@@ -38,12 +38,12 @@ module _ {net : Net} {tails heads : List ℕ} {used : List Bool} {first after : 
       omega (arith, tour .short, mul-le-mul-right (count (net .labels) (flag used)) few, few, p .few-arcs)
 
   -- in the part there is a way from each switch to each
-  pub part-joined : (u v : ℕ) → T (p .part u) → T (p .part v) → Joined net tails heads used u v
+  pub part-joined : (u v : ℕ) → T (p .part u) → T (p .part v) → Joined net tails heads used (p .part) u v
   part-joined u v h i =
       let d = dist-lt (net .switches) (net .labels) (at tails) (at heads) (flag used) (net .root) (p .part) (p .strong) u v h i in
-      record { from-in = p .strong .inside u h; to-in = p .strong .inside v i; reached = omega (arith, d, count-all (net .switches) (p .part)) }
+      record { from-part = h; to-part = i; from-in = p .strong .inside u h; to-in = p .strong .inside v i; reached = omega (arith, d, count-all (net .switches) (p .part)) }
 
   -- it has as many hops as the table says
-  pub way-size : {u v : ℕ} → Joined net tails heads used u v → length (routeIn net tails heads used u v) ≡ cell t u v
+  pub way-size : {u v : ℕ} → Joined net tails heads used (p .part) u v → length (routeIn net tails heads used u v) ≡ cell t u v
   way-size {u} {v} j =
-      route-length (net .switches) (net .labels) (at tails) (at heads) (flag used) u v ∙ sym (entry-in (p .within) (p .table) u v (j .from-in) (j .to-in))
+      route-length (net .switches) (net .labels) (at tails) (at heads) (flag used) u v ∙ sym (p .cells u v (j .from-part) (j .to-part))

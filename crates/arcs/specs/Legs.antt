@@ -3,6 +3,7 @@ use mathlib.Core.Path.{_≡_}
 use mathlib.Core.Bool.{Bool}
 use mathlib.Core.List.{List, [], _∷_, _++_}
 use Prim.Native.Nat.{ℕ, _≤_, _<_}
+use lib.Dec.{T}
 use lib.ListN.{length, take}
 use Rattle.lists.specs.Arrays.{flag, at}
 use Rattle.lists.specs.Members.{In}
@@ -21,8 +22,10 @@ module _ (net : Net) (tails heads : List ℕ) (used : List Bool) where
   abbrev pub hopIn : ℕ → ℕ → ℕ
   hopIn u v = hop (net .switches) (net .labels) (at tails) (at heads) (flag used) u v
 
-  -- a way leads from u to v
-  pub record Joined (u v : ℕ) : Type 0 where
+  -- u and v are switches of a part, and a way leads from u to v
+  pub record Joined (part : ℕ → Bool) (u v : ℕ) : Type 0 where
+    pub from-part : T (part u)
+    pub to-part : T (part v)
     pub from-in : u < net .switches
     pub to-in : v < net .switches
     pub reached : distanceIn net tails heads used u v < net .switches

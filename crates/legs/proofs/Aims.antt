@@ -26,7 +26,8 @@ use Rattle.arcs.specs.Table.{cell, trailIn}
 use Rattle.arcs.specs.Parts.{Parts}
 use Rattle.arcs.proofs.Following.{follows-after}
 use Rattle.arcs.specs.Legs.{routeIn, Joined, along, LegsOf}
-use Rattle.arcs.proofs.Ways.{entry-in, parts-hops, part-joined, way-size}
+use Rattle.arcs.proofs.Ways.{parts-hops, part-joined, way-size}
+use Rattle.legs.specs.Firsts.{Firsts}
 use Rattle.legs.specs.Nearest.{Lows, Tabled, NearestBy}
 use Rattle.legs.proofs.Lows.{lows-first, lows-next, nearest-low}
 
@@ -52,15 +53,20 @@ module _ {net : Net} {tails heads : List ℕ} {used : List Bool} {first after : 
   abbrev by : List ℕ → ℕ → List ℕ
   by w u = along net tails heads used w u
 
-  abbrev pub tabled : Tabled S n t
-  tabled = record {
+  -- what the search for the nearest arc goes by
+  abbrev tabled : (low : List ℕ) (u : ℕ) (m : ℕ → Bool) → T (p .part u) → Lows S n tl ok (at low) m → Tabled S n t low u
+  tabled low u m h lows = record {
     tl = tl;
     hd = hd;
     ok = ok;
     few-switches = p .within .few-switches;
     few-labels = p .within .few-labels;
-    tail-in = p .within .tail-in;
-    cells = entry-in (p .within) (p .table);
+    part = p .part;
+    inside = p .strong .inside;
+    tails = p .strong .tails;
+    here = h;
+    leave = λ y i l. let b = lows .labels y i l in subst (λ (x : ℕ). T (p .part x)) (b .1) (p .strong .tails (at low y) l (b .0));
+    cells = λ v i. p .cells u v h i;
   }
 
   -- what is left of the trail at u, after so many legs
@@ -80,15 +86,18 @@ module _ {net : Net} {tails heads : List ℕ} {used : List Bool} {first after : 
     pub goes : (w : List ℕ) → by w u ≡ rest k crossed u → by (take k aims ++ w) (net .root) ≡ all
     pub counted : hops + length (rest k crossed u) ≡ length all
 
-  pub found-none : (low : List ℕ) (a : ℕ) → low ≡ first → length low ≡ maxSwitches → NearestBy S n t low (net .root) a
+  pub asks-first : (low : List ℕ) → Firsts S n (net .root) first t S low → Tabled S n t low (net .root)
+  asks-first low firsts = tabled low (net .root) unmarked (p .strong .starts) (lows-first p low firsts)
+
+  pub found-none : (low : List ℕ) (a : ℕ) → Firsts S n (net .root) first t S low → NearestBy S n t low (net .root) a
       → Found low (replicate maxRules 0) 0 0 (net .root) a
   unfolding trail
-  found-none low a e long near = record {
+  found-none low a firsts near = record {
     crossed = unmarked;
     inside = p .strong .starts;
-    low-places = long;
+    low-places = firsts .long;
     lows = lows;
-    next = near tabled unmarked lows;
+    next = near (tabled low (net .root) unmarked (p .strong .starts) lows) unmarked lows;
     few = omega (arith, count-le n (uncrossed ok unmarked) ok (λ b h v. and-left (ok b) true v));
     places = length-replicate {A = ℕ} maxRules 0;
     in-use = λ b i. absurd i;
@@ -97,7 +106,7 @@ module _ {net : Net} {tails heads : List ℕ} {used : List Bool} {first after : 
   }
     where
       lows : Lows S n tl ok (at low) unmarked
-      lows = subst (λ (l : List ℕ). Lows S n tl ok (at l) unmarked) (sym e) (lows-first (p .within .few-switches) (p .chained) (p .within .tail-in))
+      lows = lows-first p low firsts
 
       whole : rest 0 unmarked (net .root) ≡ all
       whole = let q : count n ok - 0 ≡ count n ok = omega arith in ap (λ (f : ℕ). legs S n tl hd ok (net .root) f unmarked (net .root)) q
@@ -111,7 +120,7 @@ module _ {net : Net} {tails heads : List ℕ} {used : List Bool} {first after : 
       pub from-low : u < maxSwitches
       pub label-low : a < 2 * maxLinks
       pub tail-low : tl a < maxSwitches
-      pub head-in : hd a < S
+      pub asks : Tabled S n t (set low (tl a) (at after a)) (hd a)
       pub room : k < maxRules
       pub short : hops + (cell t u (tl a) + 1) ≤ maxHops
       pub again : (b : ℕ) → NearestBy S n t (set low (tl a) (at after a)) (hd a) b
@@ -122,7 +131,7 @@ module _ {net : Net} {tails heads : List ℕ} {used : List Bool} {first after : 
       from-low = omega (arith, j .from-in, p .within);
       label-low = omega (arith, p .within);
       tail-low = omega (arith, j .to-in, p .within);
-      head-in = p .within .head-in a h live;
+      asks = asks;
       room = omega (arith, found .few, less, p .few-arcs);
       short = omega (arith, size, found .counted, parts-hops p);
       again = λ b then. record {
@@ -130,7 +139,7 @@ module _ {net : Net} {tails heads : List ℕ} {used : List Bool} {first after : 
         inside = p .strong .heads a h live;
         low-places = length-set low (tl a) (at after a) ∙ found .low-places;
         lows = lows;
-        next = then tabled m′ lows;
+        next = then asks m′ lows;
         few = omega (arith, found .few, less);
         places = length-set aims k a ∙ found .places;
         in-use = λ c i. ⊎-elim (found .in-use c) (⊎-elim (λ e. subst (InUse n ok) (sym e) (h, live)) (λ z. absurd z)) (in-append c (take k aims) (a ∷ []) (subst (In c) taken i));
@@ -149,7 +158,7 @@ module _ {net : Net} {tails heads : List ℕ} {used : List Bool} {first after : 
         live : T (ok a)
         live = and-left (ok a) (not (m a)) (near .is-left)
 
-        j : Joined net tails heads used u (tl a)
+        j : Joined net tails heads used (p .part) u (tl a)
         j = part-joined p u (tl a) (found .inside) (p .strong .tails a h live)
 
         w : List ℕ
@@ -173,7 +182,10 @@ module _ {net : Net} {tails heads : List ℕ} {used : List Bool} {first after : 
         lows : Lows S n tl ok (at (set low (tl a) (at after a))) m′
         lows =
             lows-next low m m′ (found .lows) a (at after a) (nearest-low (found .lows) hd u a near (j .to-in)) (omega (arith, j .to-in, p .within, found .low-places))
-            (follows-after (p .chained) (tl a) a h live refl) (λ b. leg-leaves S n tl hd ok (net .root) m u a b near (j .reached))
+            (follows-after p (tl a) a h live refl) (λ b. leg-leaves S n tl hd ok (net .root) m u a b near (j .reached))
+
+        asks : Tabled S n t (set low (tl a) (at after a)) (hd a)
+        asks = tabled (set low (tl a) (at after a)) (hd a) m′ (p .strong .heads a h live) lows
 
         taken : take (k + 1) (set aims k a) ≡ take k aims ++ (a ∷ [])
         taken = ap (λ (i : ℕ). take i (set aims k a)) (add-one k) ∙ take-suc-set aims k a (omega (arith, found .few, less, p .few-arcs, found .places))
@@ -200,7 +212,7 @@ module _ {net : Net} {tails heads : List ℕ} {used : List Bool} {first after : 
       };
     }
       where
-        j : Joined net tails heads used u (net .root)
+        j : Joined net tails heads used (p .part) u (net .root)
         j = part-joined p u (net .root) (found .inside) (p .strong .starts)
 
         end : rest k m u ≡ routeIn net tails heads used u (net .root)

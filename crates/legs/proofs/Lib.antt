@@ -1,3 +1,4 @@
+pub mod Firsts
 pub mod Lows
 pub mod Best
 pub mod Aims

@@ -1,35 +1,60 @@
 -- The lowest uncrossed labels of the switches: at first those of the chains, and after a leg the next label in the chain of the arc that it crossed.
 -- Assumes nothing.
-use mathlib.Core.Path.{_≡_, refl, sym, ap, _∙_}
+use mathlib.Core.Path.{_≡_, refl, sym, ap, _∙_, subst}
 use mathlib.Core.Logic.{_↔_, ⊎-elim}
-use mathlib.Core.Bool.{Bool, true, not}
+use mathlib.Core.Bool.{Bool, true, false, not}
 use mathlib.Core.List.{List}
 use Prim.Native.Nat.{ℕ, suc, _≤_, _<_}
 use native.Mathlib.Omega.{arith}
-use lib.Dec.{T}
+use borrow.Author.Tests.{lt-ltb, le-ltb}
+use lib.Dec.{T, ltb}
 use lib.ListN.{length, set}
-use Rattle.lists.specs.Arrays.{at}
-use Rattle.lists.proofs.Tests.{eq?, and-left, and-both}
-use Rattle.limits.specs.Limits.{maxSwitches}
+use Rattle.lists.specs.Arrays.{flag, at}
+use Rattle.lists.proofs.Tests.{T-or, eq?, and-left, and-both}
 use Rattle.routes.specs.Distance.{dist}
 use Rattle.routes.specs.Trail.{unmarked, uncrossed}
 use Rattle.routes.specs.Meaning.{InUse}
 use Rattle.routes.proofs.Nearest.{Nearest}
-use Rattle.arcs.specs.Chains.{Chained}
+use Rattle.arcs.specs.declared.Net.{Net}
+use Rattle.arcs.specs.Table.{cell}
+use Rattle.arcs.specs.Parts.{Parts}
 use Rattle.arcs.proofs.Following.{Follows, follows-first}
 use Rattle.arcs.proofs.Tables.{set-cases}
+use Rattle.arcs.proofs.Ways.{part-joined}
+use Rattle.legs.specs.Firsts.{firstOf, Firsts}
 use Rattle.legs.specs.Nearest.{Lows}
 
-module _ {S n : ℕ} {tl : ℕ → ℕ} {ok : ℕ → Bool} where
-  pub lows-first : {first after : List ℕ} → S ≤ maxSwitches → Chained n tl ok first after → ((b : ℕ) → b < n → T (ok b) → tl b < S) → Lows S n tl ok (at first) unmarked
-  lows-first few chained inside = record {
-    labels = λ x h i. let f = follows-first chained x (omega arith) in (f .flagged i, f .leaves i);
-    left = λ b i. (
-      λ _. follows-first chained (tl b) (omega (arith, inside b (i .0) (i .1))) .lowest b (omega arith) (i .0) (i .1) refl,
-      λ _. and-both (ok b) true (i .1) tt,
-    );
-  }
+-- at first, in the parts of a plan
+module _ {net : Net} {tails heads : List ℕ} {used : List Bool} {first after : List ℕ} {t : List (List ℕ)} (p : Parts net tails heads used first after t) (low : List ℕ)
+    (firsts : Firsts (net .switches) (net .labels) (net .root) first t (net .switches) low)
+  where
+    -- a switch of the part has its first arc, and any other none
+    first-in : (x : ℕ) → T (p .part x) → at low x ≡ at first x
+    unfolding firstOf
+    first-in x h =
+        let j = part-joined p (net .root) x (p .strong .starts) h in
+        let e : ltb (cell t (net .root) x) (net .switches) ≡ true = lt-ltb (cell t (net .root) x) (net .switches) (omega (arith, j .reached, p .cells (net .root) x (p .strong .starts) h)) in
+        firsts .done x (p .strong .inside x h) ∙ rw e refl
 
+    first-out : (x : ℕ) → x < net .switches → (T (p .part x) → ⊥) → at low x ≡ net .labels
+    unfolding firstOf
+    first-out x h f =
+        let e : ltb (cell t (net .root) x) (net .switches) ≡ false = le-ltb (cell t (net .root) x) (net .switches) (p .apart x h f) in
+        firsts .done x h ∙ rw e refl
+
+    pub lows-first : Lows (net .switches) (net .labels) (at tails) (flag used) (at low) unmarked
+    lows-first = record {
+      labels = λ x h i. ⊎-elim
+          (λ q. let f = follows-first p x q in subst (λ (a : ℕ). a < net .labels → T (flag used a) × (at tails a ≡ x)) (sym (first-in x q)) (λ k. (f .flagged k, f .leaves k)) i)
+          (λ q. absurd (omega (arith, i, first-out x h q))) (T-or (p .part x));
+      left = λ b i.
+          let q = p .strong .tails b (i .0) (i .1) in (
+            λ _. omega (arith, first-in (at tails b) q, follows-first p (at tails b) q .lowest b (omega arith) (i .0) (i .1) refl),
+            λ _. and-both (flag used b) true (i .1) tt,
+          );
+    }
+
+module _ {S n : ℕ} {tl : ℕ → ℕ} {ok : ℕ → Bool} where
   module _ {low : ℕ → ℕ} {m : ℕ → Bool} (lows : Lows S n tl ok low m) where
     -- the lowest of a switch is uncrossed, and no uncrossed arc of the switch is below it
     pub low-left : (y : ℕ) → y < S → low y < n → T (uncrossed ok m (low y))

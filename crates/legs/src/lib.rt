@@ -3,10 +3,11 @@
 use arcs::Legs;
 use arcs::Net;
 use plant::Plant;
-ghost use mathlib.Core.Path.{_≡_};
-ghost use Prim.Native.Nat.{_<_};
+ghost use Prim.Native.Nat.{_≤_, _<_};
+ghost use Rattle.limits.specs.Limits.{maxSwitches};
 ghost use Rattle.arcs.specs.Parts.{SomeParts};
 ghost use Rattle.arcs.specs.Legs.{LegsOf};
+ghost use Rattle.legs.specs.Firsts.{Firsts};
 ghost use Rattle.legs.specs.Nearest.{Tabled, NearestBy};
 
 // The uncrossed arc in use that is nearest to u, by distance and then by label; the number of labels if there is none. `low` has the lowest uncrossed label of each switch.
@@ -16,8 +17,7 @@ fn nearest(
     low: &[u16; Plant::PLACES],
     u: u8,
 ) -> u16
-    requires { ⌜ Tabled (net .switches) (net .labels) (now t) ⌝ }
-    requires { ⌜ u < net .switches ⌝ }
+    requires { ⌜ Tabled (net .switches) (net .labels) (now t) (now low) u ⌝ }
     ensures { λ r. ⌜ NearestBy (net .switches) (net .labels) (now (t .entry)) (now (low .entry)) u r ⌝ }
 {
     let n = net.labels;
@@ -43,11 +43,28 @@ fn nearest(
     best
 }
 
-// A copy of a number for each switch.
-fn copied(l: &[u16; Plant::PLACES]) -> [u16; Plant::PLACES]
-    ensures { λ r. ⌜ r ≡ now (l .entry) ⌝ }
+// The first arc of each switch that a walk from the root reaches; none of any other switch. The table tells which these are.
+fn firsts_reached(
+    net: Net,
+    first: &[u16; Plant::PLACES],
+    t: &[[u8; Plant::PLACES]; Plant::PLACES],
+) -> [u16; Plant::PLACES]
+    requires { ⌜ net .switches ≤ maxSwitches ⌝ }
+    requires { ⌜ net .root < net .switches ⌝ }
+    ensures { λ r. ⌜ Firsts (net .switches) (net .labels) (net .root) (now (first .entry)) (now (t .entry)) (net .switches) r ⌝ }
 {
-    *l
+    let m = net.switches;
+    let none = net.labels;
+    let root = net.root as usize;
+    let mut low = [none; Plant::PLACES];
+    let mut y: usize = 0;
+    while y < m as usize {
+        if t[root][y] < m {
+            low[y] = first[y];
+        }
+        y += 1;
+    }
+    low
 }
 
 // The legs of the trail. What is uncrossed is kept as the lowest uncrossed label of each switch.
@@ -64,7 +81,7 @@ pub fn legs_of(
 {
     let none = net.labels;
     let root = net.root as usize;
-    let mut low = copied(first);
+    let mut low = firsts_reached(net, first, &t);
     let mut aims = [0u16; Plant::MAX_RULES];
     let mut k: usize = 0;
     let mut hops: u16 = 0;

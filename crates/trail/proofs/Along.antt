@@ -42,7 +42,7 @@ module _ {net : Net} {tails heads : List ℕ} {used : List Bool} {first after : 
     pub record Leg (a : ℕ) : Type 0 where
       pub room : k < maxRules
       pub label-low : a < 2 * maxLinks
-      pub joined : Joined net tails heads used u (at tails a)
+      pub joined : Joined net tails heads used (p .part) u (at tails a)
       pub goes : Splits (left k u) (way (at tails a)) (a ∷ left (k + 1) (at heads a))
       pub head-inside : T (p .part (at heads a))
 
@@ -70,7 +70,7 @@ module _ {net : Net} {tails heads : List ℕ} {used : List Bool} {first after : 
 
     -- the way back
     pub record Back : Type 0 where
-      pub joined : Joined net tails heads used u (net .root)
+      pub joined : Joined net tails heads used (p .part) u (net .root)
       pub goes : Splits (left k u) (way (net .root)) []
 
     pub back : legs .count ≤ k → Back

@@ -14,7 +14,6 @@ use Rattle.arcs.specs.Table.{cell, distanceIn}
 use Rattle.arcs.specs.Parts.{Parts}
 use Rattle.arcs.proofs.Following.{follows-first, follows-after}
 use Rattle.arcs.specs.Legs.{hopIn, Joined}
-use Rattle.arcs.proofs.Ways.{entry-in}
 
 -- a is a label of the chain of u, or its end, and those before it do not lessen the distance to v
 pub record Tried (n : ℕ) (tails heads : List ℕ) (used : List Bool) (t : List (List ℕ)) (u v a : ℕ) : Type 0 where
@@ -24,26 +23,26 @@ pub record Tried (n : ℕ) (tails heads : List ℕ) (used : List Bool) (t : List
   pub none : (b : ℕ) → b < a → T (flag used b) → at tails b ≡ u → cell t u v ≤ cell t (at heads b) v
 
 module _ {net : Net} {tails heads : List ℕ} {used : List Bool} {first after : List ℕ} {t : List (List ℕ)} (p : Parts net tails heads used first after t) {u v : ℕ}
-    (j : Joined net tails heads used u v)
+    (j : Joined net tails heads used (p .part) u v)
   where
     abbrev Q : ℕ → Type 0
     Q a = Tried (net .labels) tails heads used t u v a
 
     pub tried-first : Q (at first u)
     tried-first =
-        let f = follows-first (p .chained) u (omega (arith, j .from-in, p .within .few-switches)) in
+        let f = follows-first p u (j .from-part) in
         record { top = f .top; in-use = f .flagged; leaves = f .leaves; none = λ b h l e. absurd (omega (arith, f .top, h, f .lowest b (omega arith) (omega (arith, f .top)) l e)) }
 
     here : cell t u v ≡ distanceIn net tails heads used u v
-    here = entry-in (p .within) (p .table) u v (j .from-in) (j .to-in)
+    here = p .cells u v (j .from-part) (j .to-part)
 
     there : (b : ℕ) → b < net .labels → T (flag used b) → cell t (at heads b) v ≡ distanceIn net tails heads used (at heads b) v
-    there b h l = entry-in (p .within) (p .table) (at heads b) v (p .within .head-in b h l) (j .to-in)
+    there b h l = p .cells (at heads b) v (p .strong .heads b h l) (j .to-part)
 
     module _ (a : ℕ) (q : Q a) where
       pub tried-next : a < net .labels → cell t u v ≤ cell t (at heads a) v → (a < at after a) × Q (at after a)
       tried-next i l =
-          let f = follows-after (p .chained) u a i (q .in-use i) (q .leaves i) in (
+          let f = follows-after p u a i (q .in-use i) (q .leaves i) in (
             f .bottom,
             record {
               top = f .top;

@@ -15,12 +15,12 @@ use Rattle.trail.specs.declared.Compared.{Compared}
 use Rattle.trail.specs.declared.Compared.the-variants.{Same, Other}
 use Rattle.trail.specs.Filled.{beginsWith}
 
--- the arrays are those of a plan, and over its arcs in use a way leads from u to v
+-- the arrays are those of a plan, and over its arcs in use a way leads from u to v, switches of its part
 pub record Way (net : Net) (heads first after : List ℕ) (t : List (List ℕ)) (u v : ℕ) : Type 0 where
   pub tails : List ℕ
   pub used : List Bool
   pub parts : Parts net tails heads used first after t
-  pub joined : Joined net tails heads used u v
+  pub joined : Joined net tails heads used (parts .part) u v
 
 module _ {net : Net} {heads first after : List ℕ} {t : List (List ℕ)} {u v : ℕ} (w : Way net heads first after t u v) where
   -- the first hop of that way, and the whole

@@ -4,12 +4,12 @@ use native.Mathlib.Omega.{arith}
 use borrow.Author.Needs.{needs}
 use Rattle.limits.specs.Limits.{maxRules}
 use Rattle.arcs.specs.Parts.{SomeParts}
-use Rattle.legs.proofs.Aims.{tabled, Found, Turn, End, found-none, turn, ends}
+use Rattle.legs.proofs.Aims.{asks-first, Found, Turn, End, found-none, turn, ends}
 use Rattle.legs.proofs.legs_of.Statement.{statement}
 use Rattle.legs.proofs.legs_of.Tie as tie
 use Rattle.legs.proofs.legs_of.Reads as reads
 use Rattle.legs.proofs.legs_of.Lts as lts
-use Rattle.legs.proofs.copied.Reads as copied-reads
+use Rattle.legs.proofs.firsts_reached.Reads as firsts-reached-reads
 use Rattle.legs.proofs.nearest.Reads as nearest-reads
 
 abbrev Inv-loop : tie.InvT-loop
@@ -19,23 +19,22 @@ abbrev μ-loop : tie.MeasureT-loop
 μ-loop net tails heads first after t none root low₀ aims₀ k₀ hops₀ u₀ a₀ low aims k hops u a = maxRules - k
 
 loop-holds : tie.Need-loop-holds Inv-loop μ-loop
-loop-holds c w = let l = c .before .before .before .copied in found-none (w .parts) _ _ (l .ensures) (l .ok .1 .0 .1) (c .nearest .ensures)
+loop-holds c w = found-none (w .parts) _ _ (c .before .before .before .firsts-reached .ensures) (c .nearest .ensures)
 
 -- what the next leg makes
-turned : (c : lts.In-loop (copied-reads.Asked, copied-reads.Learnt, nearest-reads.Asked, nearest-reads.Learnt) reads.Pre reads.Post Inv-loop μ-loop)
-    → let k = c .before .loop in Turn (c .before .before .before .before .before .before .before .pre .parts) (k .low) (k .aims) (k .k) (k .hops) (k .u) (k .a) (k .inv _)
+turned : (c : lts.In-loop (firsts-reached-reads.Asked, firsts-reached-reads.Learnt, nearest-reads.Asked, nearest-reads.Learnt) reads.Pre reads.Post Inv-loop μ-loop)
+    → let k = c .before .loop in Turn (c .before .before .before .before .before .before .before .before .pre .parts) (k .low) (k .aims) (k .k) (k .hops) (k .u) (k .a) (k .inv _)
 turned c = turn _ _ _ _ _ _ _ _ (c .loop-test .taken)
 
 -- what the way back makes
-ended : (c : lts.After-loop (copied-reads.Asked, copied-reads.Learnt, nearest-reads.Asked, nearest-reads.Learnt) reads.Pre reads.Post Inv-loop μ-loop)
-    → let k = c .before .loop in End (c .before .before .before .before .before .before .before .pre .parts) (k .low) (k .aims) (k .k) (k .hops) (k .u) (k .a) (k .inv _)
+ended : (c : lts.After-loop (firsts-reached-reads.Asked, firsts-reached-reads.Learnt, nearest-reads.Asked, nearest-reads.Learnt) reads.Pre reads.Post Inv-loop μ-loop)
+    → let k = c .before .loop in End (c .before .before .before .before .before .before .before .before .pre .parts) (k .low) (k .aims) (k .k) (k .hops) (k .u) (k .a) (k .inv _)
 ended c = ends _ _ _ _ _ _ _ _ (c .loop-test .left)
 
 nearest-requires-2 : tie.Need-nearest-requires-2 Inv-loop μ-loop
 nearest-requires-2 c κs =
     let in-loop = c .before .before .before .before .before .before in
-    let s = in-loop .before .before .before .before .before .before .before in
-    (tabled (s .pre .parts), turned in-loop .head-in)
+    turned in-loop .asks
 
 loop-again : tie.Need-loop-again Inv-loop μ-loop
 loop-again c w =
@@ -45,8 +44,8 @@ loop-again c w =
 
 pub legs-of-spec : {M : Type 1} → statement M
 legs-of-spec =
-    tie.close (tie.spec Inv-loop μ-loop (λ c. search needs) (λ c κs. search needs)
-    (λ c κs. let s = c .before .before .before .before in (tabled (s .pre .parts), s .pre .parts .within .root-in)) loop-holds (λ c. search needs) (λ c. omega (arith, turned c))
+    tie.close (tie.spec Inv-loop μ-loop (λ c. search needs) (λ c κs. let p = c .before .before .pre .parts in (p .within .few-switches, p .within .root-in))
+    (λ c κs. let f = c .before .before in asks-first (f .before .before .before .pre .parts) _ (f .firsts-reached .ensures)) loop-holds (λ c. search needs) (λ c. omega (arith, turned c))
     (λ c. omega (arith, turned (c .before))) (λ c. omega (arith, turned (c .before))) (λ c. omega (arith, turned (c .before))) (λ c. omega (arith, turned (c .before)))
     (λ c. omega (arith, turned (c .before))) (λ c. omega (arith, turned (c .before))) (λ c. omega (arith, turned (c .before))) (λ c. omega (arith, turned (c .before)))
     (λ c. omega (arith, turned (c .before .before))) (λ c. omega (arith, turned (c .before .before))) (λ c. omega (arith, turned (c .before .before)))

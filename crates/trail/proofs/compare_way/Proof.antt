@@ -15,7 +15,7 @@ use Rattle.trail.proofs.hop.Reads as hop-reads
 
 abbrev Inv-loop : tie.InvT-loop
 Inv-loop net heads first after t u to lent from i₀ x₀ i x =
-    (w : Way net heads first after t u to) → Joined net (w .tails) heads (w .used) x to × Met lent from (routeBy w) i (routeIn net (w .tails) heads (w .used) x to)
+    (w : Way net heads first after t u to) → Joined net (w .tails) heads (w .used) (w .parts .part) x to × Met lent from (routeBy w) i (routeIn net (w .tails) heads (w .used) x to)
 
 abbrev μ-loop : tie.MeasureT-loop
 μ-loop net heads first after t u to lent from i₀ x₀ i x = cell t x to
