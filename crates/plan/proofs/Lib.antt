@@ -1,4 +1,5 @@
 pub mod Plan
+pub mod Connected
 pub mod Trails
 pub mod Totals
 pub mod Unsound

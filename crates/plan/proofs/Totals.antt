@@ -1,5 +1,5 @@
--- The rules by sending switch: their total over switches is that over labels, for every plant value; each sending switch of a sound plant has a place; and where that is
--- connected too the total is the links plus the bridges.
+-- The rules by sending switch: their total over switches is that over labels, for every plant value; each sending switch of a sound plant has a place, and the total is its
+-- links plus its bridges.
 use mathlib.Core.Path.{_≡_, sym, ap, _∙_}
 use mathlib.Core.Logic.{_⊎_, inl, inr}
 use mathlib.Core.List.{List, map}
@@ -16,6 +16,7 @@ use Rattle.limits.specs.Limits.{maxSwitches, maxRules}
 use Rattle.limits.specs.Sound.{Sound}
 use Rattle.plant.specs.declared.Plant.{Plant}
 use Rattle.walks.specs.Arcs.{tail, head}
+use Rattle.walks.specs.Components.{used, arcsUsed}
 use Rattle.walks.proofs.Labels.{tail-in}
 use Rattle.walks.proofs.Valid.{sound-valid}
 use Rattle.table.specs.declared.Rule.{Rule}
@@ -23,7 +24,7 @@ use Rattle.table.specs.Rules.{zeroRule, tableWith}
 use Rattle.senders.specs.Senders.{rulesHeld, sentBy, pastSenders, bySwitch}
 use Rattle.senders.specs.Placed.{Placed}
 use Rattle.senders.proofs.Senders.{held, sent-none, sent-all, over-switches, senders-below}
-use Rattle.plan.specs.Plan.{Connected, used, arcsUsed, rulesOf, tableOf}
+use Rattle.plan.specs.Plan.{rulesOf, tableOf}
 use Rattle.plan.specs.Totals.{Totals}
 use Rattle.plan.proofs.Plan.{used-arc, rules-by-label, few-arcs, arcs-in-use}
 
@@ -65,12 +66,12 @@ module _ (p : Plant) where
             List·getD-eq-default (bySwitch (tableOf p) .counts) 0 {n = x}
             (omega (arith, ap length counts-held, values-length (sentBy (rulesOf p)) 0 maxSwitches))
 
-    pub totals : Connected p → Totals p (bySwitch (tableOf p))
-    totals con = record {
+    pub totals : Totals p (bySwitch (tableOf p))
+    totals = record {
       each = λ x h. each x (own x h);
       zeros = zeros;
       over-switches =
           same-totals ∙ sym (rules-by-label p) ∙ sym (sent-all (rulesOf p) (p .switches) senders-in) ∙ sum-same (p .switches) (sentBy (rulesOf p)) (at (bySwitch (tableOf p) .counts)) (λ x h. sym (each x (own x h)));
       over-labels = same-totals;
-      number = same-totals ∙ arcs-in-use p ok con;
+      number = same-totals ∙ arcs-in-use p ok;
     }

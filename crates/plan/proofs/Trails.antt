@@ -1,23 +1,54 @@
--- Theorem D within the limits. From any root of a sound plant the trail has at most `maxHops` hops; the trail of the plant is a closed walk from the start that crosses
--- exactly the arcs in use. Assumes a sound plant, and of a root that it is a switch of it.
-use Prim.Native.Nat.{ℕ, _≤_, _<_}
+-- Theorem D for every component of a sound plant, within the limits: the trail of each is a closed walk from its root that crosses exactly its arcs in use; together they
+-- cross exactly the arcs in use of the plant and have at most `maxHops` hops; and where each stands among them. Assumes a sound plant, and of a root that it is a switch of it.
+use mathlib.Core.Path.{_≡_, refl, ap, _∙_, subst}
+use mathlib.Core.Logic.{inl, inr, _↔_}
+use mathlib.Core.List.{List, [], _∷_, map, flatten}
+use Prim.Native.Nat.{ℕ, suc, _+_, _*_, _≤_, _<_}
 use native.Mathlib.Omega.{arith}
 use native.Mathlib.Nat.{mul-le-mul-right}
-use lib.ListN.{length}
+use lib.Dec.{T}
+use lib.ListN.{length, getD, take, drop}
+use lib.Seq.{take-length}
+use Rattle.lists.specs.Members.{In}
 use Rattle.lists.proofs.Count.{count-all}
+use Rattle.lists.proofs.SumOf.{sums-plus, sums-times, sums-lt}
+use Rattle.lists.proofs.Chained.{in-chained, chained-in, chained-length, chained-begin, chained-within, chained-part}
 use Rattle.limits.specs.Limits.{maxHops}
 use Rattle.limits.specs.Sound.{Sound}
 use Rattle.plant.specs.declared.Plant.{Plant}
-use Rattle.walks.specs.Graph.{ClosedWalk, reachedFrom, switchesFrom, arcsUsedFrom}
+use Rattle.walks.specs.Arcs.{tail, Valid}
+use Rattle.walks.specs.Graph.{ClosedWalk, ClosedWalks, reachedFrom, usedFrom, switchesFrom, arcsUsedFrom}
+use Rattle.walks.specs.Components.{rootOf, roots, componentOf, used, arcsUsed}
 use Rattle.walks.proofs.Valid.{sound-valid}
 use Rattle.walks.proofs.Orientation.{from-arc}
-use Rattle.walks.proofs.Limits.{few-arcs}
+use Rattle.walks.proofs.Counting.{bridges-few}
+use Rattle.walks.proofs.Components.{used-reached, used-in, used-from, used-root, in-roots, component-in, component-root, switches-sum, arcs-sum}
+use Rattle.walks.proofs.Limits.{few-arcs, few-arcs-roots}
 use Rattle.routes.specs.Plants.{trailFrom}
 use Rattle.routes.proofs.Plants.{used-below, trail-theorem}
-use Rattle.plan.specs.Plan.{trailOf}
-use Rattle.plan.specs.Trails.{IsTrail}
+use Rattle.plan.specs.Plan.{trailsOf, trailOf, trailWith, trailBegin}
+use Rattle.plan.specs.Trails.{IsTrail, AreTrails}
+
+module _ (p : Plant) where
+  -- ---- where the trail of each component begins
+
+  pub begin-first : trailBegin p 0 ≡ 0
+  unfolding trailsOf flatten
+  begin-first = refl
+
+  pub begin-next : (i : ℕ) → i < length (roots p) → trailBegin p (suc i) ≡ trailBegin p i + length (trailFrom p (getD (roots p) i 0))
+  unfolding trailsOf
+  begin-next i h = chained-begin (trailFrom p) (roots p) i h
+
+  pub begin-last : trailBegin p (length (roots p)) ≡ length (trailOf p)
+  begin-last = ap (λ (rs : List ℕ). length (trailsOf p rs)) (take-length (roots p))
 
 module _ (p : Plant) (ok : Sound p) where
+  abbrev valid : Valid p
+  valid = sound-valid p ok
+
+  -- ---- the trail of a component
+
   -- from any root
   pub hops-from : (r : ℕ) → r < p .switches → length (trailFrom p r) ≤ maxHops
   unfolding switchesFrom
@@ -25,21 +56,108 @@ module _ (p : Plant) (ok : Sound p) where
       let few : switchesFrom p r ≤ p .switches = count-all (p .switches) (reachedFrom p r) in
       omega (
         arith,
-        trail-theorem p (sound-valid p ok) r r-in .short,
+        trail-theorem p valid r r-in .short,
         few-arcs p ok r r-in,
         ok .few-switches,
         mul-le-mul-right (arcsUsedFrom p r) few,
         mul-le-mul-right (arcsUsedFrom p r) (ok .few-switches),
       )
 
-  pub hops-limit : length (trailOf p) ≤ maxHops
-  hops-limit = hops-from (p .start) (ok .start-in)
+  root-within : (r : ℕ) → In r (roots p) → r < p .switches
+  root-within r i = in-roots p valid (ok .start-in) r .0 i .0
 
-  pub trail-is : IsTrail p (trailOf p)
-  trail-is =
-      let tour = trail-theorem p (sound-valid p ok) (p .start) (ok .start-in) in
-      record { closed = tour .closed; exactly = λ a. (λ i. tour .in-use a i .1, λ t. tour .crosses a (used-below p (p .start) a t, t)); short = hops-limit }
+  pub trail-from : (r : ℕ) → In r (roots p) → IsTrail p r (trailFrom p r)
+  trail-from r i = record { closed = trail-theorem p valid r (root-within r i) .closed; exactly = λ a. (crossed a, crosses a) }
+    where
+      crossed : (a : ℕ) → In a (trailFrom p r) → T (reachedFrom p r (tail p a)) × T (used p a)
+      crossed a h =
+          let t = trail-theorem p valid r (root-within r i) .in-use a h .1 in
+          (used-reached p r a t, used-from p valid (ok .start-in) r a i t)
+
+      crosses : (a : ℕ) → T (reachedFrom p r (tail p a)) × T (used p a) → In a (trailFrom p r)
+      crosses a q =
+          let t : T (usedFrom p r a) = subst T (used-in p valid (ok .start-in) r a i (q .0)) (q .1) in
+          trail-theorem p valid r (root-within r i) .crosses a (used-below p r a t, t)
 
   -- in document 01's sense of a closed walk
-  pub trail-closed : ClosedWalk p (trailOf p)
-  trail-closed = record { from = p .start; walk = trail-is .closed; arcs-alone = λ a i. from-arc p (p .start) a (trail-is .exactly a .0 i) }
+  pub trail-closed : (r : ℕ) → In r (roots p) → ClosedWalk p (trailFrom p r)
+  trail-closed r i = record {
+    from = r;
+    walk = trail-from r i .closed;
+    arcs-alone = λ a h. from-arc p r a (trail-theorem p valid r (root-within r i) .in-use a h .1);
+  }
+
+  -- ---- the trails together
+
+  pub trails-closed : ClosedWalks p (map (trailFrom p) (roots p))
+  trails-closed = go (roots p) (λ r i. i)
+    where
+      go : (rs : List ℕ) → ((r : ℕ) → In r rs → In r (roots p)) → ClosedWalks p (map (trailFrom p) rs)
+      go [] h = tt
+      go (r ∷ rs) h = (trail-closed r (h r (inl refl)), go rs (λ s i. h s (inr i)))
+
+  exactly : (a : ℕ) → In a (trailOf p) ↔ T (used p a)
+  unfolding trailsOf
+  exactly a = (λ h. let q = chained-in (trailFrom p) a (roots p) h in trail-from (q .0) (q .1) .exactly a .0 (q .2) .1, from)
+    where
+      from : T (used p a) → In a (flatten (map (trailFrom p) (roots p)))
+      from t =
+          let q = used-root p valid (ok .start-in) a t in
+          in-chained (trailFrom p) a (q .0) (roots p) (q .1) (trail-from (q .0) (q .1) .exactly a .1 (used-reached p (q .0) a (q .2), t))
+
+  -- a trail has at most so many hops as its arcs times the switches of the plant, and fewer than its switches more
+  hops-lt : (r : ℕ) → In r (roots p) → length (trailFrom p r) < p .switches * arcsUsedFrom p r + switchesFrom p r
+  unfolding switchesFrom
+  hops-lt r i =
+      let few : switchesFrom p r ≤ p .switches = count-all (p .switches) (reachedFrom p r) in
+      omega (
+        arith,
+        trail-theorem p valid r (root-within r i) .short,
+        bridges-few p valid r (root-within r i),
+        mul-le-mul-right (arcsUsedFrom p r) few,
+      )
+
+  hops-sum : length (trailOf p) + length (roots p) ≤ p .switches * arcsUsed p + p .switches
+  unfolding trailsOf
+  hops-sum =
+      omega (
+        arith,
+        chained-length (trailFrom p) (roots p),
+        sums-lt (λ r. length (trailFrom p r)) (λ r. p .switches * arcsUsedFrom p r + switchesFrom p r) (roots p) hops-lt,
+        sums-plus (λ r. p .switches * arcsUsedFrom p r) (switchesFrom p) (roots p),
+        sums-times (p .switches) (arcsUsedFrom p) (roots p) ∙ ap (λ (n : ℕ). p .switches * n) (arcs-sum p valid (ok .start-in)),
+        switches-sum p valid (ok .start-in),
+      )
+
+  -- each component has a root, so the more there are the fewer the arcs in use
+  pub hops-limit : length (trailOf p) ≤ maxHops
+  unfolding roots
+  hops-limit =
+      omega (
+        arith,
+        hops-sum,
+        few-arcs-roots p ok,
+        ok .few-links,
+        ok .few-switches,
+        mul-le-mul-right (arcsUsed p) (ok .few-switches),
+      )
+
+  pub trails-are : AreTrails p
+  trails-are = record { each = trail-from; exactly = exactly; short = hops-limit }
+
+  -- ---- the trail of the component of a switch is a stretch of them
+
+  module _ (x : ℕ) (h : x < p .switches) where
+    same : getD (roots p) (componentOf p x) 0 ≡ rootOf p x
+    same = component-root p valid (ok .start-in) x h
+
+    within : componentOf p x < length (roots p)
+    within = component-in p valid (ok .start-in) x h
+
+    pub stretch : take (length (trailWith p x)) (drop (trailBegin p (componentOf p x)) (trailOf p)) ≡ trailWith p x
+    unfolding trailsOf
+    stretch = rw same at (chained-part (trailFrom p) (roots p) (componentOf p x) within)
+
+    pub stretch-in : trailBegin p (componentOf p x) + length (trailWith p x) ≤ length (trailOf p)
+    unfolding trailsOf
+    stretch-in = rw same at (chained-within (trailFrom p) (roots p) (componentOf p x) within)

@@ -9,18 +9,19 @@ use Rattle.plant.specs.declared.Plant.{Plant}
 use Rattle.plant.specs.Links.{live}
 use Rattle.walks.specs.Visit.{scan, visit}
 use Rattle.walks.specs.Arcs.{tail, head}
-use Rattle.walks.specs.Graph.{arcs, others, visitFrom, bridge, usedFrom, arcsUsedFrom}
+use Rattle.walks.specs.Graph.{arcs, others, visitFrom, bridge, usedFrom}
+use Rattle.walks.specs.Components.{rootOf, used, arcsUsed}
 use Rattle.table.specs.Rules.{tableWith, rulesIn}
 use Rattle.senders.specs.Senders.{sentBy, bySwitch}
-use Rattle.plan.specs.Plan.{arcsUsed, rulesOf, tableOf}
+use Rattle.plan.specs.Plan.{rulesOf, tableOf}
 
 abbrev outside : Plant
 outside = record { switches = 1; count = 1; start = 0; links = record { first = 0; second = 1; tag = 0; «out_of_service» = false } ∷ [] }
 
 over-own : sum (outside .switches) (sentBy (rulesOf outside)) ≡ 1
-unfolding sum sentBy rulesIn usedFrom bridge visitFrom arcs others visit scan tail head live
+unfolding sum sentBy rulesIn used rootOf usedFrom bridge visitFrom arcs others visit scan tail head live
 over-own = refl
 
 over-all : (bySwitch (tableOf outside) .total ≡ 2) × (arcsUsed outside ≡ 2)
-unfolding bySwitch sum sentBy tableWith rulesIn arcsUsedFrom count usedFrom bridge visitFrom arcs others visit scan tail head live
+unfolding bySwitch sum sentBy tableWith rulesIn arcsUsed count used rootOf usedFrom bridge visitFrom arcs others visit scan tail head live
 over-all = (refl, refl)

@@ -2,3 +2,4 @@ pub mod Plan
 pub mod Trails
 pub mod Totals
 pub mod Rounds
+pub mod Cases
