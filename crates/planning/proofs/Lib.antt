@@ -1,5 +1,2 @@
+pub mod Shared
 pub mod Networks
-pub mod Plans
-pub mod Counted
-pub mod Front
-pub mod Rounds
