@@ -9,7 +9,7 @@ use lib.Seq.{take-length}
 use Rattle.lists.specs.Members.{In, Distinct}
 use Rattle.lists.proofs.Count.{count-all}
 use Rattle.lists.proofs.SumOf.{sums-same, sums-times}
-use Rattle.lists.proofs.Chained.{in-chained, chained-in, chained-distinct, chained-length, chained-begin, chained-within, chained-part}
+use Rattle.lists.proofs.Chained.{in-chained, chained-in, chained-distinct, chained-length, chained-begin}
 use Rattle.plant.specs.declared.Plant.{Plant}
 use Rattle.plant.specs.Links.{live}
 use Rattle.limits.specs.Sound.{Sound}
@@ -17,7 +17,7 @@ use Rattle.walks.specs.Arcs.{tail, Arc, Valid}
 use Rattle.walks.specs.Graph.{linksFrom, liveLinks}
 use Rattle.walks.specs.Components.{rootOf, roots, componentOf}
 use Rattle.walks.specs.Round.{roundFrom}
-use Rattle.walks.proofs.Components.{in-roots, root-listed, root-reaches, reaches-root, roots-distinct, links-sum, component-in, component-root}
+use Rattle.walks.proofs.Components.{listed-in, root-listed, root-reaches, reaches-root, roots-distinct, links-sum, component-part, component-within}
 use Rattle.walks.proofs.Labels.{tail-in}
 use Rattle.walks.proofs.Round.{round-closed, round-arcs, round-once, round-length}
 use Rattle.walks.proofs.Valid.{sound-valid}
@@ -44,19 +44,20 @@ module _ (p : Plant) (sound : Sound p) where
 
   -- ---- the round trail of a component
 
-  root-within : (r : ℕ) → In r (roots p) → r < p .switches
-  root-within r i = in-roots p ok (sound .start-in) r .0 i .0
+  within : (r : ℕ) → In r (roots p) → r < p .switches
+  within = listed-in p ok (sound .start-in)
 
   pub round-from : (r : ℕ) → In r (roots p) → IsRound p r (roundFrom p r)
   round-from r i = record {
-    closed = round-closed p ok r (root-within r i);
-    each = λ a. let q = round-arcs p ok r (root-within r i) a in (λ h. (q .0 h .1, q .0 h .0), λ h. q .1 (h .1, h .0));
-    once = round-once p ok r (root-within r i);
-    number = round-length p ok r (root-within r i);
+    closed = round-closed p ok r (within r i);
+    each = λ a. let q = round-arcs p ok r (within r i) a in (λ h. (q .0 h .1, q .0 h .0), λ h. q .1 (h .1, h .0));
+    once = round-once p ok r (within r i);
+    number = round-length p ok r (within r i);
   }
 
   -- ---- the round trails together
 
+  -- they cross the arcs of the plant and no other
   each : (a : ℕ) → In a (roundOf p) ↔ Arc p a
   unfolding roundsOf
   each a = (λ h. let q = chained-in (roundFrom p) a (roots p) h in round-from (q .0) (q .1) .each a .0 (q .2) .1, from)
@@ -73,10 +74,12 @@ module _ (p : Plant) (sound : Sound p) where
       sym (reaches-root p ok (sound .start-in) r (tail p a) i (round-from r i .each a .0 h .0))
       ∙ reaches-root p ok (sound .start-in) s (tail p a) j (round-from s j .each a .0 k .0)
 
+  -- so none is crossed twice
   once : Distinct (roundOf p)
   unfolding roundsOf
   once = chained-distinct (roundFrom p) (roots p) (roots-distinct p ok (sound .start-in)) (λ r i. round-from r i .once) own
 
+  -- two hops to a link
   number : length (roundOf p) ≡ 2 * liveLinks p
   unfolding roundsOf
   number =
@@ -96,16 +99,10 @@ module _ (p : Plant) (sound : Sound p) where
   -- ---- the round trail of the component of a switch is a stretch of them
 
   module _ (x : ℕ) (h : x < p .switches) where
-    same : getD (roots p) (componentOf p x) 0 ≡ rootOf p x
-    same = component-root p ok (sound .start-in) x h
-
-    within : componentOf p x < length (roots p)
-    within = component-in p ok (sound .start-in) x h
-
     pub stretch : take (length (roundWith p x)) (drop (roundBegin p (componentOf p x)) (roundOf p)) ≡ roundWith p x
     unfolding roundsOf
-    stretch = rw same at (chained-part (roundFrom p) (roots p) (componentOf p x) within)
+    stretch = component-part p ok (sound .start-in) (roundFrom p) x h
 
     pub stretch-in : roundBegin p (componentOf p x) + length (roundWith p x) ≤ length (roundOf p)
     unfolding roundsOf
-    stretch-in = rw same at (chained-within (roundFrom p) (roots p) (componentOf p x) within)
+    stretch-in = component-within p ok (sound .start-in) (roundFrom p) x h

@@ -1,7 +1,7 @@
 -- Theorem D for every component of a sound plant, within the limits: the trail of each is a closed walk from its root that crosses exactly its arcs in use; together they
 -- cross exactly the arcs in use of the plant and have at most `maxHops` hops; and where each stands among them. Assumes a sound plant, and of a root that it is a switch of it.
 use mathlib.Core.Path.{_≡_, refl, ap, _∙_, subst}
-use mathlib.Core.Logic.{inl, inr, _↔_}
+use mathlib.Core.Logic.{inl, inr, ⊎-elim, _↔_}
 use mathlib.Core.List.{List, [], _∷_, map, flatten}
 use Prim.Native.Nat.{ℕ, suc, _+_, _*_, _≤_, _<_}
 use native.Mathlib.Omega.{arith}
@@ -12,17 +12,18 @@ use lib.Seq.{take-length}
 use Rattle.lists.specs.Members.{In}
 use Rattle.lists.proofs.Count.{count-all}
 use Rattle.lists.proofs.SumOf.{sums-plus, sums-times, sums-lt}
-use Rattle.lists.proofs.Chained.{in-chained, chained-in, chained-length, chained-begin, chained-within, chained-part}
+use Rattle.lists.proofs.Chained.{in-chained, chained-in, chained-length, chained-begin}
 use Rattle.limits.specs.Limits.{maxHops}
 use Rattle.limits.specs.Sound.{Sound}
 use Rattle.plant.specs.declared.Plant.{Plant}
+use Rattle.plant.specs.Links.{live}
 use Rattle.walks.specs.Arcs.{tail, Valid}
-use Rattle.walks.specs.Graph.{ClosedWalk, ClosedWalks, reachedFrom, usedFrom, switchesFrom, arcsUsedFrom}
-use Rattle.walks.specs.Components.{rootOf, roots, componentOf, used, arcsUsed}
+use Rattle.walks.specs.Graph.{Crosses, ClosedWalk, ClosedWalks, reachedFrom, usedFrom, switchesFrom, arcsUsedFrom}
+use Rattle.walks.specs.Components.{roots, componentOf, used, arcsUsed}
 use Rattle.walks.proofs.Valid.{sound-valid}
 use Rattle.walks.proofs.Orientation.{from-arc}
 use Rattle.walks.proofs.Counting.{bridges-few}
-use Rattle.walks.proofs.Components.{used-reached, used-in, used-from, used-root, in-roots, component-in, component-root, switches-sum, arcs-sum}
+use Rattle.walks.proofs.Components.{used-reached, used-in, used-from, used-root, one-used, listed-in, component-part, component-within, switches-sum, arcs-sum}
 use Rattle.walks.proofs.Limits.{few-arcs, few-arcs-roots}
 use Rattle.routes.specs.Plants.{trailFrom}
 use Rattle.routes.proofs.Plants.{used-below, trail-theorem}
@@ -63,32 +64,33 @@ module _ (p : Plant) (ok : Sound p) where
         mul-le-mul-right (arcsUsedFrom p r) (ok .few-switches),
       )
 
-  root-within : (r : ℕ) → In r (roots p) → r < p .switches
-  root-within r i = in-roots p valid (ok .start-in) r .0 i .0
+  within : (r : ℕ) → In r (roots p) → r < p .switches
+  within = listed-in p valid (ok .start-in)
 
   pub trail-from : (r : ℕ) → In r (roots p) → IsTrail p r (trailFrom p r)
-  trail-from r i = record { closed = trail-theorem p valid r (root-within r i) .closed; exactly = λ a. (crossed a, crosses a) }
+  trail-from r i = record { closed = trail-theorem p valid r (within r i) .closed; exactly = λ a. (crossed a, crosses a) }
     where
       crossed : (a : ℕ) → In a (trailFrom p r) → T (reachedFrom p r (tail p a)) × T (used p a)
       crossed a h =
-          let t = trail-theorem p valid r (root-within r i) .in-use a h .1 in
+          let t = trail-theorem p valid r (within r i) .in-use a h .1 in
           (used-reached p r a t, used-from p valid (ok .start-in) r a i t)
 
       crosses : (a : ℕ) → T (reachedFrom p r (tail p a)) × T (used p a) → In a (trailFrom p r)
       crosses a q =
           let t : T (usedFrom p r a) = subst T (used-in p valid (ok .start-in) r a i (q .0)) (q .1) in
-          trail-theorem p valid r (root-within r i) .crosses a (used-below p r a t, t)
+          trail-theorem p valid r (within r i) .crosses a (used-below p r a t, t)
 
   -- in document 01's sense of a closed walk
   pub trail-closed : (r : ℕ) → In r (roots p) → ClosedWalk p (trailFrom p r)
   trail-closed r i = record {
     from = r;
     walk = trail-from r i .closed;
-    arcs-alone = λ a h. from-arc p r a (trail-theorem p valid r (root-within r i) .in-use a h .1);
+    arcs-alone = λ a h. from-arc p r a (trail-theorem p valid r (within r i) .in-use a h .1);
   }
 
   -- ---- the trails together
 
+  -- they are closed walks, as theorem C speaks of
   pub trails-closed : ClosedWalks p (map (trailFrom p) (roots p))
   trails-closed = go (roots p) (λ r i. i)
     where
@@ -96,6 +98,7 @@ module _ (p : Plant) (ok : Sound p) where
       go [] h = tt
       go (r ∷ rs) h = (trail-closed r (h r (inl refl)), go rs (λ s i. h s (inr i)))
 
+  -- they cross the arcs in use and no other
   exactly : (a : ℕ) → In a (trailOf p) ↔ T (used p a)
   unfolding trailsOf
   exactly a = (λ h. let q = chained-in (trailFrom p) a (roots p) h in trail-from (q .0) (q .1) .exactly a .0 (q .2) .1, from)
@@ -105,18 +108,23 @@ module _ (p : Plant) (ok : Sound p) where
           let q = used-root p valid (ok .start-in) a t in
           in-chained (trailFrom p) a (q .0) (roots p) (q .1) (trail-from (q .0) (q .1) .exactly a .1 (used-reached p (q .0) a (q .2), t))
 
-  -- a trail has at most so many hops as its arcs times the switches of the plant, and fewer than its switches more
+  -- and so every link in service
+  pub trails-cross : (l : ℕ) → T (live p l) → Crosses l (trailOf p)
+  trails-cross l t = ⊎-elim (λ u. inl (exactly (2 * l) .1 u)) (λ u. inr (exactly (2 * l + 1) .1 u)) (one-used p valid (ok .start-in) l t)
+
+  -- a trail has at most a hop for each of its arcs and each switch of the plant, and then fewer than its own switches
   hops-lt : (r : ℕ) → In r (roots p) → length (trailFrom p r) < p .switches * arcsUsedFrom p r + switchesFrom p r
   unfolding switchesFrom
   hops-lt r i =
       let few : switchesFrom p r ≤ p .switches = count-all (p .switches) (reachedFrom p r) in
       omega (
         arith,
-        trail-theorem p valid r (root-within r i) .short,
-        bridges-few p valid r (root-within r i),
+        trail-theorem p valid r (within r i) .short,
+        bridges-few p valid r (within r i),
         mul-le-mul-right (arcsUsedFrom p r) few,
       )
 
+  -- over all components
   hops-sum : length (trailOf p) + length (roots p) ≤ p .switches * arcsUsed p + p .switches
   unfolding trailsOf
   hops-sum =
@@ -148,16 +156,10 @@ module _ (p : Plant) (ok : Sound p) where
   -- ---- the trail of the component of a switch is a stretch of them
 
   module _ (x : ℕ) (h : x < p .switches) where
-    same : getD (roots p) (componentOf p x) 0 ≡ rootOf p x
-    same = component-root p valid (ok .start-in) x h
-
-    within : componentOf p x < length (roots p)
-    within = component-in p valid (ok .start-in) x h
-
     pub stretch : take (length (trailWith p x)) (drop (trailBegin p (componentOf p x)) (trailOf p)) ≡ trailWith p x
     unfolding trailsOf
-    stretch = rw same at (chained-part (trailFrom p) (roots p) (componentOf p x) within)
+    stretch = component-part p valid (ok .start-in) (trailFrom p) x h
 
     pub stretch-in : trailBegin p (componentOf p x) + length (trailWith p x) ≤ length (trailOf p)
     unfolding trailsOf
-    stretch-in = rw same at (chained-within (trailFrom p) (roots p) (componentOf p x) within)
+    stretch-in = component-within p valid (ok .start-in) (trailFrom p) x h

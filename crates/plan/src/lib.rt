@@ -1,1 +1,1 @@
-// Definitions and laws alone: the plan of a plant, which is what is said from its start.
+// Definitions and laws alone: the plan of a plant, of all its components together and of that of a named switch.

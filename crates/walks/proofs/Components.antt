@@ -8,7 +8,7 @@ use mathlib.Core.List.{List, [], _∷_, map}
 use Prim.Native.Nat.{ℕ, suc, _+_, _*_, _/_, _≤_, _<_}
 use native.Mathlib.Omega.{arith}
 use lib.Dec.{T, T-not, not-T, eqb, eqb→eq}
-use lib.ListN.{length, getD}
+use lib.ListN.{length, getD, take, drop}
 use Rattle.lists.specs.Members.{In, memb, Distinct}
 use Rattle.lists.specs.Count.{bit}
 use Rattle.lists.specs.Least.{least}
@@ -19,6 +19,7 @@ use Rattle.lists.proofs.Members.{memb→in, in→memb, getD-in, in-getD, distin
 use Rattle.lists.proofs.Count.{bit-true, bit-false, bit-one, count-all, count-every, counts-le, distinct-count, pairs}
 use Rattle.lists.proofs.Least.{least-top, least-passes, least-first, least-le, least-none}
 use Rattle.lists.proofs.Numbers.{range-in, in-range, keep-in, in-keep, keep-none, range-distinct, keep-distinct}
+use Rattle.lists.proofs.Chained.{chained, chained-within, chained-part}
 use Rattle.lists.proofs.SumOf.{sums-lt, parts-count}
 use Rattle.plant.specs.declared.Plant.{Plant}
 use Rattle.plant.specs.Links.{first, second, live}
@@ -151,6 +152,9 @@ module _ (p : Plant) (ok : Valid p) (start-in : p .start < p .switches) where
       to q (inl e) = inl e
       to q (inr n) = inr (in-keep (begunAt p) r (range 0 S) (in-range r 0 S (omega arith) (omega (arith, q .0))) (begun-root r .1 (n, q .1)))
 
+  pub listed-in : (r : ℕ) → In r (roots p) → r < S
+  listed-in r i = in-roots r .0 i .0
+
   pub root-listed : (x : ℕ) → x < S → In (rootOf p x) (roots p)
   root-listed x h = in-roots (rootOf p x) .1 (root-in x h, root-own x h)
 
@@ -163,7 +167,7 @@ module _ (p : Plant) (ok : Valid p) (start-in : p .start < p .switches) where
   roots-distinct = (λ i. begun-root (p .start) .0 (keep-in (begunAt p) (p .start) (range 0 S) i .1) .0 refl, keep-distinct (begunAt p) (range 0 S) (range-distinct 0 S))
 
   pub roots-few : length (roots p) ≤ S
-  roots-few = omega (arith, distinct-count S (roots p) roots-distinct (λ r i. in-roots r .0 i .0), count-all S (λ k. memb k (roots p)))
+  roots-few = omega (arith, distinct-count S (roots p) roots-distinct listed-in, count-all S (λ k. memb k (roots p)))
 
   -- order 9: a component that is not the start's is begun at its lowest switch
   pub begun-is : (x : ℕ) → x < S → T (begunAt p x) ↔ ((T (reachedFrom p (p .start) x) → ⊥) × ((y : ℕ) → y < x → T (reachedFrom p y x) → ⊥))
@@ -216,6 +220,14 @@ module _ (p : Plant) (ok : Valid p) (start-in : p .start < p .switches) where
     where
       root : (getD (roots p) i 0 < S) × (rootOf p (getD (roots p) i 0) ≡ getD (roots p) i 0)
       root = in-roots (getD (roots p) i 0) .0 (getD-in (roots p) i h)
+
+  -- of the lists that a function has at the roots, one after another, that of the component of x
+  pub component-part : (f : ℕ → List ℕ) (x : ℕ) → x < S
+      → take (length (f (rootOf p x))) (drop (length (chained f (take (componentOf p x) (roots p)))) (chained f (roots p))) ≡ f (rootOf p x)
+  component-part f x h = rw (component-root x h) at (chained-part f (roots p) (componentOf p x) (component-in x h))
+
+  pub component-within : (f : ℕ → List ℕ) (x : ℕ) → x < S → length (chained f (take (componentOf p x) (roots p))) + length (f (rootOf p x)) ≤ length (chained f (roots p))
+  component-within f x h = rw (component-root x h) at (chained-within f (roots p) (componentOf p x) (component-in x h))
 
   -- ---- the arcs in use
 
@@ -329,7 +341,7 @@ module _ (p : Plant) (ok : Valid p) (start-in : p .start < p .switches) where
   -- each component has fewer bridges than switches
   pub few-roots-bridges : bridges p + length (roots p) ≤ S
   few-roots-bridges =
-      omega (arith, bridges-sum, switches-sum, sums-lt (bridgesFrom p) (switchesFrom p) (roots p) (λ r i. bridges-few p ok r (in-roots r .0 i .0)))
+      omega (arith, bridges-sum, switches-sum, sums-lt (bridgesFrom p) (switchesFrom p) (roots p) (λ r i. bridges-few p ok r (listed-in r i)))
 
   -- ---- where every switch is reached from the start
 
