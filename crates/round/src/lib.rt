@@ -1,17 +1,18 @@
-// The round trail of a plant from a root, read from a visit of it: the hop after each hop; laid into a lent buffer, or compared with a lent one. Inner: the calls are those of docs/CALLS.md.
+// The round trail of a plant from a root, read from a visit of it: the hop after each hop; laid into a lent buffer from some place on, or compared with a lent
+// one. Inner: the calls are those of docs/CALLS.md.
 use arcs::Visited;
 use arcs::opposite;
 use plant::Plant;
 use trail::Compared;
 ghost use mathlib.Core.Path.{_≡_};
-ghost use Prim.Native.Nat.{_*_, _≤_, _<_};
+ghost use Prim.Native.Nat.{_+_, _*_, _≤_, _<_};
 ghost use lib.ListN.{length};
 ghost use Rattle.limits.specs.Limits.{maxLinks};
 ghost use Rattle.limits.specs.Sound.{Sound};
 ghost use Rattle.walks.specs.Round.{roundFrom};
 ghost use Rattle.arcs.specs.Net.{Ends};
 ghost use Rattle.arcs.specs.Shows.{Visits};
-ghost use Rattle.trail.specs.Filled.{filledWith, Tells};
+ghost use Rattle.trail.specs.Ways.{Laid, TellsFrom};
 ghost use Rattle.round.specs.Round.{labelsOf, Labels};
 ghost use Rattle.round.specs.Inner.{orBack, HeadsIn, EntersOnce, WaysBack, hopAfter, HopsAfter};
 
@@ -138,39 +139,44 @@ pub fn round_of(
     }
 }
 
-// The round trail into the front of a lent buffer that has room for it; the places after it keep their contents.
-pub fn lay(x: Round, buf: &mut [u16])
+// The round trail into a lent buffer that has room for it from place `from` on; answers the place after it. The other places keep their contents.
+pub fn lay(x: Round, buf: &mut [u16], from: usize) -> usize
     requires { ⌜ Labels x ⌝ }
-    requires { ⌜ x .hops ≤ length (now buf) ⌝ }
-    ensures { λ _. ⌜ now (buf .exit) ≡ filledWith (labelsOf x) (now (buf .entry)) ⌝ }
+    requires { ⌜ from + x .hops ≤ length (now buf) ⌝ }
+    ensures { λ r. ⌜ Laid (labelsOf x) (now (buf .entry)) from (now (buf .exit)) r ⌝ }
 {
     let n = x.hops as usize;
     let mut a = x.begin;
+    let mut at = from;
     let mut i: usize = 0;
     while i < n {
-        buf[i] = a;
+        buf[at] = a;
+        at += 1;
         a = x.next[a as usize];
         i += 1;
     }
+    at
 }
 
-// Does the lent slice begin with the hops of the round trail? Places past them are not looked at.
-pub fn compare(x: Round, lent: &[u16]) -> Compared
+// Do the labels of the lent slice from place `from` on begin with the hops of the round trail? Then the place after it. Places past them are not looked at.
+pub fn compare(x: Round, lent: &[u16], from: usize) -> Compared
     requires { ⌜ Labels x ⌝ }
-    ensures { λ r. ⌜ Tells (now (lent .entry)) (labelsOf x) r ⌝ }
+    ensures { λ r. ⌜ TellsFrom from (now (lent .entry)) (labelsOf x) r ⌝ }
 {
     let n = x.hops as usize;
     let mut a = x.begin;
+    let mut at = from;
     let mut i: usize = 0;
     while i < n {
-        if lent.len() <= i {
+        if lent.len() <= at {
             return Compared::Other;
         }
-        if lent[i] != a {
+        if lent[at] != a {
             return Compared::Other;
         }
+        at += 1;
         a = x.next[a as usize];
         i += 1;
     }
-    Compared::Same(i)
+    Compared::Same(at)
 }

@@ -55,6 +55,22 @@ module _ {b₀ : List ℕ} {i₀ : ℕ} {w₀ : List ℕ} where
     pub stored-all : w ≡ [] → Laid w₀ b₀ i₀ b i
     stored-all e = record { makes = sym (ap (sets b i) e) ∙ s .makes; after = omega (arith, s .counted, ap length e) }
 
+-- ---- lists that are laid
+
+-- nothing is laid, or one list after another; no length changes
+pub laid-none : (b : List ℕ) (i : ℕ) → Laid [] b i b i
+laid-none b i = record { makes = refl; after = omega arith }
+
+pub laid-then : {w v b b′ b″ : List ℕ} {i j k : ℕ} → Laid w b i b′ j → Laid v b′ j b″ k → Laid (w ++ v) b i b″ k
+laid-then {w} {v} {b} {i = i} l m = record {
+  makes = m .makes ∙ ap₂ (λ (c : List ℕ) (n : ℕ). sets c n v) (l .makes) (l .after) ∙ sets-append b i w v;
+  after = omega (arith, l .after, m .after, length-append w v);
+}
+
+pub laid-long : {w b b′ : List ℕ} {i j : ℕ} → Laid w b i b′ j → length b′ ≡ length b
+laid-long {w} {b} {b′} {i} l = laid b b′ i w (l .makes)
+
+-- from place 0 on: at the front
 pub laid-front : {w b b′ : List ℕ} {j : ℕ} → Laid w b 0 b′ j → length w ≤ length b → b′ ≡ filledWith w b
 laid-front {w} {b} l h = l .makes ∙ sets-front b w h
 
@@ -116,9 +132,34 @@ module _ {l : List ℕ} {i₀ : ℕ} {w₀ : List ℕ} where
     met-all e = (sym (m .begins) ∙ ap (beginsWith (drop i l)) e, omega (arith, m .counted, ap length e))
 
 -- what is told of the last list is told of all
-pub met-last : {l w v x : List ℕ} {i : ℕ} → Met l 0 w i v → Splits v x [] → (r : Compared) → TellsFrom i l x r → Tells l w r
-met-last m e (Same j) t = let q = met-all (met-list m e (Same j) t refl) refl in (q .0, omega (arith, q .1))
+pub met-last : {l w v x : List ℕ} {i₀ i : ℕ} → Met l i₀ w i v → Splits v x [] → (r : Compared) → TellsFrom i l x r → TellsFrom i₀ l w r
+met-last m e (Same j) t = met-all (met-list m e (Same j) t refl) refl
 met-last m e Other t = met-other m e Other t refl
+
+-- ---- what is told of lists
+
+module _ (l : List ℕ) where
+  -- of none, and of one list after another: by what is told of the first, and then of the second from the place after it
+  pub tells-none : (i : ℕ) → TellsFrom i l [] (Same i)
+  tells-none i = met-all (met-none refl) refl
+
+  module _ (i : ℕ) (w v : List ℕ) where
+    both : Splits (w ++ v) w v
+    both = record { is = refl }
+
+    all : Met l i (w ++ v) i (w ++ v)
+    all = met-none refl
+
+    pub tells-other : TellsFrom i l w Other → TellsFrom i l (w ++ v) Other
+    tells-other t = met-other all both Other t refl
+
+    pub tells-then : (j : ℕ) → TellsFrom i l w (Same j) → (r : Compared) → TellsFrom j l v r → TellsFrom i l (w ++ v) r
+    tells-then j t r q = met-last (met-list all both (Same j) t refl) (record { is = sym (append-nil v) }) r q
+
+  -- from place 0 on: of the whole list
+  pub tells-front : (w : List ℕ) (r : Compared) → TellsFrom 0 l w r → Tells l w r
+  tells-front w (Same n) t = (t .0, omega (arith, t .1))
+  tells-front w Other t = t
 
 -- ---- a list that begins with another and has its length is the other, and so is no other list
 

@@ -1,4 +1,4 @@
-// The trail of a network from its root, by its legs: it is laid into a lent buffer or compared with a lent one. Inner: the functions ask of their callers what those have shown, and
+// The trail of a network from its root, by its legs: it is laid into a lent buffer from some place on, or compared with a lent one. Inner: the functions ask of their callers what those have shown, and
 // no call of document 01 is here.
 use arcs::Legs;
 use arcs::Net;
@@ -7,10 +7,9 @@ ghost use mathlib.Core.Path.{_≡_};
 ghost use Prim.Native.Nat.{_+_, _≤_};
 ghost use lib.ListN.{length};
 ghost use Rattle.arcs.specs.Table.{cell};
-ghost use Rattle.trail.specs.Filled.{filledWith, Tells};
 ghost use Rattle.trail.specs.Ways.{Way, hopBy, routeBy, Trailing, trailBy, Laid, TellsFrom};
 
-// A lent slice that begins with the trail, of so many hops, or another.
+// A lent slice that has the trail from some place on, and the place after it, or another.
 pub enum Compared {
     Same(usize),
     Other,
@@ -70,7 +69,7 @@ fn lay_way(
     at
 }
 
-// The trail into the front of a lent buffer that has room for it; the places after it keep their contents.
+// The trail into a lent buffer that has room for it from place `from` on; answers the place after it. The other places keep their contents.
 pub fn lay(
     net: Net,
     tails: &[u8; Plant::LABELS],
@@ -80,14 +79,15 @@ pub fn lay(
     t: &[[u8; Plant::PLACES]; Plant::PLACES],
     legs: Legs,
     buf: &mut [u16],
-)
+    from: usize,
+) -> usize
     requires { ⌜ Trailing net (now tails) (now heads) (now first) (now after) (now t) legs ⌝ }
-    requires { ⌜ legs .hops ≤ length (now buf) ⌝ }
-    ensures { λ _. ⌜ ((w : Trailing net (now (tails .entry)) (now (heads .entry)) (now (first .entry)) (now (after .entry)) (now (t .entry)) legs) → now (buf .exit) ≡ filledWith (trailBy w) (now (buf .entry))) ⌝ }
+    requires { ⌜ from + legs .hops ≤ length (now buf) ⌝ }
+    ensures { λ r. ⌜ ((w : Trailing net (now (tails .entry)) (now (heads .entry)) (now (first .entry)) (now (after .entry)) (now (t .entry)) legs) → Laid (trailBy w) (now (buf .entry)) from (now (buf .exit)) r) ⌝ }
 {
     let root = net.root;
     let m = legs.count as usize;
-    let mut j: usize = 0;
+    let mut j = from;
     let mut u = root;
     let mut k: usize = 0;
     while k < m {
@@ -100,7 +100,7 @@ pub fn lay(
         u = heads[x];
         k += 1;
     }
-    lay_way(net, heads, first, after, t, u, root, buf, j);
+    lay_way(net, heads, first, after, t, u, root, buf, j)
 }
 
 // Do the labels of the lent slice from place `from` on begin with the way from u to `to`? Then the place after it.
@@ -134,7 +134,7 @@ fn compare_way(
     Compared::Same(i)
 }
 
-// Does the lent slice begin with the hops of the trail? Places past them are not looked at.
+// Do the labels of the lent slice from place `from` on begin with the hops of the trail? Then the place after it. Places past them are not looked at.
 pub fn compare(
     net: Net,
     tails: &[u8; Plant::LABELS],
@@ -144,13 +144,14 @@ pub fn compare(
     t: &[[u8; Plant::PLACES]; Plant::PLACES],
     legs: Legs,
     lent: &[u16],
+    from: usize,
 ) -> Compared
     requires { ⌜ Trailing net (now tails) (now heads) (now first) (now after) (now t) legs ⌝ }
-    ensures { λ r. ⌜ ((w : Trailing net (now (tails .entry)) (now (heads .entry)) (now (first .entry)) (now (after .entry)) (now (t .entry)) legs) → Tells (now (lent .entry)) (trailBy w) r) ⌝ }
+    ensures { λ r. ⌜ ((w : Trailing net (now (tails .entry)) (now (heads .entry)) (now (first .entry)) (now (after .entry)) (now (t .entry)) legs) → TellsFrom from (now (lent .entry)) (trailBy w) r) ⌝ }
 {
     let root = net.root;
     let end = legs.count as usize;
-    let mut i: usize = 0;
+    let mut i = from;
     let mut u = root;
     let mut k: usize = 0;
     while k < end {

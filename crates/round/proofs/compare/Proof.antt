@@ -10,10 +10,10 @@ use Rattle.round.proofs.compare.Statement.{statement}
 use Rattle.round.proofs.compare.Tie as tie
 
 abbrev Inv-loop : tie.InvT-loop
-Inv-loop lent x n a₀ i₀ a i = Left x i a × Met lent 0 (labelsOf x) i (rest x i a)
+Inv-loop lent from x n a₀ at₀ i₀ a at i = Left x i a × Met lent from (labelsOf x) at (rest x i a)
 
 abbrev μ-loop : tie.MeasureT-loop
-μ-loop lent x n a₀ i₀ a i = x .hops - i
+μ-loop lent from x n a₀ at₀ i₀ a at i = x .hops - i
 
 returns : tie.Need-returns Inv-loop μ-loop
 returns c = let k = c .before .before .loop in met-short (k .inv .1) (left-is _ (k .i) (k .a) (k .inv .0) (c .before .loop-test .taken)) (c .if1 .taken)
@@ -39,11 +39,11 @@ returns-3 : tie.Need-returns-3 Inv-loop μ-loop
 returns-3 c =
     let x = c .before .before .args .t1 in
     let k = c .before .loop in
-    let e = met-all (k .inv .1) (follow-none (at (x .next)) (k .a) (x .hops) (k .i) (c .loop-test .left)) in
-    (e .0, omega (arith, e .1))
+    met-all (k .inv .1) (follow-none (at (x .next)) (k .a) (x .hops) (k .i) (c .loop-test .left))
 
 pub compare-spec : {M : Type 1} → statement M
 compare-spec =
     tie.close (tie.spec Inv-loop μ-loop (λ c. search needs) (λ c. (left-begin _ (c .pre), met-none (left-all _))) returns (λ c. search needs) (λ c. search needs) returns-2
+    (λ c. let e = c .before .before in omega (arith, e .if1 .left, e .before .before .before .good .1 .0))
     (λ c. omega (arith, element-copy-out-a c)) (λ c. omega (arith, element-copy-out-a c)) element-copy-out-a (λ c. search needs)
     (λ c. omega (arith, c .before .before .before .before .loop-test .taken)) loop-again returns-3)

@@ -20,12 +20,12 @@ use Rattle.trail.proofs.compare.Lts as lts
 use Rattle.trail.proofs.compare_way.Reads as compare-way-reads
 
 abbrev Inv-loop : tie.InvT-loop
-Inv-loop net tails heads first after t lent legs root end i₀ u₀ k₀ i u k =
+Inv-loop net tails heads first after t lent from legs root end i₀ u₀ k₀ i u k =
     (length (legs .aims) ≡ maxRules)
-    × ((w : Trailing net tails heads first after t legs) → T (w .parts .part u) × Met lent 0 (trailBy w) i (leftOf net tails heads (w .used) legs k u))
+    × ((w : Trailing net tails heads first after t legs) → T (w .parts .part u) × Met lent from (trailBy w) i (leftOf net tails heads (w .used) legs k u))
 
 abbrev μ-loop : tie.MeasureT-loop
-μ-loop net tails heads first after t lent legs root end i₀ u₀ k₀ i u k = end - k
+μ-loop net tails heads first after t lent from legs root end i₀ u₀ k₀ i u k = end - k
 
 loop-holds : tie.Need-loop-holds Inv-loop μ-loop
 loop-holds c = (sized _ (c .before .args .t7 .aims) maxRules (c .before .good .1 .1 .1 .1 .1 .1 .0 .1 .1 .1 .1 .0 .1 .0 .1), λ w. (w .parts .strong .starts, met-none (w .legs-are .goes)))
@@ -41,7 +41,7 @@ next c w = leg _ _ _ _ _ _ (c .loop-test .taken)
 met : (c : lts.After-j (compare-way-reads.Asked, compare-way-reads.Learnt) reads.Pre reads.Post Inv-loop μ-loop)
     → let at-loop = c .before .before .before .before .before .before in let s = at-loop .before .before in let k = at-loop .loop in let a = at (s .args .t7 .aims) (k .k) in
     (w : Trailing (s .args .net) (s .args .tails .now) (s .args .heads .now) (s .args .first .now) (s .args .after .now) (s .args .t .now) (s .args .t7))
-    → Met (s .args .lent .now) 0 (trailBy w) (c .j .given .0 .0)
+    → Met (s .args .lent .now) (s .args .from) (trailBy w) (c .j .given .0 .0)
     (a ∷ leftOf (s .args .net) (s .args .tails .now) (s .args .heads .now) (w .used) (s .args .t7) (k .k + 1) (at (s .args .heads .now) a))
 met c w =
     let in-loop = c .before .before .before .before .before in

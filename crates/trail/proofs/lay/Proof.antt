@@ -10,7 +10,7 @@ use Rattle.lists.proofs.Arrays.{sized}
 use Rattle.limits.specs.Limits.{maxRules}
 use Rattle.arcs.proofs.Ways.{way-size}
 use Rattle.trail.specs.Ways.{Trailing, trailBy}
-use Rattle.trail.proofs.Filled.{Stored, stored-none, stored-one, stored-room, stored-list, stored-all, laid-front}
+use Rattle.trail.proofs.Filled.{Stored, stored-none, stored-one, stored-room, stored-list, stored-all}
 use Rattle.trail.proofs.Along.{leftOf, Leg, Back, leg, back}
 use Rattle.trail.proofs.Ways.{way-of}
 use Rattle.trail.proofs.lay.Statement.{statement}
@@ -20,12 +20,12 @@ use Rattle.trail.proofs.lay.Lts as lts
 use Rattle.trail.proofs.lay_way.Reads as lay-way-reads
 
 abbrev Inv-loop : tie.InvT-loop
-Inv-loop net tails heads first after t buf₀ legs root m i₀ u₀ k₀ buf i u k =
+Inv-loop net tails heads first after t buf₀ from legs root m i₀ u₀ k₀ buf i u k =
     (length (legs .aims) ≡ maxRules)
-    × ((w : Trailing net tails heads first after t legs) → T (w .parts .part u) × Stored buf₀ 0 (trailBy w) buf i (leftOf net tails heads (w .used) legs k u))
+    × ((w : Trailing net tails heads first after t legs) → T (w .parts .part u) × Stored buf₀ from (trailBy w) buf i (leftOf net tails heads (w .used) legs k u))
 
 abbrev μ-loop : tie.MeasureT-loop
-μ-loop net tails heads first after t buf₀ legs root m i₀ u₀ k₀ buf i u k = m - k
+μ-loop net tails heads first after t buf₀ from legs root m i₀ u₀ k₀ buf i u k = m - k
 
 loop-holds : tie.Need-loop-holds Inv-loop μ-loop
 loop-holds c = (sized _ (c .before .args .t7 .aims) maxRules (c .before .good .1 .1 .1 .1 .1 .1 .0 .1 .1 .1 .1 .0 .1 .0 .1), λ w. (w .parts .strong .starts, stored-none (w .legs-are .goes)))
@@ -79,10 +79,8 @@ lay-way-requires-2 c κs =
 returns : tie.Need-returns Inv-loop μ-loop
 returns c w =
     let end = c .before .before .before .before in
-    let s = end .before .before .before in
     let b = home end w in
-    laid-front (stored-all (stored-list (end .before .loop .inv .1 w .1) (b .goes) (c .before .before .lay-way2 .ensures (way-of (w .parts) (b .joined)))) refl)
-    (omega (arith, s .pre .1, w .legs-are .hops))
+    stored-all (stored-list (end .before .loop .inv .1 w .1) (b .goes) (c .before .before .lay-way2 .ensures (way-of (w .parts) (b .joined)))) refl
 
 pub lay-spec : {M : Type 1} → statement M
 lay-spec =
