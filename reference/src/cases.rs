@@ -11,7 +11,7 @@ use crate::search::Search;
 use std::io::Write;
 
 /// The calls by their number in the case format.
-pub const NAMES: [&str; 33] = [
+pub const NAMES: [&str; 34] = [
     "",
     "read",
     "write",
@@ -45,6 +45,7 @@ pub const NAMES: [&str; 33] = [
     "new set",
     "start",
     "outcome",
+    "components",
 ];
 
 /// The input does not follow the format at this byte.
@@ -581,6 +582,21 @@ impl Answerer {
                 *lent = Some(sum_of_desk(&desk));
                 answer.map(|console| put(format_args!("{console}")))
             }
+            // Of each component its first switch, and where its trail and its
+            // round trail begin, each followed by its hops.
+            33 => calls::components(input.string()?).map(|components| {
+                let numbers = components.iter().flat_map(|component| {
+                    let (trail, round) = (&component.trail, &component.round);
+                    [
+                        u32::from(component.first),
+                        trail.start as u32,
+                        trail.len() as u32,
+                        round.start as u32,
+                        round.len() as u32,
+                    ]
+                });
+                put(format_args!("{}", Sum::of(numbers)))
+            }),
             _ => return Err(Malformed(called_at)),
         })
     }

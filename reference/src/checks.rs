@@ -1,7 +1,7 @@
 //! The marked cases of document 01, and checks of every call against plain
 //! restatements of the definitions on small plants drawn by chance.
 
-use crate::calls::{self, Choice, Named};
+use crate::calls::{self, Choice, Named, Stretches};
 use crate::cases::{prefilled, Answerer, Case, Sum};
 use crate::desk::{Begun, Console, Desk};
 use crate::listing;
@@ -37,7 +37,7 @@ fn marked_refusals() {
         (&[0x01, 0x01], 4),
         (&[0x01, 0x00], 5),
         (&[0x01, 0x41], 5),
-        (&[0x01, 0x40], 9),
+        (&[0x01, 0x40], 0),
         (&[0x00, 0x00], 8),
         (&[0x02, 0x01, 0x00, 0x00], 7),
         (&[0x03, 0x02, 0x01, 0x00, 0x00], 7),
@@ -111,7 +111,7 @@ fn marked_rules_by_switch() {
         assert_eq!(by, sending(rules));
         assert_eq!(by.total, *total);
     }
-    assert_eq!(calls::by_switch(&[0x01, 0x40]), Err(Refusal::NotConnected));
+    assert_eq!(calls::by_switch(&[0x01, 0x40]), Ok(sending(&[])));
 }
 
 #[test]
@@ -157,7 +157,8 @@ fn printed() {
                 rule 3 7 0\ntrail 0 2 4 6 7\n";
     assert_eq!(calls::print(TAILED), text);
     assert_eq!(calls::print(&[0x00]), "plant 1 0 0 0 0\ntrail\n");
-    assert_eq!(calls::print(&[0x01, 0x40]), "refused 9\n");
+    let single = format!("plant 64 0 0 0 0\n{}", "trail\n".repeat(64));
+    assert_eq!(calls::print(&[0x01, 0x40]), single);
 }
 
 #[test]
@@ -425,7 +426,7 @@ fn plants(seed: u64, small: usize, large: usize) -> Vec<Plant> {
 fn bridges_and_rules() {
     for plant in plants(1, 1500, 20) {
         let plain = Plain::new(&plant);
-        let net = Net::new(plant).unwrap();
+        let net = Net::new(plant);
         let links = plain.links.len();
         let bridges: Vec<bool> = (0..links).map(|link| plain.is_bridge(link)).collect();
         assert_eq!(net.bridge[..links], bridges);
@@ -471,7 +472,7 @@ fn rules_by_switch() {
         assert_eq!(by.rules, rules);
         assert_eq!(by.total, page.count);
         assert_eq!(by, sending(&rules[..usize::from(plant.switches)]));
-        let net = Net::new(plant).unwrap();
+        let net = Net::new(plant);
         assert_eq!(by.total, net.links + net.bridges);
     }
     // By the definition of the arcs in use.
@@ -483,7 +484,7 @@ fn rules_by_switch() {
             labels.filter(|label| plain.from(*label) == switch).count() as u16
         };
         let rules: Vec<u16> = (0..plain.switches).map(sent).collect();
-        assert_eq!(Net::new(plant).unwrap().by_switch(), sending(&rules));
+        assert_eq!(Net::new(plant).by_switch(), sending(&rules));
     }
 }
 
@@ -532,7 +533,7 @@ fn spare_on_the_total() {
     let mut more = 0;
     for plant in plants(16, 500, 30) {
         let switches = usize::from(plant.switches);
-        let by = Net::new(plant).unwrap().by_switch();
+        let by = Net::new(plant).by_switch();
         for percent in 0..=100 {
             let on_total = quantity(by.total as u16, percent).unwrap();
             let on_each = |count: &u16| quantity(*count, percent).unwrap();
@@ -553,7 +554,7 @@ fn spare_on_the_total() {
 #[test]
 fn rules_by_switch_refused() {
     let mut chance = Chance::new(17);
-    let mut seen = [0; 10];
+    let mut seen = [0; 9];
     for round in 0..4000 {
         let plant = make::joined(&mut chance, 6, 9).mixed(&mut chance);
         let bytes = match round % 4 {
@@ -561,10 +562,7 @@ fn rules_by_switch_refused() {
             1 => make::listing_of(&make::apart(&mut chance, 6, 9).mixed(&mut chance)),
             _ => make::damaged(&mut chance, &plant),
         };
-        let wanted = plain_read(&bytes).and_then(|plant| {
-            let whole = Plain::new(&left_out(&plant).0).is_whole();
-            whole.then_some(()).ok_or(9)
-        });
+        let wanted = plain_read(&bytes).map(|_| ());
         let answer = calls::by_switch(&bytes).map(|_| ());
         assert_eq!(answer.map_err(Refusal::number), wanted, "{bytes:02x?}");
         assert_eq!(answer, calls::summary(&bytes).map(|_| ()));
@@ -587,10 +585,10 @@ fn disconnected() {
             }
         }
         let whole = Plain::new(&plant).is_whole();
-        assert_eq!(Net::new(plant.clone()).is_ok(), whole);
+        assert_eq!(Net::new(plant.clone()).is_joined(), whole);
         let listing = make::listing_of(&plant);
         assert_eq!(calls::read(&listing), Ok(plant));
-        assert_eq!(number(calls::summary(&listing)), if whole { 0 } else { 9 });
+        assert_eq!(number(calls::summary(&listing)), 0);
     }
 }
 
@@ -598,7 +596,7 @@ fn disconnected() {
 fn distances_and_trail() {
     for plant in plants(3, 800, 12) {
         let plain = Plain::new(&plant);
-        let net = Net::new(plant).unwrap();
+        let net = Net::new(plant);
         let used = plain.used();
         let table = distances(&net);
         for (one, row) in table.iter().enumerate().take(plain.switches) {
@@ -628,7 +626,7 @@ fn distances_and_trail() {
 fn trail_that_differs() {
     let mut chance = Chance::new(4);
     for plant in plants(4, 300, 3) {
-        let net = Net::new(plant).unwrap();
+        let net = Net::new(plant);
         let trail = Trail::new(&net);
         let right = trail.to_vec();
         let mut longer = right.clone();
@@ -912,7 +910,7 @@ fn probes_and_first_broken_link() {
     for plant in plants(6, 500, 4) {
         let plain = Plain::new(&plant);
         let listing = make::listing_of(&plant);
-        let net = Net::new(plant).unwrap();
+        let net = Net::new(plant);
         let trail = Trail::new(&net).to_vec();
         let links = plain.links.len();
         let switch = chance.below(plain.switches);
@@ -936,7 +934,7 @@ fn probes_and_first_broken_link() {
             let place = packet::place(&net, &trail, switch);
             let in_order = Order::new(&net, &trail, place);
             for m in 1..=links {
-                let (one, two) = packet::outward(&net, &trail, place, &in_order, m);
+                let (one, two) = packet::outward(&trail, place, &in_order, m);
                 let outward = [one, two].concat();
                 let mut labels = outward.clone();
                 let mut rules = vec![true; 2 * links];
@@ -971,7 +969,7 @@ fn probes_and_first_broken_link() {
                     Ok(Named::Open)
                 );
                 let (one, two) = calls::outward(&listing, switch as u8, &trail, state).unwrap();
-                let wanted = packet::outward(&net, &trail, place, &in_order, usize::from(m));
+                let wanted = packet::outward(&trail, place, &in_order, usize::from(m));
                 assert_eq!((one, two), wanted);
                 let run = calls::run_probe(&listing, switch as u8, &trail, &states, state).unwrap();
                 let home = run.fate() == Fate::Home;
@@ -1379,7 +1377,7 @@ fn sendings_refused() {
             }
             assert_eq!(number(probe(1, &trail, &few)), 13);
             let apart = calls::link_named(&[1, 64], 64, &trail, state);
-            assert_eq!(number(apart), 9);
+            assert_eq!(number(apart), 11);
         }
     }
 }
@@ -1393,7 +1391,9 @@ fn refusals_in_order() {
     let probe = |listing: &[u8], switch, trail: &[u16], states: &[u8], state| {
         number(calls::run_probe(listing, switch, trail, states, state))
     };
-    assert_eq!(probe(&[1, 64], 64, &wrong, &few, bad), 9);
+    assert_eq!(probe(&[1, 65], 65, &wrong, &few, bad), 5);
+    assert_eq!(probe(&[1, 64], 64, &wrong, &few, bad), 11);
+    assert_eq!(probe(&[1, 64], 63, &wrong, &few, bad), 12);
     assert_eq!(probe(TRIANGLE, 3, &wrong, &few, bad), 11);
     assert_eq!(probe(TRIANGLE, 2, &wrong, &few, bad), 12);
     assert_eq!(probe(TRIANGLE, 2, &trail, &few, bad), 13);
@@ -1451,7 +1451,7 @@ fn marked_rounds() {
     assert_eq!(calls::round_trail(PARALLEL, &mut eight), Ok(6));
     assert_eq!(eight, [0, 3, 2, 5, 4, 1, 9, 9]);
     assert_eq!(calls::round_trail(&[0x00], &mut []), Ok(0));
-    assert_eq!(number(calls::round_trail(&[0x01, 0x40], &mut [])), 9);
+    assert_eq!(calls::round_trail(&[0x01, 0x40], &mut []), Ok(0));
 }
 
 /// The round trail is a closed walk from the start over each label just once.
@@ -1593,7 +1593,9 @@ fn round_refusals_in_order() {
     let run = |listing: &[u8], switch, round: &[u16], states: &[u8]| {
         number(calls::round_run(listing, switch, round, states))
     };
-    assert_eq!(run(&[1, 64], 64, &wrong, &few), 9);
+    assert_eq!(run(&[1, 65], 65, &wrong, &few), 5);
+    assert_eq!(run(&[1, 64], 64, &wrong, &few), 11);
+    assert_eq!(run(&[1, 64], 63, &wrong, &few), 0);
     assert_eq!(run(TRIANGLE, 3, &wrong, &few), 11);
     assert_eq!(run(TRIANGLE, 2, &wrong, &few), 12);
     assert_eq!(run(TRIANGLE, 2, short, &few), 12);
@@ -1607,7 +1609,8 @@ fn round_refusals_in_order() {
     let choice = |listing: &[u8], switch, trail: &[u16], round: &[u16]| {
         number(calls::choice(listing, switch, trail, round))
     };
-    assert_eq!(choice(&[1, 64], 64, &wrong, &wrong), 9);
+    assert_eq!(choice(&[1, 65], 65, &wrong, &wrong), 5);
+    assert_eq!(choice(&[1, 64], 64, &wrong, &wrong), 11);
     assert_eq!(choice(TRIANGLE, 3, &wrong, &wrong), 11);
     assert_eq!(choice(TRIANGLE, 2, &wrong, &round), 12);
     assert_eq!(choice(TRIANGLE, 2, &trail, &wrong), 12);
@@ -2126,7 +2129,7 @@ fn pages_have_three_digits() {
     let mut most = make::bundle(Plant::MAX_LINKS - 62);
     most.pairs.extend((2..64).map(|switch| (0, switch)));
     most.switches = 64;
-    let net = Net::new(most.plain()).unwrap();
+    let net = Net::new(most.plain());
     let counts = Counts::new(&net, 100).unwrap();
     assert_eq!((counts.total, counts.quantity), (318, 636));
     assert_eq!((counts.links[0], counts.links[1]), (256, 194));
@@ -2143,7 +2146,7 @@ fn pages_have_three_digits() {
     plants.extend(sketches.iter().map(make::Sketch::plain));
     plants.push(make::longest_listing());
     for plant in plants {
-        let counts = Counts::new(&Net::new(plant).unwrap(), 100).unwrap();
+        let counts = Counts::new(&Net::new(plant), 100).unwrap();
         let mut numbers = counts.rules.iter().chain(&counts.links);
         assert!(numbers.all(|number| *number < 1000));
         assert!(counts.total < 1000 && counts.quantity < 1000);
@@ -2293,14 +2296,16 @@ fn page_refusals() {
         }
         seen[usize::from(wanted)] += 1;
     }
-    for refusal in (0..=9).chain([17, 18]) {
+    for refusal in (0..=8).chain([17, 18]) {
         assert!(seen[refusal] > 20, "{seen:?}");
     }
     let written = |listing: &[u8], spare, places: usize| {
         number(calls::page_written(listing, spare, &mut vec![0; places]))
     };
     assert_eq!(written(&[], 101, 0), 1);
-    assert_eq!(written(&[1, 64], 101, 0), 9);
+    assert_eq!(written(&[1, 64], 101, 0), 17);
+    assert_eq!(written(&[1, 64], 100, 32 * 65 - 1), 18);
+    assert_eq!(written(&[1, 64], 100, 32 * 65), 0);
     assert_eq!(written(TRIANGLE, 101, 0), 17);
     assert_eq!(written(TRIANGLE, 255, 128), 17);
     assert_eq!(written(TRIANGLE, 100, 127), 18);
@@ -2315,13 +2320,15 @@ fn printed_pages() {
     for spare in 0..=999 {
         assert_eq!(page::number(spare.to_string().as_bytes()), Some(spare));
         let text = calls::print_page(TRIANGLE, spare);
+        let single = calls::print_page(&[1, 64], spare);
         if spare > 100 {
             assert_eq!(text, "refused 17\n");
+            assert_eq!(single, "refused 17\n");
         } else {
             let quantity = quantity(3, spare as u8).unwrap() as u16;
             assert_eq!(read_page(text.as_bytes()).unwrap().quantity, quantity);
+            assert_eq!(single.as_bytes(), plain_page(&[(0, 0); 64], 0, 0));
         }
-        assert_eq!(calls::print_page(&[1, 64], spare), "refused 9\n");
     }
     for text in [
         "", "00", "01", "007", "1000", "0000", "-1", "+1", " 1", "1 ", "1.", "x", "1x", "\u{661}",
@@ -2334,7 +2341,7 @@ fn printed_pages() {
 fn longest_trail() {
     let back = Plant::MAX_LINKS - (Plant::MAX_SWITCHES - 1);
     let plant = make::long(Plant::MAX_SWITCHES, back).plain();
-    let net = Net::new(plant).unwrap();
+    let net = Net::new(plant);
     assert_eq!(Trail::new(&net).hops, back * Plant::MAX_SWITCHES);
 }
 
@@ -2542,7 +2549,10 @@ fn case_lines() {
         (long(0, &trail, 0xffff, &[], &[1, 1]), "refused 13".into()),
         (on(22), format!("3 {}", sum(&three))),
         (Case::new(22).string(&[0]), format!("0 {}", sum(&[0; 64]))),
-        (Case::new(22).string(&[1, 64]), "refused 9".into()),
+        (
+            Case::new(22).string(&[1, 64]),
+            format!("0 {}", sum(&[0; 64])),
+        ),
         (Case::new(22).string(&[]), "refused 1".into()),
         (
             on(23).byte(10).word(130),
@@ -2558,7 +2568,7 @@ fn case_lines() {
         ),
         (
             Case::new(23).string(&[1, 64]).byte(101).word(0),
-            "refused 9 0:0".into(),
+            "refused 17 0:0".into(),
         ),
         (
             Case::new(24).string(page.as_bytes()),
@@ -2576,7 +2586,7 @@ fn case_lines() {
         (on(25).word(5), format!("refused 10 {}", sum(&wide[..5]))),
         (
             Case::new(25).string(&[1, 64]).word(2),
-            format!("refused 9 {}", sum(&wide[..2])),
+            format!("0 {}", sum(&wide[..2])),
         ),
         (round_at(1, &[1; 6]), "returned 6 1".into()),
         (round_at(1, &[1, 1, 1, 1, 1, 0]), "lost 2 0".into()),
@@ -2653,6 +2663,13 @@ fn case_lines() {
             marked(29, 3, &[0, 0, 0, 1]).word(14),
             format!("refused 5 {}", sum(&wide)),
         ),
+        (on(33), sum(&[0, 0, 3, 0, 6])),
+        (
+            Case::new(33).string(LATE_RING),
+            sum(&[4, 0, 3, 0, 6, 0, 3, 2, 6, 2]),
+        ),
+        (Case::new(33).string(&[0]), sum(&[0; 5])),
+        (Case::new(33).string(&[]), "refused 1".into()),
         // On a desk whose third console has a set, and later a search too.
         (
             on(30).desk(&Desk::default()).byte(2).set(5),
@@ -2885,11 +2902,21 @@ fn out_of_service_triangle() {
     let run = calls::round_run(triangle, 0, &round_vec(TRIANGLE), &[1; 6]);
     assert_eq!(number(run), 12);
     // With two links out of service, or all three, it is apart.
-    for maps in [[0x0a, 3, 0x0b], [2, 0x0b, 0x0b], [0x0a, 0x0b, 0x0b]] {
+    for (maps, text) in [
+        (
+            [0x0a, 3, 0x0b],
+            "plant 3 1 1 2 2\nrule 1 2 2\nrule 2 3 1\ntrail\ntrail 2 3\n",
+        ),
+        (
+            [2, 0x0b, 0x0b],
+            "plant 3 1 1 2 2\nrule 0 0 1\nrule 1 1 0\ntrail 0 1\ntrail\n",
+        ),
+        ([0x0a, 0x0b, 0x0b], "plant 3 0 0 0 0\ntrail\ntrail\ntrail\n"),
+    ] {
         let [one, two, three] = maps;
         let listing = [3, 3, 3, 0, one, 1, two, 1, 2, three, 2, 0];
         assert_eq!(number(calls::read(&listing)), 0);
-        assert_eq!(number(calls::summary(&listing)), 9);
+        assert_eq!(calls::print(&listing), text);
     }
 }
 
@@ -3106,7 +3133,7 @@ fn out_of_service_trails_and_runs() {
     }
 }
 
-/// Refusal 9 goes by the links in service.
+/// Components go by the links in service.
 #[test]
 fn out_of_service_apart() {
     let mut chance = Chance::new(22);
@@ -3118,18 +3145,17 @@ fn out_of_service_apart() {
         let whole = Plain::new(&left_out(&marked).0).is_whole();
         let listing = make::listing_of(&marked);
         assert_eq!(calls::read(&listing), Ok(marked));
-        let wanted = if whole { 0 } else { 9 };
-        assert_eq!(number(calls::summary(&listing)), wanted);
-        let round = number(calls::round_trail(&listing, &mut [0; 18]));
-        assert_eq!(round, wanted);
+        let components = calls::components(&listing).unwrap();
+        assert_eq!(components.len() == 1, whole);
         if !marks.is_empty() {
             seen[usize::from(whole)] += 1;
         }
         // Every link out of service joins nothing.
         let links: Vec<usize> = (0..usize::from(plant.links)).collect();
         let none = make::listing_of(&make::marked(plant.clone(), &links));
-        let wanted = if plant.switches > 1 { 9 } else { 0 };
-        assert_eq!(number(calls::summary(&none)), wanted);
+        let single = calls::components(&none).unwrap();
+        assert_eq!(single.len(), usize::from(plant.switches));
+        assert_eq!(calls::summary(&none).unwrap().rules, 0);
     }
     assert!(seen.iter().all(|count| *count > 100), "{seen:?}");
 }
@@ -3279,10 +3305,13 @@ fn plain_sitting(sitting: &Sitting) -> Result<Room, u8> {
         return Err(19);
     }
     let plant = plain_read(&sitting.listing)?;
-    let (left, _) = left_out(&plant);
-    if !Plain::new(&left).is_whole() {
-        return Err(9);
-    }
+    let plain = Plain::new(&left_out(&plant).0);
+    // The links in service that are joined to a switch.
+    let links_at = |switch: u8| {
+        let ends = plain.links.iter().map(|(first, _)| *first);
+        let own = ends.filter(|end| plain.are_joined(usize::from(switch), *end, |_| true));
+        own.count() as u16
+    };
     let mut room = Room::of(&sitting.desk.console[usize::from(sitting.console)]);
     let is_outcome = matches!(sitting.turn, Turn::Outcome(_));
     // Where the injection is, and the search that the call is about.
@@ -3304,17 +3333,22 @@ fn plain_sitting(sitting: &Sitting) -> Result<Room, u8> {
         (15, is_outcome && room.search.is_none()),
         (11, injection.iter().any(past)),
         (21, injection.is_some_and(|it| !room.switches.contains(&it))),
-        (14, judged.is_some_and(|it| !is_sound(it, left.links))),
-        (15, judged.is_some_and(has_ended)),
     ];
     if let Some((refusal, _)) = refusals.into_iter().find(|(_, met)| *met) {
         return Err(refusal);
     }
+    let links = injection.map_or(0, links_at);
+    if judged.is_some_and(|it| !is_sound(it, links)) {
+        return Err(14);
+    }
+    if judged.is_some_and(has_ended) {
+        return Err(15);
+    }
     match (sitting.turn, injection, judged) {
         (Turn::Start(switch), _, _) => {
-            let search = match left.links {
+            let search = match links {
                 0 => Search::AllUp,
-                links => Search::Checking(links, 0),
+                _ => Search::Checking(links, 0),
             };
             room.search = Some((switch, search));
         }
@@ -3471,9 +3505,9 @@ fn desk_calls() {
         seen[call][usize::from(refusal)] += 1;
     }
     let tried: [&[usize]; 3] = [
-        &[0, 1, 2, 3, 4, 5, 6, 7, 8, 9, 19, 20],
-        &[0, 1, 2, 3, 4, 5, 6, 7, 8, 9, 11, 19, 20, 21],
-        &[0, 1, 2, 3, 4, 5, 6, 7, 8, 9, 11, 14, 15, 19, 20, 21],
+        &[0, 1, 2, 3, 4, 5, 6, 7, 8, 19, 20],
+        &[0, 1, 2, 3, 4, 5, 6, 7, 8, 11, 19, 20, 21],
+        &[0, 1, 2, 3, 4, 5, 6, 7, 8, 11, 14, 15, 19, 20, 21],
     ];
     for (seen, tried) in seen.iter().zip(tried) {
         for (refusal, count) in seen.iter().enumerate() {
@@ -3768,4 +3802,596 @@ fn desk_bytes() {
         assert!(answered(&bytes).is_err());
     }
     assert!(answered(&bytes[1..]).is_err());
+}
+
+/// A component restated: a plant of its own, and the numbers that its switches
+/// and its links in service have in the listing, rising.
+struct Part {
+    plain: Plain,
+    switches: Vec<usize>,
+    links: Vec<usize>,
+}
+
+/// The start's component, and then the others by their lowest switch.
+fn parts(plant: &Plant) -> Vec<Part> {
+    let (left, numbers) = left_out(plant);
+    let whole = Plain::new(&left);
+    let mut parts: Vec<Part> = Vec::new();
+    for first in [whole.start].into_iter().chain(0..whole.switches) {
+        if parts.iter().any(|part| part.switches.contains(&first)) {
+            continue;
+        }
+        let switches: Vec<usize> = (0..whole.switches)
+            .filter(|other| whole.are_joined(first, *other, |_| true))
+            .collect();
+        let place = |switch: usize| switches.iter().position(|other| *other == switch);
+        let (mut links, mut pairs) = (Vec::new(), Vec::new());
+        for (number, (one, two)) in numbers.iter().zip(&whole.links) {
+            if let (Some(one), Some(two)) = (place(*one), place(*two)) {
+                links.push(*number);
+                pairs.push((one, two));
+            }
+        }
+        let plain = Plain {
+            switches: switches.len(),
+            start: place(first).unwrap(),
+            links: pairs,
+        };
+        parts.push(Part {
+            plain,
+            switches,
+            links,
+        });
+    }
+    parts
+}
+
+impl Part {
+    /// The run of labels of the component's own, in the words of the listing.
+    fn run(&self, rules: &[bool], at: usize, labels: &[u16], states: &[u8]) -> Run {
+        let run = plain_run(&self.plain, rules, at, labels, states);
+        Run {
+            last: self.switches[run.last],
+            ..run
+        }
+    }
+
+    fn listed(&self, labels: &[u16]) -> Vec<u16> {
+        listed_labels(&self.links, labels)
+    }
+}
+
+/// Plants by chance, most of several components: single switches, components of
+/// each kind, links out of service within them and between them.
+fn plants_apart(seed: u64, small: usize, large: usize) -> Vec<Plant> {
+    let mut chance = Chance::new(seed);
+    (0..small + large)
+        .map(|turn| {
+            let (switches, links) = if turn < small {
+                chance.of(&[(3, 4), (7, 10), (12, 24)])
+            } else {
+                (Plant::MAX_SWITCHES, Plant::MAX_LINKS)
+            };
+            let plant = make::several(&mut chance, switches, links).mixed(&mut chance);
+            let more = chance.below(3);
+            let plant = make::with_unplugged(&mut chance, &plant, more);
+            let marks = make::marking(&mut chance, &plant, turn % (2 * make::MARKINGS));
+            match turn % 3 {
+                0 => make::marked(plant, &marks),
+                _ => plant,
+            }
+        })
+        .collect()
+}
+
+fn stretches(first: u8, trail: (usize, usize), round: (usize, usize)) -> Stretches {
+    Stretches {
+        first,
+        trail: trail.0..trail.0 + trail.1,
+        round: round.0..round.0 + round.1,
+    }
+}
+
+/// A link and a single switch, which is the start.
+const LATE_SINGLE: &[u8] = &[7, 3, 1, 0, 2, 2, 1];
+/// The link 0 to 2, and the ring 1 3 4 from switch 4.
+const LATE_RING: &[u8] = &[7, 5, 4, 0, 4, 2, 2, 3, 1, 3, 3, 3, 4, 3, 4, 1];
+/// The ring 0 1 2, the path 3 4 5 and the single switch 6.
+const RING_AND_PATH: &[u8] = &[3, 7, 5, 0, 2, 1, 3, 1, 2, 3, 2, 0, 3, 3, 4, 3, 4, 5];
+
+#[test]
+fn components_by_hand() {
+    let single: Vec<Stretches> = (0..64)
+        .map(|first| stretches(first, (0, 0), (0, 0)))
+        .collect();
+    assert_eq!(calls::components(&[0x01, 0x40]), Ok(single));
+    assert_eq!(calls::rules(&[0x01, 0x40]).unwrap().count, 0);
+    assert_eq!(trail_vec(&[0x01, 0x40]), []);
+    assert_eq!(calls::trail(&[0x01, 0x40], &mut []), Ok(0));
+    for switch in 0..64 {
+        let search = calls::new_search(&[0x01, 0x40], switch);
+        assert_eq!(search, Ok(Search::AllUp));
+        let run = calls::full_check(&[0x01, 0x40], switch, &[], &[]);
+        assert_eq!(run, Ok(ended(0, usize::from(switch))));
+    }
+    // The last switch is the start: it comes first, the others rise.
+    let firsts: Vec<u8> = calls::components(&[5, 4, 3])
+        .unwrap()
+        .iter()
+        .map(|component| component.first)
+        .collect();
+    assert_eq!(firsts, [3, 0, 1, 2]);
+
+    let text = "plant 3 1 1 2 2\nrule 0 0 1\nrule 1 1 0\ntrail\ntrail 0 1\n";
+    assert_eq!(calls::print(LATE_SINGLE), text);
+    let late_single = vec![stretches(2, (0, 0), (0, 0)), stretches(0, (0, 2), (0, 2))];
+    assert_eq!(calls::components(LATE_SINGLE), Ok(late_single));
+
+    let text = "plant 5 4 1 5 5\nrule 0 0 2\nrule 2 1 0\nrule 3 3 1\nrule 4 5 3\n\
+                rule 1 7 4\ntrail 5 3 7\ntrail 0 1\n";
+    assert_eq!(calls::print(LATE_RING), text);
+    let late_ring = vec![stretches(4, (0, 3), (0, 6)), stretches(0, (3, 2), (6, 2))];
+    assert_eq!(calls::components(LATE_RING), Ok(late_ring));
+    assert_eq!(round_vec(LATE_RING), [5, 3, 7, 6, 2, 4, 0, 1]);
+    assert_eq!(calls::by_switch(LATE_RING), Ok(sending(&[1, 1, 1, 1, 1])));
+
+    let text = "plant 7 5 2 7 9\nrule 0 0 1\nrule 1 2 2\nrule 2 4 0\nrule 3 6 4\n\
+                rule 4 7 3\nrule 4 8 5\nrule 5 9 4\ntrail 0 2 4\ntrail 6 7 6 8 9 7\ntrail\n";
+    assert_eq!(calls::print(RING_AND_PATH), text);
+    assert_eq!(
+        calls::components(RING_AND_PATH),
+        Ok(vec![
+            stretches(0, (0, 3), (0, 6)),
+            stretches(3, (3, 6), (6, 4)),
+            stretches(6, (9, 0), (10, 0)),
+        ])
+    );
+}
+
+#[test]
+fn component_calls_by_hand() {
+    let (trail, round) = (trail_vec(LATE_RING), round_vec(LATE_RING));
+    // The ring from switch 3, and the link from switch 2.
+    let order = |switch| calls::order(LATE_RING, switch, &trail).unwrap();
+    assert_eq!(order(3).links(), [1, 3, 2]);
+    assert_eq!(order(2).links(), [0]);
+    let check = |switch, states: &[u8]| calls::full_check(LATE_RING, switch, &trail, states);
+    assert_eq!(check(2, &[1, 0, 0, 0]), Ok(ended(2, 2)));
+    assert_eq!(check(2, &[0, 1, 1, 1]), Ok(lost(0, 2)));
+    assert_eq!(check(3, &[0, 1, 1, 1]), Ok(ended(3, 3)));
+    assert_eq!(check(3, &[1, 1, 1, 0]), Ok(lost(1, 1)));
+    assert_eq!(check(3, &[1, 1, 1]), Err(Refusal::StatesShort));
+    // The outward labels of probe 2 go to the end of the stretch, and those of
+    // the whole ring then to its beginning.
+    let outward = |switch, search| calls::outward(LATE_RING, switch, &trail, search);
+    let halving = Search::Halving(2, 3, 0);
+    assert_eq!(outward(3, halving), Ok((&trail[1..3], &trail[..0])));
+    let checking = Search::Checking(3, 0);
+    assert_eq!(outward(3, checking), Ok((&trail[1..3], &trail[..1])));
+    let other = Search::Checking(1, 0);
+    assert_eq!(outward(2, other), Ok((&trail[4..5], &trail[3..4])));
+    // Counts of the whole plant and of the other component.
+    for (switch, count, refusal) in [(3, 3, 0), (3, 4, 14), (3, 1, 14), (2, 1, 0), (2, 3, 14)] {
+        let search = Search::Checking(count, 0);
+        assert_eq!(number(outward(switch, search)), refusal);
+    }
+    let named = |switch, place| calls::link_named(LATE_RING, switch, &trail, Search::Down(place));
+    assert_eq!(named(3, 2), Ok(Named::Link(3)));
+    assert_eq!(named(0, 1), Ok(Named::Link(0)));
+    assert_eq!(named(0, 2), Err(Refusal::SearchUnsound));
+    assert_eq!(calls::new_search(LATE_RING, 1), Ok(Search::Checking(3, 0)));
+    assert_eq!(calls::new_search(LATE_RING, 0), Ok(Search::Checking(1, 0)));
+    let losses = calls::perform(LATE_RING, 0, &[2; 9]);
+    assert_eq!(losses, Ok((Search::Down(1), 1, 3)));
+    // Round runs: labels 0 and 1 are of the second component.
+    let run = |switch, states: &[u8]| calls::round_run(LATE_RING, switch, &round, states);
+    assert_eq!(run(2, &[1, 1, 0, 0, 0, 0, 0, 0]), Ok(ended(2, 2)));
+    assert_eq!(run(2, &[0, 1, 1, 1, 1, 1, 1, 1]), Ok(lost(1, 0)));
+    assert_eq!(run(3, &[0, 0, 1, 1, 1, 1, 1, 1]), Ok(ended(6, 3)));
+    assert_eq!(run(3, &[1, 1, 1, 1, 1, 1, 0, 1]), Ok(lost(2, 4)));
+    assert_eq!(run(2, &[1; 7]), Err(Refusal::StatesShort));
+    // Each component chooses for itself: the ring has 3 hops against 6, the path
+    // 6 against 4, the single switch none.
+    let (trail, round) = (trail_vec(RING_AND_PATH), round_vec(RING_AND_PATH));
+    let (lent, lent_round) = ([&trail[..], &[7]].concat(), [&round[..], &[8, 9]].concat());
+    let choice = |switch| calls::choice(RING_AND_PATH, switch, &lent, &lent_round).unwrap();
+    assert_eq!(choice(1), Choice::Trail(&lent[..3]));
+    assert_eq!(choice(4), Choice::Round(&lent_round[6..10]));
+    assert_eq!(choice(6), Choice::Trail(&lent[9..9]));
+    // A component without links.
+    let check = calls::full_check(RING_AND_PATH, 6, &trail, &[0; 5]);
+    assert_eq!(check, Ok(ended(0, 6)));
+    let check = calls::round_run(RING_AND_PATH, 6, &round, &[0; 10]);
+    assert_eq!(check, Ok(ended(0, 6)));
+    assert_eq!(calls::new_search(RING_AND_PATH, 6), Ok(Search::AllUp));
+    let order = calls::order(RING_AND_PATH, 6, &trail).unwrap();
+    assert_eq!(order.links(), []);
+    let probe = |search| number(calls::outward(RING_AND_PATH, 6, &trail, search));
+    assert_eq!(probe(Search::AllUp), 15);
+    assert_eq!(probe(Search::Checking(5, 0)), 14);
+    assert_eq!(probe(Search::Down(1)), 14);
+}
+
+/// Refusals of plants in several components: 12 by the joined trail, 13 by every
+/// link of the listing, 14 by the component's links, in this order.
+#[test]
+fn component_refusals_in_order() {
+    let (trail, round) = (trail_vec(RING_AND_PATH), round_vec(RING_AND_PATH));
+    let swapped = [&trail[3..], &trail[..3]].concat();
+    let longer = [&trail[..], &[0]].concat();
+    let own = &trail[..3];
+    let whole = Search::Checking(5, 0);
+    let probe = |switch, trail: &[u16], states: usize, search| {
+        let states = vec![1; states];
+        number(calls::run_probe(
+            RING_AND_PATH,
+            switch,
+            trail,
+            &states,
+            search,
+        ))
+    };
+    for wrong in [own, &swapped, &longer, &trail[..8], &[]] {
+        assert_eq!(probe(7, wrong, 3, whole), 11);
+        assert_eq!(probe(1, wrong, 3, whole), 12);
+        assert_eq!(number(calls::order(RING_AND_PATH, 1, wrong)), 12);
+        assert_eq!(number(calls::order(RING_AND_PATH, 6, wrong)), 12);
+    }
+    assert_eq!(probe(1, &trail, 3, whole), 13);
+    assert_eq!(probe(1, &trail, 4, Search::Checking(3, 0)), 13);
+    assert_eq!(probe(1, &trail, 5, whole), 14);
+    assert_eq!(probe(1, &trail, 5, Search::Down(3)), 15);
+    assert_eq!(probe(1, &trail, 5, Search::Down(4)), 14);
+    assert_eq!(probe(4, &trail, 5, Search::Down(3)), 14);
+    assert_eq!(probe(1, &trail, 5, Search::Checking(3, 0)), 0);
+    assert_eq!(probe(4, &trail, 5, Search::Checking(2, 0)), 0);
+    let run = |switch, round: &[u16], states: usize| {
+        let states = vec![1; states];
+        number(calls::round_run(RING_AND_PATH, switch, round, &states))
+    };
+    let other_way = [&round[6..], &round[..6]].concat();
+    assert_eq!(run(7, &other_way, 6), 11);
+    assert_eq!(run(1, &other_way, 6), 12);
+    assert_eq!(run(1, &round[..6], 10), 12);
+    assert_eq!(run(1, &[&round[..], &[3]].concat(), 9), 13);
+    assert_eq!(run(1, &[&round[..], &[3]].concat(), 10), 0);
+    let choice =
+        |trail: &[u16], round: &[u16]| number(calls::choice(RING_AND_PATH, 4, trail, round));
+    assert_eq!(choice(&swapped, &round), 12);
+    assert_eq!(choice(&trail, &other_way), 12);
+    assert_eq!(choice(&trail[3..], &round[6..]), 12);
+    assert_eq!(choice(&longer, &round), 0);
+    for places in 0..12 {
+        let mut buffer = vec![9; places];
+        let wanted = if places < 9 { 10 } else { 0 };
+        assert_eq!(number(calls::trail(RING_AND_PATH, &mut buffer)), wanted);
+        let mut buffer = vec![9; places];
+        let wanted = if places < 10 { 10 } else { 0 };
+        assert_eq!(
+            number(calls::round_trail(RING_AND_PATH, &mut buffer)),
+            wanted
+        );
+    }
+}
+
+/// Components, bridges, rules, trails and round trails against those of each
+/// component cut out; the counts over the whole plant.
+#[test]
+fn components_cut_out() {
+    let mut seen = [0; 4];
+    for plant in plants_apart(31, 900, 12) {
+        let listing = make::listing_of(&plant);
+        let (mut trail, mut round) = (Vec::new(), Vec::new());
+        let mut stretches = Vec::new();
+        let mut used = vec![false; 2 * usize::from(plant.links)];
+        let mut bridges = Vec::new();
+        let parts = parts(&plant);
+        for part in &parts {
+            assert!(part.plain.is_whole());
+            let own = part.listed(&part.plain.trail());
+            let own_round = part.listed(&part.plain.round());
+            stretches.push(Stretches {
+                first: part.switches[part.plain.start] as u8,
+                trail: trail.len()..trail.len() + own.len(),
+                round: round.len()..round.len() + own_round.len(),
+            });
+            trail.extend(own);
+            round.extend(own_round);
+            for (label, is_used) in part.plain.used().into_iter().enumerate() {
+                used[2 * part.links[label / 2] + label % 2] = is_used;
+            }
+            let links = 0..part.links.len();
+            let own = links.filter(|link| part.plain.is_bridge(*link));
+            bridges.extend(own.map(|link| part.links[link]));
+        }
+        bridges.sort_unstable();
+        assert_eq!(calls::components(&listing), Ok(stretches));
+        assert_eq!(trail_vec(&listing), trail);
+        assert_eq!(round_vec(&listing), round);
+        let (count, flags) = calls::bridges(&listing).unwrap();
+        assert_eq!(count, usize::from(plant.links));
+        let flagged: Vec<usize> = (0..flags.len()).filter(|link| flags[*link]).collect();
+        assert_eq!(flagged, bridges);
+        // Rules for exactly the arcs in use, which are those that the joined
+        // trail crosses.
+        let page = calls::rules(&listing).unwrap();
+        let ruled: Vec<usize> = page
+            .rules()
+            .iter()
+            .map(|rule| usize::from(rule.label))
+            .collect();
+        let labels: Vec<usize> = (0..used.len()).filter(|label| used[*label]).collect();
+        assert_eq!(ruled, labels);
+        let mut crossed = vec![false; used.len()];
+        for label in &trail {
+            crossed[usize::from(*label)] = true;
+        }
+        assert_eq!(crossed, used);
+        let mut sent = [0; Plant::MAX_SWITCHES];
+        for rule in page.rules() {
+            let link = plant.link[usize::from(rule.label / 2)];
+            let ends = [(link.first, link.second), (link.second, link.first)];
+            assert_eq!((rule.from, rule.to), ends[usize::from(rule.label % 2)]);
+            sent[usize::from(rule.from)] += 1;
+        }
+        let switches = usize::from(plant.switches);
+        let by = calls::by_switch(&listing);
+        assert_eq!(by, Ok(sending(&sent[..switches])));
+        let links = plant.in_service().count();
+        let sum = calls::summary(&listing).unwrap();
+        assert_eq!((sum.switches, sum.links), (switches, links));
+        assert_eq!(sum.bridges, bridges.len());
+        assert_eq!((sum.rules, page.count), (links + bridges.len(), sum.rules));
+        assert_eq!(sum.hops, trail.len());
+        assert_eq!(round.len(), 2 * links);
+        assert!(sum.hops <= Plant::MAX_HOPS);
+        // What is printed.
+        let mut text = format!(
+            "plant {switches} {links} {} {} {}\n",
+            sum.bridges, sum.rules, sum.hops
+        );
+        for rule in page.rules() {
+            text += &format!("rule {} {} {}\n", rule.from, rule.label, rule.to);
+        }
+        for part in &parts {
+            text += "trail";
+            for label in part.listed(&part.plain.trail()) {
+                text += &format!(" {label}");
+            }
+            text += "\n";
+        }
+        assert_eq!(calls::print(&listing), text);
+        // Single switches, several components, the start in a late one and not
+        // its lowest switch.
+        let lowest = parts[0].switches[0];
+        seen[0] += usize::from(parts.iter().any(|part| part.links.is_empty()));
+        seen[1] += usize::from(parts.len() > 1);
+        seen[2] += usize::from(lowest > 0);
+        seen[3] += usize::from(lowest > 0 && lowest < usize::from(plant.start));
+    }
+    assert!(seen.iter().all(|count| *count > 100), "{seen:?}");
+}
+
+/// The most hops that components can have, and the trails of components that are
+/// as long as can be.
+#[test]
+fn component_hops() {
+    for parts in [1, 2, 4, 8, 16, 32] {
+        let (switches, links) = (Plant::MAX_SWITCHES / parts, Plant::MAX_LINKS / parts);
+        let none = make::Sketch::default();
+        let one = make::long(switches, links - (switches - 1));
+        let sketch = (0..parts).fold(none, |whole, _| whole.beside(&one));
+        let listing = make::listing_of(&sketch.plain());
+        let mut buffer = vec![0; Plant::MAX_HOPS];
+        let hops = calls::trail(&listing, &mut buffer).unwrap();
+        assert_eq!(hops % parts, 0);
+        let own = calls::summary(&make::listing_of(&one.plain())).unwrap();
+        assert_eq!(hops, parts * own.hops);
+        assert_eq!(calls::components(&listing).unwrap().len(), parts);
+    }
+}
+
+/// Runs, orders, probes, searches and choices from every switch, against those of
+/// the component cut out, whatever the states of other links.
+#[test]
+fn runs_in_components() {
+    let mut chance = Chance::new(32);
+    let mut seen = [0; 3];
+    for plant in plants_apart(32, 350, 2) {
+        let listing = make::listing_of(&plant);
+        let (trail, round) = (trail_vec(&listing), round_vec(&listing));
+        let stretches = calls::components(&listing).unwrap();
+        let all = usize::from(plant.links);
+        let whole = plant.in_service().count() as u16;
+        for (part, stretches) in parts(&plant).iter().zip(&stretches) {
+            let links = part.links.len();
+            let (used, both) = (part.plain.used(), vec![true; 2 * links]);
+            let at = chance.below(part.switches.len());
+            let begin = part.switches[at] as u8;
+            let (ring, order) = part.plain.ring(&part.plain.trail(), at);
+            let (way, _) = part.plain.ring(&part.plain.round(), at);
+            let listed: Vec<u16> = order.iter().map(|link| part.links[*link] as u16).collect();
+            let told = calls::order(&listing, begin, &trail).unwrap();
+            assert_eq!(told.links(), listed);
+            // The ring is read from a place of the joined trail to the end of
+            // the stretch, and then from its beginning.
+            let mut outward = Vec::new();
+            if links > 0 {
+                let checking = Search::Checking(links as u16, 0);
+                let (one, two) = calls::outward(&listing, begin, &trail, checking).unwrap();
+                outward = [one, two].concat();
+                let place = stretches.trail.end - one.len();
+                let leaves = |label: &u16| {
+                    let link = plant.link[usize::from(label / 2)];
+                    [link.first, link.second][usize::from(label % 2)] == begin
+                };
+                assert_eq!(trail.iter().position(leaves), Some(place));
+                assert_eq!(one, &trail[place..stretches.trail.end]);
+                assert_eq!(two, &trail[stretches.trail.start..place]);
+            }
+            assert_eq!(outward, part.listed(&ring));
+            // States: all other links down, or up, or any.
+            for other in [0, 1, 2] {
+                let mut states = vec![1; links];
+                let mut ways = vec![1; 2 * links];
+                if links > 0 && chance.percent(60) {
+                    states[chance.below(links)] = 0;
+                    ways[chance.below(2 * links)] = 0;
+                }
+                let mut any = || [0, 255, chance.byte()][other];
+                let mut all_states: Vec<u8> = (0..all).map(|_| any()).collect();
+                let mut all_ways: Vec<u8> = (0..2 * all).map(|_| any()).collect();
+                for (link, number) in part.links.iter().enumerate() {
+                    all_states[*number] = states[link];
+                    all_ways[2 * number] = ways[2 * link];
+                    all_ways[2 * number + 1] = ways[2 * link + 1];
+                }
+                let full = part.run(&used, at, &ring, &states);
+                let run = calls::full_check(&listing, begin, &trail, &all_states);
+                assert_eq!(run, Ok(full));
+                assert_eq!(full.ended, states.iter().all(|state| *state != 0));
+                let free = stray(&mut chance, &part.plain, &used, at);
+                let free: Vec<u16> = free
+                    .into_iter()
+                    .filter(|label| usize::from(*label) < used.len())
+                    .collect();
+                let run = calls::run(&listing, begin, &part.listed(&free), &all_states);
+                assert_eq!(run, Ok(part.run(&used, at, &free, &states)));
+                let open: Vec<bool> = ways.iter().map(|way| *way != 0).collect();
+                let run = calls::round_run(&listing, begin, &round, &all_ways);
+                let round_home = part.run(&open, at, &way, &vec![1; links]);
+                assert_eq!(run, Ok(round_home));
+                assert_eq!(round_home.ended, open.iter().all(|up| *up));
+                for m in 1..=links {
+                    let search = if m == links {
+                        Search::Checking(m as u16, 0)
+                    } else {
+                        Search::Halving(m as u16, m as u16 + 1, 0)
+                    };
+                    let mut probe = full;
+                    if m < links {
+                        let crossing = |label: &u16| usize::from(label / 2) == order[m - 1];
+                        let out = &ring[..=ring.iter().position(crossing).unwrap()];
+                        let back: Vec<u16> = out.iter().rev().map(|label| label ^ 1).collect();
+                        probe = part.run(&both, at, &[out, &back].concat(), &states);
+                    }
+                    let run = calls::run_probe(&listing, begin, &trail, &all_states, search);
+                    assert_eq!(run, Ok(probe));
+                }
+                // A search names the first broken link of its component.
+                let mut state = calls::new_search(&listing, begin).unwrap();
+                assert_eq!(state, Search::new(links as u16));
+                let mut list = Vec::new();
+                while state.ask().is_ok() {
+                    let run = calls::run_probe(&listing, begin, &trail, &all_states, state);
+                    let home = run.unwrap().ended;
+                    let times = if home { 1 } else { 3 };
+                    for _ in 0..times {
+                        state = state.give(home).unwrap();
+                        list.push(if home { 1 } else { 2 });
+                    }
+                }
+                let performed = calls::perform(&listing, begin, &list).unwrap();
+                assert_eq!(performed.0, state);
+                let first = order.iter().position(|link| states[*link] == 0);
+                let named = calls::link_named(&listing, begin, &trail, state);
+                assert_eq!(
+                    named,
+                    Ok(first.map_or(Named::None, |place| Named::Link(listed[place])))
+                );
+                seen[0] += usize::from(first.is_some());
+            }
+            // Searches of another number of links.
+            for count in [links as u16 + 1, whole] {
+                if usize::from(count) != links {
+                    for search in [
+                        Search::Checking(count, 0),
+                        Search::Halving(1, count.max(2), 0),
+                        Search::Down(count),
+                    ] {
+                        let named = calls::link_named(&listing, begin, &trail, search);
+                        assert_eq!(number(named), 14);
+                    }
+                    seen[1] += 1;
+                }
+            }
+            let choice = calls::choice(&listing, begin, &trail, &round).unwrap();
+            let (own, own_round) = (stretches.trail.clone(), stretches.round.clone());
+            let fewer = own_round.len() < own.len();
+            assert_eq!(
+                choice,
+                match fewer {
+                    true => Choice::Round(&round[own_round]),
+                    false => Choice::Trail(&trail[own]),
+                }
+            );
+            seen[2] += usize::from(fewer != (round.len() < trail.len()));
+        }
+    }
+    assert!(seen.iter().all(|count| *count > 100), "{seen:?}");
+}
+
+/// Calls of the desk at switches of several components, with searches of as many
+/// links as the component has, as all, and of any number.
+#[test]
+fn desk_in_components() {
+    let mut chance = Chance::new(33);
+    let mut seen = [0; 22];
+    for plant in plants_apart(33, 3000, 0) {
+        let all = make::all_switches(plant.switches);
+        let switch = chance.below(usize::from(plant.switches)) as u8;
+        let net = Net::new(plant.clone());
+        let own = net.links_at(usize::from(switch));
+        let links = chance.of(&[own, own, net.links as u16]);
+        let any = chance.draw();
+        let set = any & all | 1 << switch;
+        let begun = Begun {
+            switch,
+            search: make::some_search(&mut chance, links),
+        };
+        let mut desk = make::any_desk(&mut chance);
+        let console = chance.below(Desk::CONSOLES) as u8;
+        desk.console[usize::from(console)] = Console {
+            set: chance.of(&[set, set, set, all, any]),
+            search: chance.percent(90).then_some(begun),
+        };
+        let turn = match chance.below(5) {
+            0 => Turn::Set(make::some_set(&mut chance, plant.switches)),
+            1 | 2 => Turn::Start(switch),
+            _ => Turn::Outcome(chance.of(&[0, 0, 1, 255])),
+        };
+        let refusal = hold_sitting(&Sitting {
+            listing: make::listing_of(&plant),
+            desk,
+            console,
+            turn,
+        });
+        seen[usize::from(refusal)] += 1;
+    }
+    for refusal in [0, 14, 15, 20] {
+        assert!(seen[refusal] > 30, "{seen:?}");
+    }
+}
+
+/// What `rules` prints of a joined plant: one trail line.
+#[test]
+fn printed_of_joined_plants() {
+    for plant in plants(34, 400, 4) {
+        let plain = Plain::new(&plant);
+        let (used, trail) = (plain.used(), plain.trail());
+        let links = plain.links.len();
+        let bridges = (0..links).filter(|link| plain.is_bridge(*link)).count();
+        let mut text = format!(
+            "plant {} {links} {bridges} {} {}\n",
+            plain.switches,
+            links + bridges,
+            trail.len()
+        );
+        for label in plain.labels().filter(|label| used[*label]) {
+            text += &format!("rule {} {label} {}\n", plain.from(label), plain.to(label));
+        }
+        let labels: Vec<String> = trail.iter().map(|label| format!(" {label}")).collect();
+        text += &format!("trail{}\n", labels.concat());
+        assert_eq!(calls::print(&make::listing_of(&plant)), text);
+    }
 }

@@ -1,13 +1,13 @@
 //! Second implementation of the network planner, made from document 01, orders
-//! 1 to 4 and 6 to 8 of document 02 and a list of calls.
+//! 1 to 4 and 6 to 9 of document 02 and a list of calls.
 //!
 //! - [`plant`]: plant values, their limits, the links in service and the
 //!   refusals;
 //! - [`listing`]: the listing's reader and writer;
-//! - [`net`]: depth-first visit, bridges, arcs in use, rule page, rules by
-//!   switch;
-//! - [`trail`]: distances and the trail;
-//! - [`round`]: the round trail;
+//! - [`net`]: depth-first visit, components, bridges, arcs in use, rule page,
+//!   rules by switch;
+//! - [`trail`]: distances and the trail of each component;
+//! - [`round`]: the round trail of each component;
 //! - [`packet`]: packet runs, place, ring, order of links, probes;
 //! - [`search`]: the search, its allowance, the order quantity;
 //! - [`desk`]: the desk of four consoles;

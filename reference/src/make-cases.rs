@@ -3,7 +3,7 @@
 //! `make-cases OUT_DIR [SEED] [COUNT]` writes `cases.in` and `cases.expected`
 //! and prints to standard error how often each call and refusal occurs.
 
-use reference::calls;
+use reference::calls::{self, Stretches};
 use reference::cases::{Answerer, Case, NAMES};
 use reference::desk::{Begun, Console, Desk};
 use reference::listing;
@@ -18,18 +18,19 @@ use reference::trail::Trail;
 use std::cmp::Ordering;
 use std::fs::File;
 use std::io::{self, BufWriter, Write};
+use std::ops::Range;
 use std::path::Path;
 use std::process::ExitCode;
 
 const SEED: u64 = 1;
 /// The first cases are of every call but the long run, the rules by switch, the
-/// pages, those of the round trail, those given marks and those of the desk,
-/// those after them of packet runs alone, the next of rules by switch alone, of
-/// pages written alone, of pages read alone, of searches alone, of the allowance
-/// alone, of round trails alone, of round runs alone, of choices alone, of
-/// listings with links out of service, of plants written with marks, of plants
-/// reread with marks and of the desk alone, and any more are of the kinds before
-/// the allowance.
+/// pages, those of the round trail, those given marks, those of the desk and the
+/// components, those after them of packet runs alone, the next of rules by switch
+/// alone, of pages written alone, of pages read alone, of searches alone, of the
+/// allowance alone, of round trails alone, of round runs alone, of choices alone,
+/// of listings with links out of service, of plants written with marks, of plants
+/// reread with marks, of the desk alone and of plants in several components, and
+/// any more are of the kinds before the allowance.
 const FIRST: usize = 18_000;
 const RUNS: usize = 1_000;
 const BY_SWITCH: usize = 1_000;
@@ -44,13 +45,16 @@ const MARKED: usize = 1_100;
 const WRITTEN_MARKED: usize = 250;
 const REREAD: usize = 150;
 const DESKS: usize = 1_500;
+const SEVERAL: usize = 1_500;
 /// The cases before those of the allowance.
 const KINDS: usize = FIRST + RUNS + BY_SWITCH + WRITTEN + READ + SEARCHES;
 /// The cases before those with links out of service.
 const IN_SERVICE: usize = KINDS + ALLOWANCES + ROUND_TRAILS + ROUND_RUNS + CHOICES;
 /// The cases before those of the desk.
 const NO_DESK: usize = IN_SERVICE + MARKED + WRITTEN_MARKED + REREAD;
-const COUNT: usize = NO_DESK + DESKS;
+/// The cases before those of plants in several components.
+const ALONE: usize = NO_DESK + DESKS;
+const COUNT: usize = ALONE + SEVERAL;
 
 /// The highest number of a refusal.
 const REFUSALS: usize = 21;
@@ -128,8 +132,14 @@ impl Subject {
     }
 }
 
+/// The plan of a plant that is one component.
+fn joined(plant: &Plant) -> Option<Net> {
+    Some(Net::new(plant.clone())).filter(Net::is_joined)
+}
+
+/// The trail of a plant that is one component; of any other none.
 fn trail_of(plant: &Plant) -> Vec<u16> {
-    Net::new(plant.clone()).map_or(Vec::new(), |net| Trail::new(&net).to_vec())
+    joined(plant).map_or(Vec::new(), |net| Trail::new(&net).to_vec())
 }
 
 /// The most switches and links of a plant drawn by chance.
@@ -342,7 +352,7 @@ fn walk(chance: &mut Chance, net: &Net, begin: u8, hops: usize, any: bool) -> Ve
 fn labels(chance: &mut Chance, subject: &Subject) -> (u8, Vec<u16>) {
     let plant = &subject.plant;
     let begin = switch(chance, plant);
-    let Ok(net) = Net::new(plant.clone()) else {
+    let Some(net) = joined(plant) else {
         return (begin, Vec::new());
     };
     // A walk over arcs in use, at times over any arcs.
@@ -663,7 +673,9 @@ fn fixed(chance: &mut Chance, out: &mut Out) -> io::Result<()> {
                 out.put(Case::new(19).plant(&plant, links).word(places))?;
             }
         }
-        let hops = calls::summary(&listing).map_or(1, |sum| sum.hops);
+        let plant = calls::read(&listing).ok();
+        let net = plant.and_then(|plant| joined(&plant));
+        let hops = net.map_or(1, |net| Trail::new(&net).hops);
         for places in hops.saturating_sub(1)..=hops + 1 {
             out.put(Case::new(6).string(&listing).word(places))?;
         }
@@ -845,7 +857,7 @@ fn fixed(chance: &mut Chance, out: &mut Out) -> io::Result<()> {
         let call = [2, 19][round % 2];
         out.put(Case::new(call).plant(&plant, given).word(places))?;
     }
-    // Of the calls with a lent trail, any of 9 and 11 to 15.
+    // Of the calls with a lent trail, any of 11 to 15, and plants apart.
     for _ in 0..200 {
         let plant = make::joined(chance, 5, 8).mixed(chance);
         let subject = Subject::new(plant);
@@ -945,7 +957,7 @@ struct Course {
 
 impl Course {
     fn new(plant: Plant) -> io::Result<Course> {
-        let net = Net::new(plant.clone()).map_err(|_| io::Error::other("a plant apart"))?;
+        let net = joined(&plant).ok_or(io::Error::other("a plant apart"))?;
         Ok(Course {
             subject: Subject::new(plant),
             net,
@@ -1070,6 +1082,9 @@ impl Course {
     }
 }
 
+/// The number of the call for a long run.
+const LONG_RUN: u8 = 21;
+
 /// A long run: the first list so many times, or as often as can be, and then
 /// the second.
 fn long(
@@ -1081,7 +1096,7 @@ fn long(
     states: &[u8],
 ) -> Case {
     let most = (MOST_LABELS - more.len()).checked_div(round.len());
-    Case::new(21)
+    Case::new(LONG_RUN)
         .string(listing)
         .byte(begin)
         .labels(round)
@@ -1486,8 +1501,8 @@ fn in_turn(chance: &mut Chance, switches: usize) -> Sketch {
 }
 
 /// A listing of so many bytes at least that meets a refusal, 1 to 9, of a plant
-/// with at most so many switches and links. It is judged by document 01 alone:
-/// a record's map with bit 3 counts as refusal 2.
+/// with at most so many switches and links. It is judged by document 01 alone: a
+/// record's map with bit 3 counts as refusal 2, and several components as 9.
 fn refused(
     chance: &mut Chance,
     refusal: u8,
@@ -1501,8 +1516,11 @@ fn refused(
             let plant = make::joined(chance, switches, links).mixed(chance);
             make::damaged(chance, &plant)
         };
-        let met = listing::read_unmarked(&listing).and_then(Net::new).err();
-        if met.is_some_and(|met| met.number() == refusal) && listing.len() >= least {
+        let met = match listing::read_unmarked(&listing) {
+            Err(met) => Some(met.number()),
+            Ok(plant) => joined(&plant).is_none().then_some(9),
+        };
+        if met == Some(refusal) && listing.len() >= least {
             return listing;
         }
     }
@@ -1821,8 +1839,7 @@ fn draft_read(draft: &Draft) -> Case {
 
 /// The counts of a joined plant.
 fn planned(plant: Plant, spare: u8) -> io::Result<Counts> {
-    Net::new(plant)
-        .and_then(|net| Counts::new(&net, spare))
+    Counts::new(&Net::new(plant), spare)
         .map_err(|refusal| io::Error::other(format!("refused {}", refusal.number())))
 }
 
@@ -2750,8 +2767,9 @@ struct Pair {
     round: Vec<u16>,
 }
 
+/// The round trail of a plant that is one component; of any other none.
 fn round_of(plant: &Plant) -> Vec<u16> {
-    Net::new(plant.clone()).map_or(Vec::new(), |net| Round::new(&net).labels().to_vec())
+    joined(plant).map_or(Vec::new(), |net| Round::new(&net).labels().to_vec())
 }
 
 impl Pair {
@@ -3629,15 +3647,25 @@ impl Pair {
         states
     }
 
-    /// Right arguments of a call.
+    /// Right arguments of a call about a joined plant.
     fn arguments(&self, chance: &mut Chance, call: u8) -> Arguments {
         let begin = self.some_switch(chance);
-        let service = self.service();
+        let net = joined(&self.plant);
+        self.arguments_at(chance, call, begin, self.service(), net.as_ref())
+    }
+
+    /// Right arguments of a call at a switch whose component has so many links
+    /// in service.
+    fn arguments_at(
+        &self,
+        chance: &mut Chance,
+        call: u8,
+        begin: u8,
+        service: usize,
+        net: Option<&Net>,
+    ) -> Arguments {
         let hops = chance.within(1, 6);
-        let labels = match Net::new(self.plant.clone()) {
-            Ok(net) => walk(chance, &net, begin, hops, false),
-            Err(_) => Vec::new(),
-        };
+        let labels = net.map_or(Vec::new(), |net| walk(chance, net, begin, hops, false));
         let idle = chance.of(&[0, 0, 1, 255]);
         let first = chance.below(service + 1);
         Arguments {
@@ -3667,7 +3695,7 @@ impl Pair {
     /// A case with right arguments; where the plant is apart, with those of the
     /// plant with every link in service.
     fn likely(&self, chance: &mut Chance, call: u8) -> Case {
-        if Net::new(self.plant.clone()).is_ok() {
+        if joined(&self.plant).is_some() {
             self.right(chance, call)
         } else {
             let arguments = self.unmarked().arguments(chance, call);
@@ -4145,7 +4173,7 @@ fn fixed_idle_states(chance: &mut Chance, out: &mut Out) -> io::Result<()> {
 /// the way and at the end.
 fn fixed_marked_crossed(chance: &mut Chance, out: &mut Out) -> io::Result<()> {
     for pair in unplugged_pairs(chance) {
-        let net = Net::new(pair.plant.clone()).map_err(|_| io::Error::other("a plant apart"))?;
+        let net = joined(&pair.plant).ok_or(io::Error::other("a plant apart"))?;
         for third in 0..3 {
             let label = 2 * chance.of(&pair.marked()) as u16 + chance.below(2) as u16;
             let (from, to) = net.ends(label);
@@ -4204,7 +4232,7 @@ fn fixed_marked_searches(chance: &mut Chance, out: &mut Out) -> io::Result<()> {
 }
 
 /// Each refusal of the listing in every call: 1 to 8 at a link out of service
-/// or next to it, and 9 for want of a link that is out of service.
+/// or next to it; and a plant apart for want of a link that is out of service.
 fn fixed_marked_listings_refused(chance: &mut Chance, out: &mut Out) -> io::Result<()> {
     for call in LISTED {
         for refusal in 1..=8 {
@@ -4278,8 +4306,8 @@ fn fixed_marked_refused(chance: &mut Chance, out: &mut Out) -> io::Result<()> {
         arguments.spare = spare;
         out.put(arguments.case(PAGE_WRITTEN, &pair.listing))?;
     }
-    // Several at once: 9, 11, 12 by the trail of all links, 13 by as many
-    // states as links are in service, 14 by the count of all links.
+    // Several at once: a plant apart, 11, 12 by the trail of all links, 13 by
+    // as many states as links are in service, 14 by the count of all links.
     let plant = tailed.mixed(chance);
     let marks = make::marking(chance, &plant, 4);
     let apart = Pair::new(make::marked(plant, &marks));
@@ -4838,7 +4866,7 @@ fn called(chance: &mut Chance, listing: &[u8], own: Console, turn: Turn) -> Case
 enum Fault {
     /// 19.
     Console,
-    /// 1 to 9: this one.
+    /// 1 to 8: this one; for 9 the plant is apart.
     Listing(u8),
     /// 20.
     Set,
@@ -4906,6 +4934,17 @@ fn faulty_search(chance: &mut Chance, links: u16, unsound: bool, ended: bool) ->
 /// A call with these faults and no other, of a plant with links and few
 /// switches; but a switch out of range is also outside every set in range.
 fn faulty(chance: &mut Chance, plant: &Plant, call: u8, faults: &[Fault]) -> Sitting {
+    faulty_at(chance, plant, call, faults, |_| service(plant) as u16)
+}
+
+/// Such a call, where it is told how many links a search at a switch is of.
+fn faulty_at(
+    chance: &mut Chance,
+    plant: &Plant,
+    call: u8,
+    faults: &[Fault],
+    links: impl Fn(u8) -> u16,
+) -> Sitting {
     let has = |fault: Fault| faults.contains(&fault);
     let apart = with_switch(plant);
     let plant = if has(Fault::Listing(9)) {
@@ -4916,6 +4955,10 @@ fn faulty(chance: &mut Chance, plant: &Plant, call: u8, faults: &[Fault]) -> Sit
     let count = plant.switches;
     let all = make::all_switches(count);
     let mut switch = chance.below(usize::from(count)) as u8;
+    while links(switch) == 0 {
+        switch = chance.below(usize::from(count)) as u8;
+    }
+    let links = links(switch);
     if has(Fault::Switch) {
         switch = chance.of(&[count, count + 1, 63, 64, 255]);
         if has(Fault::Set) && !has(Fault::Outside) {
@@ -4934,7 +4977,7 @@ fn faulty(chance: &mut Chance, plant: &Plant, call: u8, faults: &[Fault]) -> Sit
     let (unsound, ended) = (has(Fault::Unsound), has(Fault::Ended));
     let begun = Begun {
         switch,
-        search: faulty_search(chance, service(plant) as u16, unsound, ended),
+        search: faulty_search(chance, links, unsound, ended),
     };
     let mut own = Console {
         set,
@@ -5421,7 +5464,11 @@ fn fixed_chains(chance: &mut Chance, out: &mut Out) -> io::Result<()> {
                         9 => make::listing_of(&with_switch(plant)),
                         _ => bad_listing(chance, plant, refusal),
                     };
+                    // The next case has the desk as it was, also where this one
+                    // is taken.
+                    let desk = chain.desk;
                     chain.call(chance, &bad, console, next)?;
+                    chain.desk = desk;
                 }
                 // Of another plant.
                 2 => {
@@ -5449,15 +5496,1017 @@ fn drawn_desk(chance: &mut Chance) -> Case {
     sat(chance, &sitting)
 }
 
+/// The number of the call for the components.
+const COMPONENTS: u8 = 33;
+
+/// The calls that are made of plants in several components, but the long run and
+/// those of the desk.
+fn of_several() -> impl Iterator<Item = u8> {
+    let listed = LISTED.into_iter().filter(|call| *call != LISTING_READ);
+    listed.chain([COMPONENTS])
+}
+
+/// A plant with its components, its listing and both joined trails.
+struct Yard {
+    net: Net,
+    pair: Pair,
+    parts: Vec<Stretches>,
+}
+
+/// Where the start of a plant is.
+#[derive(Clone, Copy, PartialEq, Eq)]
+enum Place {
+    /// At switch 0.
+    First,
+    /// At any switch.
+    Any,
+    /// In another component than switch 0, and not its lowest switch, if there
+    /// is such a one.
+    Late,
+}
+
+impl Yard {
+    fn new(plant: Plant) -> Yard {
+        let listing = make::listing_of(&plant);
+        let net = Net::new(plant.clone());
+        let (trail, round) = (Trail::new(&net), Round::new(&net));
+        let parts = calls::components(&listing).unwrap_or_default();
+        Yard {
+            pair: Pair {
+                listing,
+                plant,
+                trail: trail.to_vec(),
+                round: round.labels().to_vec(),
+            },
+            net,
+            parts,
+        }
+    }
+
+    /// The plant of sketches beside each other, mixed, with so many links more
+    /// that are out of service.
+    fn beside(chance: &mut Chance, sketches: &[Sketch], more: usize, place: Place) -> Yard {
+        let none = Sketch::default();
+        let whole = sketches.iter().fold(none, |whole, part| whole.beside(part));
+        let plant = whole.mixed(chance);
+        let plant = make::with_unplugged(chance, &plant, more);
+        Yard::started(chance, plant, place)
+    }
+
+    /// The plant with its start at such a place.
+    fn started(chance: &mut Chance, mut plant: Plant, place: Place) -> Yard {
+        if place == Place::First {
+            plant.start = 0;
+        }
+        if place == Place::Late {
+            plant.start = 0;
+            let yard = Yard::new(plant.clone());
+            let others = (1..plant.switches).filter(|switch| yard.component(*switch) > 0);
+            let (lowest, higher): (Vec<u8>, Vec<u8>) =
+                others.partition(|switch| yard.parts[yard.component(*switch)].first == *switch);
+            let some = if higher.is_empty() { lowest } else { higher };
+            if !some.is_empty() {
+                plant.start = chance.of(&some);
+            }
+        }
+        Yard::new(plant)
+    }
+
+    fn plant(&self) -> &Plant {
+        &self.pair.plant
+    }
+
+    fn component(&self, switch: u8) -> usize {
+        self.net.component_of(usize::from(switch))
+    }
+
+    /// The number of links in service of a component.
+    fn service(&self, component: usize) -> usize {
+        usize::from(self.net.components[component].links)
+    }
+
+    /// The numbers of the links in service of a component.
+    fn links(&self, component: usize) -> Vec<usize> {
+        let links = self.plant().in_service();
+        let own = links.filter(|(_, link)| self.component(link.first) == component);
+        own.map(|(number, _)| number).collect()
+    }
+
+    /// The numbers of the links in service of the other components.
+    fn other_links(&self, component: usize) -> Vec<usize> {
+        let links = self.plant().in_service();
+        let others = links.filter(|(_, link)| self.component(link.first) != component);
+        others.map(|(number, _)| number).collect()
+    }
+
+    /// A switch of a component.
+    fn some_switch(&self, chance: &mut Chance, component: usize) -> u8 {
+        let switches = 0..self.plant().switches;
+        let own: Vec<u8> = switches
+            .filter(|switch| self.component(*switch) == component)
+            .collect();
+        chance.of(&own)
+    }
+
+    fn own_trail(&self, component: usize) -> &[u16] {
+        &self.pair.trail[self.parts[component].trail.clone()]
+    }
+
+    fn own_round(&self, component: usize) -> &[u16] {
+        &self.pair.round[self.parts[component].round.clone()]
+    }
+
+    /// Both trails with the components in another order.
+    fn reordered(&self, order: &[usize]) -> (Vec<u16>, Vec<u16>) {
+        let trails = order.iter().map(|component| self.own_trail(*component));
+        let rounds = order.iter().map(|component| self.own_round(*component));
+        (
+            trails.collect::<Vec<_>>().concat(),
+            rounds.collect::<Vec<_>>().concat(),
+        )
+    }
+
+    /// The links of a switch's component by first crossing from the switch.
+    fn order(&self, begin: u8) -> Vec<usize> {
+        let trail = self.own_trail(self.component(begin));
+        let place = packet::place(&self.net, trail, usize::from(begin));
+        let order = Order::new(&self.net, trail, place);
+        order.links().iter().copied().map(usize::from).collect()
+    }
+
+    /// The ring of a switch's component from the switch.
+    fn ring(&self, begin: u8) -> Vec<u16> {
+        let trail = self.own_trail(self.component(begin));
+        let place = packet::place(&self.net, trail, usize::from(begin));
+        let (rest, front) = packet::ring(trail, place);
+        [rest, front].concat()
+    }
+
+    /// Right arguments of a call at a switch.
+    fn arguments(&self, chance: &mut Chance, call: u8, begin: u8) -> Arguments {
+        let links = self.service(self.component(begin));
+        self.pair
+            .arguments_at(chance, call, begin, links, Some(&self.net))
+    }
+
+    /// The case of a call with these arguments.
+    fn case(&self, call: u8, arguments: &Arguments) -> Case {
+        arguments.case(call, &self.pair.listing)
+    }
+
+    /// A case with right arguments.
+    fn right(&self, chance: &mut Chance, call: u8, begin: u8) -> Case {
+        let arguments = self.arguments(chance, call, begin);
+        self.case(call, &arguments)
+    }
+
+    fn components(&self) -> Case {
+        Case::new(COMPONENTS).string(&self.pair.listing)
+    }
+}
+
+/// Puts links down in the states that a call is given: of a round run, one of the
+/// two directions, or both.
+fn put_down(chance: &mut Chance, call: u8, states: &mut [u8], links: &[usize]) {
+    for link in links {
+        if call == ROUND_RUN {
+            let way = chance.below(3);
+            for direction in 0..2 {
+                if way != direction {
+                    states[2 * link + direction] = 0;
+                }
+            }
+        } else {
+            states[*link] = 0;
+        }
+    }
+}
+
+/// Small plants in several components: single switches between others, trees,
+/// rings, rings joined by one cable, parallel links, long ways round; with links
+/// out of service within components and between them.
+fn small_yards(chance: &mut Chance) -> Vec<Yard> {
+    let single = || make::path(1);
+    let shapes = [
+        (vec![single(), single()], 0, Place::Late),
+        (vec![make::path(2), single()], 0, Place::Late),
+        (
+            vec![
+                single(),
+                make::cycle(3),
+                single(),
+                make::bundle(3),
+                single(),
+            ],
+            0,
+            Place::Late,
+        ),
+        (vec![make::cycle(3), make::tree(chance, 4)], 0, Place::Late),
+        (
+            vec![
+                make::cycle(4),
+                make::rings(chance, &[3, 3]),
+                make::bundle(2),
+            ],
+            1,
+            Place::Any,
+        ),
+        (
+            vec![make::tailed(chance, 3, 5), make::path(2), make::long(4, 4)],
+            0,
+            Place::Late,
+        ),
+        (
+            vec![make::tree(chance, 5), make::star(4), make::path(3)],
+            2,
+            Place::First,
+        ),
+        (
+            vec![
+                make::exact(chance, 5, 10),
+                make::exact(chance, 4, 6),
+                single(),
+            ],
+            3,
+            Place::Late,
+        ),
+        (vec![make::table_one(), make::table_one()], 2, Place::Any),
+    ];
+    let mut yards: Vec<Yard> = shapes
+        .iter()
+        .map(|(sketches, more, place)| Yard::beside(chance, sketches, *more, *place))
+        .collect();
+    // All links of a component out of service, and all but those of one.
+    for turn in 0..2 {
+        let parts = [make::cycle(3), make::bundle(2), make::path(2)];
+        let yard = Yard::beside(chance, &parts, 0, Place::Any);
+        let component = yard.component(yard.plant().start);
+        let links = match turn {
+            0 => yard.links(component),
+            _ => yard.other_links(component),
+        };
+        let plant = make::marked(yard.pair.plant, &links);
+        yards.push(Yard::started(chance, plant, Place::Late));
+    }
+    yards
+}
+
+/// The cases of plants in several components that do not wait for chance.
+fn fixed_several(chance: &mut Chance, out: &mut Out) -> io::Result<()> {
+    fixed_several_listings(chance, out)?;
+    fixed_several_calls(chance, out)?;
+    fixed_several_states(chance, out)?;
+    fixed_several_trails(chance, out)?;
+    fixed_several_searches(chance, out)?;
+    fixed_several_lists(chance, out)?;
+    fixed_several_runs(chance, out)?;
+    fixed_several_buffers(chance, out)?;
+    fixed_several_limits(chance, out)?;
+    fixed_several_listings_refused(chance, out)?;
+    fixed_several_refused(chance, out)?;
+    fixed_several_desks(chance, out)?;
+    fixed_several_desks_refused(chance, out)?;
+    fixed_several_chain(chance, out)
+}
+
+/// Listings that are written out, the calls without a lent trail, and the
+/// components of every listing of document 01.
+fn fixed_several_listings(chance: &mut Chance, out: &mut Out) -> io::Result<()> {
+    for listing in named_listings() {
+        out.put(Case::new(COMPONENTS).string(&listing))?;
+    }
+    out.put(Case::new(COMPONENTS).string(MARKED_TRIANGLE))?;
+    for listing in [
+        // Two switches, three, and the most, without a link.
+        &[1, 2][..],
+        &[5, 3, 2],
+        &[1, 64],
+        &[5, 64, 63],
+        // A link and a switch, from each of them.
+        &[3, 3, 1, 0, 2, 1],
+        &[7, 3, 1, 0, 1, 2, 1],
+        &[7, 3, 1, 0, 2, 2, 1],
+        // Two links, from each end of the second.
+        &[7, 4, 2, 0, 2, 2, 1, 3, 2, 3],
+        &[7, 4, 2, 0, 3, 2, 1, 3, 2, 3],
+        // A triangle of which two links are out of service, and all.
+        &[3, 3, 3, 0, 2, 1, 11, 1, 2, 11, 2, 0],
+        &[3, 3, 3, 0, 10, 1, 11, 1, 2, 11, 2, 0],
+    ] {
+        let plant = calls::read(listing).map_err(|_| io::Error::other("no listing"))?;
+        let yard = Yard::new(plant);
+        for call in [3, 6, COMPONENTS] {
+            let case = yard.right(chance, call, 0);
+            out.put(case)?;
+        }
+        let last = yard.plant().switches - 1;
+        for begin in [0, last] {
+            let case = yard.right(chance, NEW_SEARCH, begin);
+            out.put(case)?;
+        }
+    }
+    Ok(())
+}
+
+/// Every call about small plants, those at a switch from a switch of every third
+/// component; and some from every switch.
+fn fixed_several_calls(chance: &mut Chance, out: &mut Out) -> io::Result<()> {
+    for (turn, yard) in small_yards(chance).into_iter().enumerate() {
+        for call in of_several() {
+            if !AT_SWITCH.contains(&call) {
+                let case = yard.right(chance, call, 0);
+                out.put(case)?;
+                continue;
+            }
+            for component in 0..yard.parts.len() {
+                if (turn + component + usize::from(call)) % 3 == 0 {
+                    let begin = yard.some_switch(chance, component);
+                    let case = yard.right(chance, call, begin);
+                    out.put(case)?;
+                }
+            }
+        }
+    }
+    let parts = [make::cycle(3), make::path(1), make::tree(chance, 4)];
+    let yard = Yard::beside(chance, &parts, 1, Place::Late);
+    out.put(yard.components())?;
+    for begin in 0..yard.plant().switches {
+        for call in [9, NEW_SEARCH, ROUND_RUN, CHOICE] {
+            let case = yard.right(chance, call, begin);
+            out.put(case)?;
+        }
+    }
+    Ok(())
+}
+
+/// Runs with links down: in the switch's component, in others alone, and out of
+/// service alone.
+fn fixed_several_states(chance: &mut Chance, out: &mut Out) -> io::Result<()> {
+    let shapes = [
+        (vec![make::cycle(3), make::path(2), make::bundle(2)], 2),
+        (
+            vec![
+                make::tailed(chance, 3, 4),
+                make::path(1),
+                make::tree(chance, 3),
+            ],
+            1,
+        ),
+    ];
+    for (parts, more) in &shapes {
+        let yard = Yard::beside(chance, parts, *more, Place::Late);
+        out.put(yard.components())?;
+        for component in 0..yard.parts.len() {
+            let (own, others) = (yard.links(component), yard.other_links(component));
+            // All of the others, one of them, none, and each of its own.
+            let mut downs = vec![others.clone(), vec![chance.of(&others)], vec![]];
+            downs.extend(own.iter().map(|link| vec![*link]));
+            if !own.is_empty() {
+                let both = vec![chance.of(&own), chance.of(&others)];
+                downs.push(both);
+            }
+            for (turn, down) in downs.into_iter().enumerate() {
+                for call in [ROUND_RUN, [8, PROBE_RUN][turn % 2]] {
+                    let begin = yard.some_switch(chance, component);
+                    let mut arguments = yard.arguments(chance, call, begin);
+                    arguments.states = yard.pair.idle(chance, call, 0);
+                    put_down(chance, call, &mut arguments.states, &down);
+                    out.put(yard.case(call, &arguments))?;
+                }
+            }
+        }
+    }
+    Ok(())
+}
+
+/// How many ways there are to lend other trails than the joined ones.
+const OTHER_TRAILS: usize = 9;
+
+impl Yard {
+    /// Other trails than the joined ones, in one of some ways, as they may be
+    /// lent to a call at a switch. Those of the last two ways have the right
+    /// hops.
+    fn other_trails(&self, chance: &mut Chance, begin: u8, way: usize) -> (Vec<u16>, Vec<u16>) {
+        let component = self.component(begin);
+        let Pair { trail, round, .. } = &self.pair;
+        let mut order: Vec<usize> = (0..self.parts.len()).collect();
+        let changed = |hops: &[u16], at: usize| {
+            let mut hops = hops.to_vec();
+            if let Some(label) = hops.get_mut(at) {
+                *label ^= 1;
+            }
+            hops
+        };
+        let shortened = |hops: &[u16]| hops[..hops.len().saturating_sub(1)].to_vec();
+        match way {
+            // The component's own stretches alone.
+            0 => (
+                self.own_trail(component).to_vec(),
+                self.own_round(component).to_vec(),
+            ),
+            // The components in another order: the others first, all the other
+            // way round, and by their lowest switches.
+            1 => {
+                order.rotate_left(1);
+                self.reordered(&order)
+            }
+            2 => {
+                order.reverse();
+                self.reordered(&order)
+            }
+            3 => {
+                let lowest = |part: &usize| {
+                    let switches = 0..self.plant().switches;
+                    let mut own = switches.filter(|switch| self.component(*switch) == *part);
+                    own.next()
+                };
+                order.sort_by_key(lowest);
+                self.reordered(&order)
+            }
+            // The start at another switch of its component.
+            4 => {
+                let mut plant = self.plant().clone();
+                plant.start = self.some_switch(chance, 0);
+                let other = Yard::new(plant);
+                (other.pair.trail, other.pair.round)
+            }
+            // Too short by one; a label of another component changed.
+            5 => (shortened(trail), shortened(round)),
+            6 => {
+                let Stretches {
+                    trail: at,
+                    round: also,
+                    ..
+                } = &self.parts[component];
+                let outside = |length: usize, own: &Range<usize>| {
+                    let outside: Vec<usize> =
+                        (0..length).filter(|place| !own.contains(place)).collect();
+                    outside.last().copied().unwrap_or(0)
+                };
+                (
+                    changed(trail, outside(trail.len(), at)),
+                    changed(round, outside(round.len(), also)),
+                )
+            }
+            // Spare places: any, and the component's own stretches again.
+            7 => {
+                let more = chance.within(1, 3);
+                (
+                    self.pair.spared(chance, trail, more, 4),
+                    self.pair.spared(chance, round, more, 5),
+                )
+            }
+            _ => (
+                [trail, self.own_trail(component)].concat(),
+                [round, self.own_round(component)].concat(),
+            ),
+        }
+    }
+}
+
+/// Lent trails that are not the joined one, or have spare places.
+fn fixed_several_trails(chance: &mut Chance, out: &mut Out) -> io::Result<()> {
+    let shapes = [
+        vec![make::cycle(3), make::path(2), make::bundle(3)],
+        vec![make::path(1), make::long(4, 3), make::tree(chance, 3)],
+        vec![make::tailed(chance, 3, 4), make::cycle(4)],
+    ];
+    for (turn, parts) in shapes.iter().enumerate() {
+        let yard = Yard::beside(chance, parts, turn, Place::Late);
+        out.put(yard.components())?;
+        for way in 0..OTHER_TRAILS {
+            for call in WITH_TRAIL {
+                if turn > 0 && (turn + way + usize::from(call)) % 3 > 0 {
+                    continue;
+                }
+                let component = chance.below(yard.parts.len());
+                let begin = yard.some_switch(chance, component);
+                let mut arguments = yard.arguments(chance, call, begin);
+                let (trail, round) = yard.other_trails(chance, begin, way);
+                // Of a choice, one of them or both.
+                let which = chance.below(3);
+                if call != CHOICE || which < 2 {
+                    arguments.trail = trail;
+                }
+                if call != CHOICE || which > 0 {
+                    arguments.round = round;
+                }
+                out.put(yard.case(call, &arguments))?;
+            }
+        }
+    }
+    Ok(())
+}
+
+/// Searches of as many links as the switch's component has, as the whole plant,
+/// as other components, and of numbers between.
+fn fixed_several_searches(chance: &mut Chance, out: &mut Out) -> io::Result<()> {
+    let shapes = [
+        vec![
+            make::cycle(3),
+            make::path(1),
+            make::bundle(2),
+            make::path(2),
+        ],
+        vec![make::tree(chance, 5), make::exact(chance, 4, 6)],
+    ];
+    let mut turn = 0;
+    for parts in &shapes {
+        let yard = Yard::beside(chance, parts, 1, Place::Late);
+        out.put(yard.components())?;
+        let whole = service(yard.plant()) as u16;
+        for component in 0..yard.parts.len() {
+            let own = yard.service(component) as u16;
+            let mut states = vec![
+                Search::AllUp,
+                Search::Checking(own, 0),
+                Search::Checking(own, 2),
+                Search::Checking(whole, 0),
+                Search::Checking(yard.plant().links, 0),
+                Search::Halving(1, own, 1),
+                Search::Halving(1, own + 1, 0),
+                Search::Halving(1, whole, 0),
+                Search::Down(1),
+                Search::Down(own),
+                Search::Down(own + 1),
+                Search::Down(whole),
+            ];
+            for other in 0..yard.parts.len() {
+                states.push(Search::Checking(yard.service(other) as u16, 0));
+            }
+            for state in states {
+                let call = JUDGING[turn % JUDGING.len()];
+                turn += 1;
+                let begin = yard.some_switch(chance, component);
+                let mut arguments = yard.arguments(chance, call, begin);
+                arguments.search = state;
+                out.put(yard.case(call, &arguments))?;
+            }
+            // The link at each place.
+            for place in 1..=own {
+                let begin = yard.some_switch(chance, component);
+                let mut arguments = yard.arguments(chance, LINK_NAMED, begin);
+                arguments.search = Search::Down(place);
+                out.put(yard.case(LINK_NAMED, &arguments))?;
+            }
+        }
+    }
+    Ok(())
+}
+
+/// Searches under link states to their end, from every component: with no link
+/// down, with links of other components down, with one of its own and with both.
+fn fixed_several_lists(chance: &mut Chance, out: &mut Out) -> io::Result<()> {
+    let shapes = [
+        vec![make::cycle(3), make::path(1), make::bundle(4)],
+        vec![
+            make::tailed(chance, 3, 5),
+            make::tree(chance, 6),
+            make::path(2),
+        ],
+    ];
+    for parts in &shapes {
+        let yard = Yard::beside(chance, parts, 2, Place::Late);
+        out.put(yard.components())?;
+        for component in 0..yard.parts.len() {
+            for kind in 0..4 {
+                let begin = yard.some_switch(chance, component);
+                let order = yard.order(begin);
+                let mut states = yard.pair.idle(chance, 7, 0);
+                if kind % 2 == 1 {
+                    put_down(chance, 7, &mut states, &yard.other_links(component));
+                }
+                if kind > 1 && !order.is_empty() {
+                    let link = chance.of(&order);
+                    put_down(chance, 7, &mut states, &[link]);
+                }
+                let broken = order.iter().position(|link| states[*link] == 0);
+                let first = broken.unwrap_or(order.len());
+                let mut list = ending(chance, order.len(), first);
+                if kind == 3 {
+                    go_on(chance, &mut list);
+                }
+                out.put(performed(&yard.pair.listing, begin, &list))?;
+            }
+            // As many losses as a search of all links would take.
+            let whole = service(yard.plant());
+            let list = ending(chance, whole, 0);
+            let begin = yard.some_switch(chance, component);
+            out.put(performed(&yard.pair.listing, begin, &list))?;
+        }
+    }
+    Ok(())
+}
+
+/// Packets of free labels and long runs: within a component while links of others
+/// are down, and with labels of another component or out of service.
+fn fixed_several_runs(chance: &mut Chance, out: &mut Out) -> io::Result<()> {
+    let shapes = [
+        vec![make::cycle(3), make::path(1), make::path(2)],
+        vec![make::tailed(chance, 3, 5), make::bundle(3)],
+        vec![make::tree(chance, 4), make::cycle(4), make::path(1)],
+    ];
+    for parts in &shapes {
+        let yard = Yard::beside(chance, parts, 2, Place::Late);
+        out.put(yard.components())?;
+        let listing = &yard.pair.listing;
+        let marked = yard.pair.marked();
+        for component in 0..yard.parts.len() {
+            let begin = yard.some_switch(chance, component);
+            let mut states = yard.pair.idle(chance, 7, 255);
+            put_down(chance, 7, &mut states, &yard.other_links(component));
+            let hops = chance.within(2, 6);
+            let labels = walk(chance, &yard.net, begin, hops, false);
+            let head = |labels: &[u16]| {
+                let case = Case::new(7).string(listing).byte(begin);
+                case.labels(labels).string(&states)
+            };
+            out.put(head(&labels))?;
+            // Then a label of another component, and one out of service.
+            let other = (component + 1) % yard.parts.len();
+            let stray = yard.own_trail(other).first().copied();
+            let idle = (2 * chance.of(&marked) + chance.below(2)) as u16;
+            out.put(head(&[&labels[..], &[stray.unwrap_or(0xffff)]].concat()))?;
+            out.put(head(&[&labels[..], &[idle]].concat()))?;
+            // The joined trail from the switch, and the ring.
+            out.put(head(&yard.pair.trail))?;
+            let ring = yard.ring(begin);
+            out.put(head(&ring))?;
+            for more in [vec![], vec![stray.unwrap_or(0)], vec![idle]] {
+                let times = chance.within(60_000, 70_000) / ring.len().max(1);
+                out.put(long(listing, begin, &ring, times, &more, &states))?;
+            }
+        }
+    }
+    Ok(())
+}
+
+/// Buffers around the joined hops, and of as many places as a component has hops.
+fn fixed_several_buffers(chance: &mut Chance, out: &mut Out) -> io::Result<()> {
+    let mut shapes: Vec<Yard> = small_yards(chance).into_iter().skip(2).step_by(2).collect();
+    let halves = [make::long(32, 97), make::long(32, 97)];
+    shapes.push(Yard::beside(chance, &halves, 0, Place::Late));
+    for yard in shapes {
+        out.put(yard.components())?;
+        let Pair {
+            listing,
+            trail,
+            round,
+            ..
+        } = &yard.pair;
+        for (call, hops) in [(6, trail.len()), (ROUND_TRAIL, round.len())] {
+            let part = chance.of(&(0..yard.parts.len()).collect::<Vec<_>>());
+            let own = match call {
+                6 => yard.own_trail(part).len(),
+                _ => yard.own_round(part).len(),
+            };
+            for places in [hops.saturating_sub(1), hops, hops + 2, hops - own, own] {
+                out.put(Case::new(call).string(listing).word(places))?;
+            }
+        }
+    }
+    Ok(())
+}
+
+/// Plants at the limits: 64 single switches, 32 pairs, two halves of as many
+/// switches and links, all switches but one joined, and every link out of
+/// service.
+fn fixed_several_limits(chance: &mut Chance, out: &mut Out) -> io::Result<()> {
+    let half = (SWITCHES / 2, LINKS / 2);
+    let halves = [
+        make::exact(chance, half.0, half.1),
+        make::exact(chance, half.0, half.1),
+    ];
+    let all_but_one = make::tailed(chance, 40, SWITCHES - 1);
+    let most = make::exact(chance, SWITCHES, LINKS).mixed(chance);
+    let yards = [
+        Yard::beside(chance, &vec![make::path(1); SWITCHES], 0, Place::Any),
+        Yard::beside(chance, &vec![make::path(2); SWITCHES / 2], 0, Place::Late),
+        Yard::beside(chance, &halves, 0, Place::Late),
+        Yard::beside(chance, &[all_but_one, make::path(1)], 0, Place::Late),
+        Yard::started(
+            chance,
+            make::marked(most, &(0..LINKS).collect::<Vec<_>>()),
+            Place::Late,
+        ),
+    ];
+    for yard in yards {
+        for call in of_several() {
+            let component = chance.below(yard.parts.len());
+            let begin = yard.some_switch(chance, component);
+            let case = yard.right(chance, call, begin);
+            out.put(case)?;
+        }
+        // At the start, and at a switch of the last component.
+        for begin in [
+            yard.plant().start,
+            yard.some_switch(chance, yard.parts.len() - 1),
+        ] {
+            for call in [8, NEW_SEARCH] {
+                let case = yard.right(chance, call, begin);
+                out.put(case)?;
+            }
+        }
+    }
+    Ok(())
+}
+
+/// Each refusal of the listing, 1 to 8, in every call but those of the desk.
+fn fixed_several_listings_refused(chance: &mut Chance, out: &mut Out) -> io::Result<()> {
+    for call in of_several().chain([LONG_RUN]) {
+        for refusal in 1..=8 {
+            let sketch = make::several(chance, 6, 6);
+            let plant = sketch.mixed(chance);
+            let more = chance.below(2);
+            let plant = make::with_unplugged(chance, &plant, more);
+            let yard = Yard::new(plant);
+            let listing = bad_listing(chance, yard.plant(), refusal);
+            let begin = yard.pair.some_switch(chance);
+            let arguments = yard.arguments(chance, call, begin);
+            if call == LONG_RUN {
+                let Arguments { labels, states, .. } = &arguments;
+                out.put(long(&listing, begin, labels, 2, labels, states))?;
+            } else {
+                out.put(arguments.case(call, &listing))?;
+            }
+        }
+    }
+    Ok(())
+}
+
+/// The refusals from 10 on: every set of them that a call can meet, so that their
+/// order shows.
+fn fixed_several_refused(chance: &mut Chance, out: &mut Out) -> io::Result<()> {
+    let parts = [make::cycle(3), make::path(1), make::tailed(chance, 3, 4)];
+    let yard = Yard::beside(chance, &parts, 1, Place::Late);
+    out.put(yard.components())?;
+    let count = yard.plant().switches;
+    let with_links: Vec<usize> = (0..yard.parts.len())
+        .filter(|component| yard.service(*component) > 0)
+        .collect();
+    for call in of_several().chain([LONG_RUN]) {
+        // What can be wrong: the switch, the trail, the states, the search, the
+        // buffer, the spare.
+        let judging = JUDGING.contains(&call);
+        let can = [
+            AT_SWITCH.contains(&call) || call == LONG_RUN,
+            WITH_TRAIL.contains(&call),
+            WITH_STATES.contains(&call) || call == LONG_RUN,
+            judging,
+            WITH_BUFFER.contains(&call),
+            call == PAGE_WRITTEN,
+        ];
+        for set in 1..1 << can.len() {
+            let bad = |kind: usize| set >> kind & 1 == 1;
+            if (0..can.len()).any(|kind| bad(kind) && !can[kind]) {
+                continue;
+            }
+            let component = chance.of(&with_links);
+            let begin = yard.some_switch(chance, component);
+            let mut arguments = yard.arguments(chance, call, begin);
+            if bad(0) {
+                arguments.begin = chance.of(&[count, count + 1, 64, 255]);
+            }
+            if bad(1) {
+                let way = chance.of(&[0, 1, 5]);
+                (arguments.trail, arguments.round) = yard.other_trails(chance, begin, way);
+                if arguments.trail == yard.pair.trail {
+                    arguments.trail.pop();
+                }
+                if arguments.round == yard.pair.round {
+                    arguments.round.pop();
+                }
+            }
+            if bad(2) {
+                // As many as the component's links, or one too few.
+                let each = arguments.states.len() / usize::from(yard.plant().links);
+                let own = each * yard.service(yard.component(begin));
+                let short = chance.of(&[own, arguments.states.len() - 1]);
+                arguments.states.truncate(short);
+            }
+            if bad(3) {
+                arguments.search = Search::Checking(service(yard.plant()) as u16, 0);
+            }
+            if bad(4) {
+                arguments.places -= 1;
+            }
+            if bad(5) {
+                arguments.spare = chance.of(&[101, 255]);
+            }
+            if call == LONG_RUN {
+                let Arguments {
+                    begin,
+                    labels,
+                    states,
+                    ..
+                } = &arguments;
+                out.put(long(&yard.pair.listing, *begin, labels, 1, &[], states))?;
+            } else {
+                out.put(yard.case(call, &arguments))?;
+            }
+            // A search that has ended, which is wrong in some calls alone.
+            if judging && !bad(3) {
+                arguments.search = chance.of(&[Search::AllUp, Search::Down(1)]);
+                out.put(yard.case(call, &arguments))?;
+            }
+        }
+    }
+    Ok(())
+}
+
+/// Calls of the desk at switches of every component, with sets across components
+/// and searches of as many links as the component has, as the others and as all.
+fn fixed_several_desks(chance: &mut Chance, out: &mut Out) -> io::Result<()> {
+    let shapes = [
+        vec![make::cycle(3), make::path(1), make::path(2)],
+        vec![make::tree(chance, 4), make::bundle(3), make::path(1)],
+    ];
+    for parts in &shapes {
+        let yard = Yard::beside(chance, parts, 1, Place::Late);
+        out.put(yard.components())?;
+        let listing = &yard.pair.listing;
+        let all = make::all_switches(yard.plant().switches);
+        let whole = service(yard.plant()) as u16;
+        for component in 0..yard.parts.len() {
+            let switch = yard.some_switch(chance, component);
+            let own = yard.service(component) as u16;
+            let across = (0..yard.parts.len()).fold(alone(switch), |set, part| {
+                set | alone(yard.some_switch(chance, part))
+            });
+            for set in [alone(switch), across, all] {
+                let any = make::any_console(chance);
+                let console = Console { set, ..any };
+                out.put(called(chance, listing, console, Turn::Start(switch)))?;
+                out.put(called(chance, listing, any, Turn::Set(set)))?;
+            }
+            let mut searches = vec![
+                Search::AllUp,
+                Search::Checking(own, 0),
+                Search::Checking(own, 2),
+                Search::Checking(whole, 0),
+                Search::Halving(1, own, 0),
+                Search::Halving(1, whole, 1),
+                Search::Down(own),
+                Search::Down(own + 1),
+            ];
+            for other in 0..yard.parts.len() {
+                searches.push(Search::Checking(yard.service(other) as u16, 1));
+            }
+            for search in searches {
+                let console = Console {
+                    set: chance.of(&[across, all]),
+                    search: Some(Begun { switch, search }),
+                };
+                let outcome = some_outcome(chance);
+                out.put(called(chance, listing, console, Turn::Outcome(outcome)))?;
+            }
+        }
+    }
+    Ok(())
+}
+
+/// Each refusal of the listing in the calls of the desk, and the others alone and
+/// in pairs.
+fn fixed_several_desks_refused(chance: &mut Chance, out: &mut Out) -> io::Result<()> {
+    let mut put = |chance: &mut Chance, call: u8, some: &[Fault]| {
+        let parts = [make::cycle(3), make::path(1), make::exact(chance, 3, 5)];
+        let yard = Yard::beside(chance, &parts, 1, Place::Late);
+        let links = |switch: u8| yard.service(yard.component(switch)) as u16;
+        let sitting = faulty_at(chance, yard.plant(), call, some, links);
+        out.put(sat(chance, &sitting))
+    };
+    for call in OF_DESK {
+        for refusal in 1..=8 {
+            put(chance, call, &[Fault::Listing(refusal)])?;
+        }
+        let faults = faults(call);
+        for (place, one) in faults.iter().enumerate() {
+            put(chance, call, &[*one])?;
+            for other in &faults[..place] {
+                // Nothing is wrong with a search that is not there.
+                let of_search = [Fault::Switch, Fault::Outside, Fault::Unsound, Fault::Ended];
+                let none = [one, other].contains(&&Fault::NoSearch);
+                if !none || !of_search.contains(one) && !of_search.contains(other) {
+                    put(chance, call, &[*other, *one])?;
+                }
+            }
+        }
+    }
+    Ok(())
+}
+
+/// Calls of all four consoles on one desk, each with searches in components of a
+/// plant of which links are down in one component.
+fn fixed_several_chain(chance: &mut Chance, out: &mut Out) -> io::Result<()> {
+    let parts = [
+        make::tailed(chance, 3, 5),
+        make::bundle(3),
+        make::path(1),
+        make::path(2),
+    ];
+    let yard = Yard::beside(chance, &parts, 1, Place::Late);
+    out.put(yard.components())?;
+    let Pair { listing, trail, .. } = &yard.pair;
+    let all = make::all_switches(yard.plant().switches);
+    let mut states = yard.pair.idle(chance, 7, 0);
+    let largest = (0..yard.parts.len()).max_by_key(|component| yard.service(*component));
+    let broken = yard.links(largest.unwrap_or(0));
+    let link = chance.of(&broken);
+    put_down(chance, 7, &mut states, &[link]);
+    let mut chain = Sequence {
+        out,
+        desk: Desk::default(),
+    };
+    for turn in 0..CHAIN {
+        let console = some_console(chance);
+        let own = chain.desk.console[usize::from(console)];
+        let some = chance.draw() & all;
+        let call = if own.set == 0 || turn % 12 == 11 {
+            Turn::Set(some)
+        } else {
+            let start = Turn::Start(one_of(chance, own.set));
+            match own.search {
+                None => start,
+                Some(Begun { switch, search }) => {
+                    match calls::run_probe(listing, switch, trail, &states, search) {
+                        Ok(run) => {
+                            let home = run.fate() == Fate::Home && !chance.percent(20);
+                            Turn::Outcome(if home { some_return(chance) } else { 0 })
+                        }
+                        Err(_) => chance.of(&[start, start, start, Turn::Outcome(0)]),
+                    }
+                }
+            }
+        };
+        chain.call(chance, listing, console, call)?;
+    }
+    Ok(())
+}
+
+/// How many calls the sequence of a plant in several components has.
+const CHAIN: usize = 60;
+
+/// One case of a plant in several components, drawn by chance.
+fn drawn_several(chance: &mut Chance) -> Case {
+    let calls: Vec<u8> = of_several().chain([COMPONENTS; 3]).collect();
+    let call = chance.of(&calls);
+    let yard = loop {
+        let (switches, links) = chance.of(&[(5, 6), (8, 12), (12, 24), (32, 60), (64, 120)]);
+        let plant = make::several(chance, switches, links).mixed(chance);
+        let more = chance.of(&[0, 0, 1, 3]);
+        let yard = Yard::new(make::with_unplugged(chance, &plant, more));
+        if !WITH_TRAIL.contains(&call) || yard.pair.trail.len() <= LENT_MARKED {
+            break yard;
+        }
+    };
+    let begin = yard.pair.some_switch(chance);
+    let component = yard.component(begin);
+    let mut arguments = yard.arguments(chance, call, begin);
+    let (own, others) = (yard.links(component), yard.other_links(component));
+    if WITH_STATES.contains(&call) {
+        for (links, times) in [(&own, 40), (&others, 60)] {
+            if !links.is_empty() && chance.percent(times) {
+                let link = chance.of(links);
+                put_down(chance, call, &mut arguments.states, &[link]);
+            }
+        }
+    }
+    match chance.below(14) {
+        0 => arguments.begin = switch(chance, yard.plant()),
+        1 => {
+            let way = chance.below(OTHER_TRAILS);
+            (arguments.trail, arguments.round) = yard.other_trails(chance, begin, way);
+        }
+        2 => {
+            let way = chance.below(CHANGES);
+            arguments.trail = yard.pair.changed(chance, &yard.pair.trail, way);
+            arguments.round = yard.pair.changed(chance, &yard.pair.round, way);
+        }
+        3 => {
+            let count = chance.below(arguments.states.len() + 1);
+            arguments.states.truncate(count);
+        }
+        4 => arguments.search = wrong(chance, own.len()),
+        5 => arguments.search = right(chance, own.len() + others.len(), 30),
+        6 => arguments.places = trail_places(chance, arguments.places),
+        7 => arguments.list = call_list(chance),
+        8 => arguments.spare = chance.byte(),
+        _ => {}
+    }
+    yard.case(call, &arguments)
+}
+
 /// How often each call is drawn, from call 1; the long run, the rules by switch,
-/// the pages, the calls of the round trail, those given marks and those of the
-/// desk are drawn apart.
+/// the pages, the calls of the round trail, those given marks, those of the desk
+/// and the components are drawn apart.
 const WEIGHTS: [usize; NAMES.len() - 1] = [
-    14, 9, 7, 5, 5, 9, 9, 7, 6, 8, 9, 7, 4, 2, 3, 6, 2, 7, 7, 1, 0, 0, 0, 0, 0, 0, 0, 0, 0, 0, 0, 0,
+    14, 9, 7, 5, 5, 9, 9, 7, 6, 8, 9, 7, 4, 2, 3, 6, 2, 7, 7, 1, 0, 0, 0, 0, 0, 0, 0, 0, 0, 0, 0,
+    0, 0,
 ];
 
 /// One case of any call but the long run, the rules by switch, the pages, those
-/// of the round trail, those given marks and those of the desk, drawn by chance.
+/// of the round trail, those given marks, those of the desk and the components,
+/// drawn by chance.
 fn drawn_any(chance: &mut Chance) -> Case {
     let call = 1 + chance.weighed(&WEIGHTS) as u8;
     drawn(chance, call)
@@ -5483,8 +6532,8 @@ fn make(folder: &Path, seed: u64, count: usize) -> io::Result<Out> {
     // Packet runs are drawn by a chance of their own, and so are the rules by
     // switch, the pages written, the pages read, the searches, the allowance,
     // the round trails, the round runs, the choices, the listings with links
-    // out of service, the plants written and reread with marks, and the calls
-    // of the desk.
+    // out of service, the plants written and reread with marks, the calls of
+    // the desk, and the plants in several components.
     let mut other = Chance::new(!seed);
     out.most = count.min(FIRST + RUNS);
     fixed_runs(&mut other, &mut out)?;
@@ -5558,10 +6607,16 @@ fn make(folder: &Path, seed: u64, count: usize) -> io::Result<Out> {
         out.put(drawn_writing(&mut thirteenth, REREAD_MARKED))?;
     }
     let mut fourteenth = Chance::new(seed ^ u64::from(NEW_SET) << 32);
-    out.most = count.min(COUNT);
+    out.most = count.min(ALONE);
     fixed_desks(&mut fourteenth, &mut out)?;
     while !out.full() {
         out.put(drawn_desk(&mut fourteenth))?;
+    }
+    let mut fifteenth = Chance::new(seed ^ u64::from(COMPONENTS) << 32);
+    out.most = count.min(COUNT);
+    fixed_several(&mut fifteenth, &mut out)?;
+    while !out.full() {
+        out.put(drawn_several(&mut fifteenth))?;
     }
     out.most = count;
     while !out.full() {

@@ -1,7 +1,8 @@
 //! Writes the listings of `bench/listings` that are made by rule.
 //!
 //! `make-listings OUT_DIR` writes a path, a star, a tree and a plant whose
-//! visit is as deep as can be, one switch alone, and plants drawn by chance.
+//! visit is as deep as can be, one switch alone, plants drawn by chance, and two
+//! of several components: pairs of switches, and eight parts drawn by chance.
 
 use reference::make::{self, Chance, Sketch};
 use reference::plant::Plant;
@@ -9,6 +10,8 @@ use std::path::Path;
 use std::process::ExitCode;
 
 const SEED: u64 = 64;
+/// The seed of the plants in several components.
+const SEVERAL: u64 = 8;
 
 const SWITCHES: usize = Plant::MAX_SWITCHES;
 const LINKS: usize = Plant::MAX_LINKS;
@@ -32,6 +35,15 @@ fn main() -> ExitCode {
             make::exact(chance, SWITCHES, links),
         ));
     }
+    let chance = &mut Chance::new(SEVERAL);
+    let beside = |parts: Vec<Sketch>| {
+        let none = Sketch::default();
+        parts.iter().fold(none, |whole, part| whole.beside(part))
+    };
+    let pairs = vec![make::path(2); SWITCHES / 2];
+    let islands = (0..8).map(|_| make::exact(chance, SWITCHES / 8, LINKS / 8));
+    sketches.push(("pairs".into(), beside(pairs)));
+    sketches.push(("islands".into(), beside(islands.collect())));
     for (name, sketch) in sketches {
         let file = Path::new(&out).join(name + ".listing");
         if let Err(error) = std::fs::write(&file, make::listing_of(&sketch.plain())) {

@@ -220,7 +220,7 @@ impl Sketch {
     }
 
     /// Adds another sketch's switches and links, without joining them.
-    fn beside(mut self, other: &Sketch) -> Sketch {
+    pub fn beside(mut self, other: &Sketch) -> Sketch {
         let shift = self.switches;
         self.switches += other.switches;
         self.pairs.extend(
@@ -355,6 +355,24 @@ pub fn apart(chance: &mut Chance, switches: usize, links: usize) -> Sketch {
         1 => one.beside(&path(1)),
         _ => path(1).beside(&one),
     }
+}
+
+/// Joined sketches beside each other, single switches among them, from two to
+/// five, with at most so many switches, two at least, and links.
+pub fn several(chance: &mut Chance, switches: usize, links: usize) -> Sketch {
+    let count = chance.within(2, switches.min(5));
+    let mut sketch = Sketch::default();
+    for after in (0..count).rev() {
+        let room = switches - sketch.switches - after;
+        let most = chance.within(room.div_ceil(after + 1), room);
+        let part = if chance.percent(20) {
+            path(1)
+        } else {
+            joined(chance, most, links - sketch.pairs.len())
+        };
+        sketch = sketch.beside(&part);
+    }
+    sketch
 }
 
 /// A listing in the making: values with bits of the map that are set in any
@@ -580,7 +598,7 @@ pub fn unmarked(mut plant: Plant) -> Plant {
 /// none where a plant has no such link.
 pub fn marking(chance: &mut Chance, plant: &Plant, way: usize) -> Vec<usize> {
     let links = usize::from(plant.links);
-    let whole = |marks: &[usize]| Net::new(marked(plant.clone(), marks)).is_ok();
+    let whole = |marks: &[usize]| Net::new(marked(plant.clone(), marks)).is_joined();
     let beside = |one: usize| -> Vec<usize> {
         let ends = |number: usize| {
             let Link { first, second, .. } = plant.link[number];

@@ -1,7 +1,7 @@
-//! Depth-first visit, bridges, arcs in use, the rule page and the rules by
-//! switch.
+//! Depth-first visit, components, bridges, arcs in use, the rule page and the
+//! rules by switch.
 
-use crate::plant::{Answer, Plant, Refusal};
+use crate::plant::Plant;
 
 /// A rule: the sending switch passes the label's packet to the receiver.
 #[derive(Clone, Copy, Debug, Default, PartialEq, Eq)]
@@ -32,18 +32,30 @@ pub struct BySwitch {
     pub total: usize,
 }
 
-/// A plant whose switches are all reached from the start, with its links in
-/// service, its bridges and its arcs in use.
+/// An island, in the word of order 9: switches that links in service join.
+#[derive(Clone, Copy, Debug, Default, PartialEq, Eq)]
+pub struct Component {
+    /// The switch that its visit, its trail and its round trail begin at.
+    pub first: u8,
+    /// Its links in service: E in all that tells of rings, probes and searches.
+    pub links: u16,
+}
+
+/// A plant with its components, its links in service, its bridges and its arcs
+/// in use.
 #[derive(Clone, Debug)]
 pub struct Net {
     pub plant: Plant,
-    /// The number of links in service: E in all that tells of trails, probes
-    /// and rules.
+    /// The start's component, and then the others by their lowest switch.
+    pub components: Vec<Component>,
+    /// The number of links in service of all components.
     pub links: usize,
     pub bridge: [bool; Plant::MAX_LINKS],
     pub bridges: usize,
     pub used: [bool; Plant::MAX_ARCS],
-    /// Number of each switch in the order of the visit.
+    /// The component of each switch.
+    component: [u8; Plant::MAX_SWITCHES],
+    /// Number of each switch in the order of the visits.
     number: [u8; Plant::MAX_SWITCHES],
     entered: [bool; Plant::MAX_LINKS],
 }
@@ -92,11 +104,14 @@ impl Joins {
     }
 }
 
-/// The state of the depth-first visit.
+/// The state of the depth-first visit of one component after another.
 struct Visit<'a> {
     joins: &'a Joins,
     visited: u8,
-    /// Number of each switch from 1 in the order of the visit, 0 before.
+    /// The number of the component that is visited.
+    current: u8,
+    component: [u8; Plant::MAX_SWITCHES],
+    /// Number of each switch from 1 in the order of the visits, 0 before.
     number: [u8; Plant::MAX_SWITCHES],
     /// Least number reached from the switch's part of the visit by one link
     /// that was not entered.
@@ -111,6 +126,7 @@ impl Visit<'_> {
         let number = self.visited;
         let mut low = number;
         self.number[switch] = number;
+        self.component[switch] = self.current;
         for Join { link, other } in self.joins.of(switch).iter().copied() {
             let other = usize::from(other);
             if Some(link) == by {
@@ -130,26 +146,35 @@ impl Visit<'_> {
 }
 
 impl Net {
-    /// Visits the plant from its start; refusal 9.
-    pub fn new(plant: Plant) -> Answer<Net> {
+    /// Visits the plant from its start, and then from each lowest switch that is
+    /// not visited yet.
+    pub fn new(plant: Plant) -> Net {
         let joins = Joins::new(&plant);
         let mut visit = Visit {
             joins: &joins,
             visited: 0,
+            current: 0,
+            component: [0; Plant::MAX_SWITCHES],
             number: [0; Plant::MAX_SWITCHES],
             low: [0; Plant::MAX_SWITCHES],
             entered: [false; Plant::MAX_LINKS],
             bridge: [false; Plant::MAX_LINKS],
         };
-        visit.enter(usize::from(plant.start), None);
-        if visit.visited != plant.switches {
-            return Err(Refusal::NotConnected);
+        let mut components = Vec::new();
+        for first in std::iter::once(plant.start).chain(0..plant.switches) {
+            if visit.number[usize::from(first)] == 0 {
+                visit.current = components.len() as u8;
+                visit.enter(usize::from(first), None);
+                components.push(Component { first, links: 0 });
+            }
         }
         let mut used = [false; Plant::MAX_ARCS];
         let mut links = 0;
         let mut bridges = 0;
         for (number, link) in plant.in_service() {
             links += 1;
+            let component = visit.component[usize::from(link.first)];
+            components[usize::from(component)].links += 1;
             if visit.bridge[number] {
                 used[2 * number] = true;
                 used[2 * number + 1] = true;
@@ -162,20 +187,38 @@ impl Net {
             }
         }
         let Visit {
+            component,
             number,
             entered,
             bridge,
             ..
         } = visit;
-        Ok(Net {
+        Net {
             plant,
+            components,
             links,
             bridge,
             bridges,
             used,
+            component,
             number,
             entered,
-        })
+        }
+    }
+
+    /// Whether the plant is one component.
+    pub fn is_joined(&self) -> bool {
+        self.components.len() == 1
+    }
+
+    /// The number of a switch's component.
+    pub fn component_of(&self, switch: usize) -> usize {
+        usize::from(self.component[switch])
+    }
+
+    /// The links in service of a switch's component.
+    pub fn links_at(&self, switch: usize) -> u16 {
+        self.components[self.component_of(switch)].links
     }
 
     /// The number of links of the listing, in service or not.

@@ -95,7 +95,9 @@ fn follow(
     run
 }
 
-/// The first hop of the trail that leaves the switch, 0 if there is none.
+/// The first hop of a component's trail that leaves the switch, 0 if there is
+/// none. In the joined trail it is so many places after the component's stretch
+/// begins.
 pub fn place(net: &Net, trail: &[u16], switch: usize) -> usize {
     trail
         .iter()
@@ -103,13 +105,14 @@ pub fn place(net: &Net, trail: &[u16], switch: usize) -> usize {
         .unwrap_or(0)
 }
 
-/// The ring from a place: the trail from there to its end, then its front.
+/// The ring from a place: the component's trail from there to its end, then its
+/// front.
 pub fn ring(trail: &[u16], place: usize) -> (&[u16], &[u16]) {
     let (front, rest) = trail.split_at(place);
     (rest, front)
 }
 
-/// The links in service by first crossing from a place.
+/// The links in service of a component by first crossing from a place.
 pub struct Order {
     pub count: usize,
     pub link: [u16; Plant::MAX_LINKS],
@@ -120,6 +123,8 @@ pub struct Order {
 
 impl Order {
     pub fn new(net: &Net, trail: &[u16], place: usize) -> Order {
+        let first = trail.first().map(|label| net.ends(*label).0);
+        let links = first.map_or(0, |switch| usize::from(net.links_at(switch)));
         let mut order = Order {
             count: 0,
             link: [0; Plant::MAX_LINKS],
@@ -134,7 +139,7 @@ impl Order {
                 order.link[order.count] = link as u16;
                 order.reach[order.count] = hop as u16 + 1;
                 order.count += 1;
-                if order.count == net.links {
+                if order.count == links {
                     break;
                 }
             }
@@ -147,17 +152,17 @@ impl Order {
     }
 }
 
-/// The outward labels of probe m, 1 to the number of links in service, in at most two stretches: up to
-/// the first crossing of the m-th link, or the whole ring for m = E.
+/// The outward labels of probe m, 1 to the number of links in the order, in at
+/// most two stretches: up to the first crossing of the m-th link, or the whole
+/// ring for m = E.
 pub fn outward<'t>(
-    net: &Net,
     trail: &'t [u16],
     place: usize,
     order: &Order,
     m: usize,
 ) -> (&'t [u16], &'t [u16]) {
     let (rest, front) = ring(trail, place);
-    if m == net.links {
+    if m == order.count {
         return (rest, front);
     }
     let reach = usize::from(order.reach[m - 1]);
@@ -168,7 +173,7 @@ pub fn outward<'t>(
     }
 }
 
-/// Runs probe m, 1 to the number of links in service, from a switch and its
+/// Runs probe m, 1 to the number of links in the order, from a switch and its
 /// place: the hops of the way back count on.
 pub fn run_probe(
     net: &Net,
@@ -178,9 +183,9 @@ pub fn run_probe(
     m: usize,
     states: &[u8],
 ) -> Run {
-    let (one, two) = outward(net, trail, place(net, trail, switch), order, m);
+    let (one, two) = outward(trail, place(net, trail, switch), order, m);
     let out = one.iter().chain(two).copied();
-    if m == net.links {
+    if m == order.count {
         return run(net, Under::Page, switch, out, states);
     }
     let back = out.clone().rev().map(|label| label ^ 1);

@@ -1,6 +1,7 @@
 //! Plant values, their limits and the refusals.
 
-/// A refusal, with its number in documents 01 and 02.
+/// A refusal, with its number in documents 01 and 02. No refusal has the number
+/// 9.
 #[derive(Clone, Copy, Debug, PartialEq, Eq, PartialOrd, Ord)]
 #[repr(u8)]
 pub enum Refusal {
@@ -21,8 +22,6 @@ pub enum Refusal {
     SelfLink = 7,
     /// Bytes remain after the last record.
     BytesRemain = 8,
-    /// Some switch can't be reached from the start.
-    NotConnected = 9,
     /// The lent buffer has fewer places than the trail, or the round trail,
     /// has hops.
     TrailBufferShort = 10,
@@ -139,6 +138,7 @@ impl Plant {
 
 // Sets of switches are kept in 64-bit words.
 const _: () = assert!(Plant::MAX_SWITCHES <= u64::BITS as usize);
-// One crossing costs at most S hops, and the return at most S - 1.
+// One crossing costs at most as many hops as its component has switches, and the
+// return one fewer; bridges are entered links.
 const _: () =
     assert!(Plant::MAX_HOPS == Plant::MAX_RULES * Plant::MAX_SWITCHES + Plant::MAX_SWITCHES - 1);

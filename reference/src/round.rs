@@ -1,12 +1,16 @@
-//! The round trail: both arcs of every link in service just once.
+//! The round trail: both arcs of every link in service just once, those of one
+//! component after the other.
 
 use crate::net::{Join, Joins, Net};
 use crate::plant::Plant;
+use std::ops::Range;
 
 /// The round trail, both labels of every link in service.
 pub struct Round {
     count: usize,
     label: [u16; Plant::MAX_ARCS],
+    /// For each component, the hops up to its round trail's end.
+    ends: Vec<usize>,
 }
 
 /// The state of the visit that writes the round trail.
@@ -48,10 +52,22 @@ impl Round {
             round: Round {
                 count: 0,
                 label: [0; Plant::MAX_ARCS],
+                ends: Vec::with_capacity(net.components.len()),
             },
         };
-        walk.enter(usize::from(net.plant.start));
+        for component in &net.components {
+            walk.enter(usize::from(component.first));
+            walk.round.ends.push(walk.round.count);
+        }
         walk.round
+    }
+
+    /// Where a component's round trail is in the joined one.
+    pub fn stretch(&self, component: usize) -> Range<usize> {
+        let before = component
+            .checked_sub(1)
+            .map_or(0, |before| self.ends[before]);
+        before..self.ends[component]
     }
 
     fn push(&mut self, label: u16) {

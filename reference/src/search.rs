@@ -18,7 +18,7 @@ const MAX: u16 = Plant::MAX_LINKS as u16;
 pub const SENDINGS: u8 = 3;
 
 impl Search {
-    /// A new search of a plant with so many links in service.
+    /// A new search of a component with so many links in service.
     pub fn new(links: u16) -> Search {
         if links == 0 {
             Search::AllUp
@@ -56,7 +56,8 @@ impl Search {
             .ok_or(Refusal::SearchUnsound)
     }
 
-    /// Refusal 14 in a call with a listing of so many links in service.
+    /// Refusal 14 in a call with a listing, of a component with so many links in
+    /// service.
     pub fn check_for(self, links: u16) -> Answer<()> {
         self.check()?;
         let fits = match self {

@@ -1,12 +1,15 @@
-//! Distances over arcs in use, and the trail.
+//! Distances over arcs in use, and the trail: those of the components, one after
+//! the other.
 
 use crate::net::Net;
 use crate::plant::Plant;
+use std::ops::Range;
 
-/// Fewest hops over arcs in use between every two switches.
+/// Fewest hops over arcs in use between every two switches; 0 also where no way
+/// leads.
 pub type Distances = [[u8; Plant::MAX_SWITCHES]; Plant::MAX_SWITCHES];
 
-/// The trail's crossings in turn and its number of hops.
+/// The trail's crossings in turn, its stretches and its number of hops.
 pub struct Trail<'n> {
     net: &'n Net,
     distances: Distances,
@@ -15,6 +18,9 @@ pub struct Trail<'n> {
     out: [u16; Plant::MAX_RULES],
     /// The arcs in use in the order of their first crossing.
     crossings: [u16; Plant::MAX_RULES],
+    /// For each component, the crossings and the hops up to its trail's end.
+    ends: Vec<(usize, usize)>,
+    /// The hops of all components.
     pub hops: usize,
 }
 
@@ -80,50 +86,63 @@ impl<'n> Trail<'n> {
         // Every switch on a shortest way to the nearest switch with an
         // uncrossed arc is nearer, so the way crosses no uncrossed arc, and
         // each switch's arcs are first crossed by rising label.
-        let start = usize::from(net.plant.start);
         let mut uncrossed = out_at;
-        let mut open = 0u64;
+        let mut open_in = [0u64; Plant::MAX_SWITCHES];
         for switch in 0..Plant::MAX_SWITCHES {
             if out_at[switch] < out_at[switch + 1] {
-                open |= 1 << switch;
+                open_in[net.component_of(switch)] |= 1 << switch;
             }
         }
         let mut crossings = [0; Plant::MAX_RULES];
+        let mut ends = Vec::with_capacity(net.components.len());
         let mut count = 0;
         let mut hops = 0;
-        let mut at = start;
-        while open != 0 {
-            let lowest = |switch: usize| out[usize::from(uncrossed[switch])];
-            let from = if open >> at & 1 == 1 {
-                at
-            } else {
-                // By distance, then by label.
-                let key = |switch: usize| {
-                    u32::from(distances[at][switch]) << 16 | u32::from(lowest(switch))
+        for (component, mut open) in net.components.iter().zip(open_in) {
+            let first = usize::from(component.first);
+            let mut at = first;
+            while open != 0 {
+                let lowest = |switch: usize| out[usize::from(uncrossed[switch])];
+                let from = if open >> at & 1 == 1 {
+                    at
+                } else {
+                    // By distance, then by label.
+                    let key = |switch: usize| {
+                        u32::from(distances[at][switch]) << 16 | u32::from(lowest(switch))
+                    };
+                    members(open)
+                        .min_by_key(|switch| key(*switch))
+                        .unwrap_or(at)
                 };
-                members(open)
-                    .min_by_key(|switch| key(*switch))
-                    .unwrap_or(at)
-            };
-            let label = lowest(from);
-            uncrossed[from] += 1;
-            if uncrossed[from] == out_at[from + 1] {
-                open &= !(1 << from);
+                let label = lowest(from);
+                uncrossed[from] += 1;
+                if uncrossed[from] == out_at[from + 1] {
+                    open &= !(1 << from);
+                }
+                hops += usize::from(distances[at][from]) + 1;
+                crossings[count] = label;
+                count += 1;
+                at = net.ends(label).1;
             }
-            hops += usize::from(distances[at][from]) + 1;
-            crossings[count] = label;
-            count += 1;
-            at = net.ends(label).1;
+            hops += usize::from(distances[at][first]);
+            ends.push((count, hops));
         }
-        hops += usize::from(distances[at][start]);
         Trail {
             net,
             distances,
             out_at,
             out,
             crossings,
+            ends,
             hops,
         }
+    }
+
+    /// Where a component's trail is in the joined one.
+    pub fn stretch(&self, component: usize) -> Range<usize> {
+        let before = component
+            .checked_sub(1)
+            .map_or(0, |before| self.ends[before].1);
+        before..self.ends[component].1
     }
 
     /// The lowest label of an arc in use at `at` that lessens the distance
@@ -143,8 +162,6 @@ impl<'n> Trail<'n> {
     /// Says whether it never did.
     pub fn each(&self, mut take: impl FnMut(u16) -> bool) -> bool {
         let mut known = [[NONE; Plant::MAX_SWITCHES]; Plant::MAX_SWITCHES];
-        let start = usize::from(self.net.plant.start);
-        let mut at = start;
         let mut go = |at: &mut usize, goal: usize, take: &mut dyn FnMut(u16) -> bool| {
             while *at != goal {
                 let mut label = known[*at][goal];
@@ -159,14 +176,23 @@ impl<'n> Trail<'n> {
             }
             true
         };
-        for label in &self.crossings[..self.net.rule_count()] {
-            let (from, to) = self.net.ends(*label);
-            if !go(&mut at, from, &mut take) || !take(*label) {
+        let mut crossed = 0;
+        for (component, (end, _)) in self.net.components.iter().zip(&self.ends) {
+            let first = usize::from(component.first);
+            let mut at = first;
+            for label in &self.crossings[crossed..*end] {
+                let (from, to) = self.net.ends(*label);
+                if !go(&mut at, from, &mut take) || !take(*label) {
+                    return false;
+                }
+                at = to;
+            }
+            crossed = *end;
+            if !go(&mut at, first, &mut take) {
                 return false;
             }
-            at = to;
         }
-        go(&mut at, start, &mut take)
+        true
     }
 
     /// Writes the trail to the front of a buffer that is long enough.
