@@ -88,7 +88,7 @@ module _ (p : Plant) (sound : Sound p) where
           r-in : r < p .switches
           r-in = in-roots p ok (sound .start-in) r .0 listed .0
 
-          own : List Bool
+          abbrev own : List Bool
           own = usedFlags p r
 
           strong : Strong (p .switches) (2 * p .count) (at tails) (at heads) (flag own) r (reachedFrom p r)

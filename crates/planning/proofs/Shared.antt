@@ -47,20 +47,16 @@ module _ (S n : ℕ) (tl hd : ℕ → ℕ) (all own : ℕ → Bool) (r : ℕ) (p
 
     -- ---- distances
 
+    own-arc : (a x : ℕ) → T (part x) → tl a ≡ x → InUse n all a → InUse n own a
+    own-arc a x h e q = (q .0, subst (λ (t : Bool). T t) (same a (subst (λ (y : ℕ). T (part y)) (sym e) h)) (q .1))
+
     -- a walk from a switch of the part goes over its own arcs
     own-arcs : (w : List ℕ) (u v : ℕ) → T (part u) → Walk tl hd w u v → ((a : ℕ) → In a w → InUse n all a) → (a : ℕ) → In a w → InUse n own a
-    own-arcs [] u v h k use a z = absurd z
-    own-arcs (b ∷ w) u v h k use a i = go i
-      where
-        at-b : T (part (tl b))
-        at-b = subst (λ (x : ℕ). T (part x)) (sym (k .0)) h
-
-        own-b : InUse n own b
-        own-b = let q = use b (inl refl) in (q .0, subst (λ (t : Bool). T t) (same b at-b) (q .1))
-
-        go : (a ≡ b) ⊎ In a w → InUse n own a
-        go (inl e) = subst (InUse n own) (sym e) own-b
-        go (inr j) = own-arcs w (hd b) v (strong .heads b (own-b .0) (own-b .1)) (k .1) (λ c l. use c (inr l)) a j
+    own-arcs [] u v h k uses a z = absurd z
+    own-arcs (b ∷ w) u v h k uses a i =
+        let q = own-arc b u h (k .0) (uses b (inl refl)) in
+        let rest = own-arcs w (hd b) v (strong .heads b (q .0) (q .1)) (k .1) (λ c l. uses c (inr l)) a in
+        ⊎-elim (λ e. subst (InUse n own) (sym e) q) rest i
 
     all-arc : (a : ℕ) → InUse n own a → InUse n all a
     all-arc a q = (q .0, subst (λ (t : Bool). T t) (sym (same a (strong .tails a (q .0) (q .1)))) (q .1))

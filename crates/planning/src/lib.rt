@@ -217,10 +217,11 @@ fn links_by(x: Parts) -> [u16; Plant::PLACES]
     ensures { λ r. ⌜ LinksBy (x .plant) r ⌝ }
 {
     let mut links = [0u16; Plant::PLACES];
-    let n = x.plant.count as usize;
+    let p = x.plant;
+    let n = p.count as usize;
     let mut l: usize = 0;
     while l < n {
-        if in_service(x.plant.links[l]) {
+        if in_service(p.links[l]) {
             let y = x.tails[2 * l] as usize;
             let i = x.home[y] as usize;
             links[i] += 1;

@@ -5,8 +5,9 @@ use mathlib.Core.Path.{_≡_, refl, sym, ap, _∙_, subst}
 use mathlib.Core.Logic.{_⊎_, inl, inr, ⊎-elim, _↔_}
 use mathlib.Core.Bool.{Bool, true, not, _&&_}
 use mathlib.Core.List.{List, [], _∷_, map}
-use Prim.Native.Nat.{ℕ, suc, _+_, _*_, _/_, _≤_, _<_}
+use Prim.Native.Nat.{ℕ, zero, suc, _+_, _*_, _/_, _≤_, _<_}
 use native.Mathlib.Omega.{arith}
+use borrow.Author.Tests.{ne-eqb}
 use lib.Dec.{T, T-not, not-T, eqb, eqb→eq}
 use lib.ListN.{length, getD, take, drop}
 use Rattle.lists.specs.Members.{In, memb, Distinct}
@@ -16,22 +17,35 @@ use Rattle.lists.specs.Numbers.{range, keep}
 use Rattle.lists.specs.Sum.{sumOf}
 use Rattle.lists.proofs.Tests.{T-or, T-same, eq?, below?, eq→eqb, choose-true, choose-false, and-left, and-right, and-both}
 use Rattle.lists.proofs.Members.{memb→in, in→memb, getD-in, in-getD, distinct-at}
-use Rattle.lists.proofs.Count.{bit-true, bit-false, bit-one, count-all, count-every, counts-le, distinct-count, pairs}
+use Rattle.lists.proofs.Count.{bit-true, bit-false, bit-one, count-all, count-none, count-every, counts-le, distinct-count, pairs}
 use Rattle.lists.proofs.Least.{least-top, least-passes, least-first, least-le, least-none}
 use Rattle.lists.proofs.Numbers.{range-in, in-range, keep-in, in-keep, keep-none, range-distinct, keep-distinct}
 use Rattle.lists.proofs.Chained.{chained, chained-within, chained-part}
 use Rattle.lists.proofs.SumOf.{sums-lt, parts-count}
 use Rattle.plant.specs.declared.Plant.{Plant}
 use Rattle.plant.specs.Links.{first, second, live}
-use Rattle.walks.specs.Arcs.{opposite, tail, Arc, Valid}
-use Rattle.walks.specs.Graph.{AllFrom, visitedFrom, reachedFrom, usedFrom, bridge, bridgeFrom, liveLinks, bridges, switchesFrom, linksFrom, bridgesFrom, arcsUsedFrom}
+use Rattle.walks.specs.Visit.{St, scan, visit}
+use Rattle.walks.specs.Arcs.{opposite, tail, head, Arc, Valid}
+use Rattle.walks.specs.Graph.{AllFrom, arcs, visitFrom, visitedFrom, reachedFrom, usedFrom, bridge, bridgeFrom, liveLinks, bridges, switchesFrom, linksFrom, bridgesFrom, arcsUsedFrom}
 use Rattle.walks.specs.Components.{rootOf, begunAt, roots, componentOf, linksWith, used, arcsUsed}
 use Rattle.walks.proofs.Walk.{trans, one}
-use Rattle.walks.proofs.Labels.{even-half, odd-half, opposite-half, of-link, tail-even, tail-odd, head-even, tail-in, even-arc, opposite-arc}
+use Rattle.walks.proofs.Labels.{even-half, odd-half, opposite-half, of-link, tail-even, tail-odd, head-even, tail-in, even-arc, opposite-arc, arcs-are}
 use Rattle.walks.proofs.Visited.{visited-root, visited-inside, visited-finds}
 use Rattle.walks.proofs.Tests.{walk-back, bridge-live}
 use Rattle.walks.proofs.Orientation.{used-is, from-arc}
 use Rattle.walks.proofs.Counting.{used-pair, bridges-few, links-all}
+
+-- where no arc leaves v, the visit from v finds nothing more
+module _ (tl hd : ℕ → ℕ) where
+  scan-none : (en : ℕ → St → St) (v : ℕ) (bs : List ℕ) → ((a : ℕ) → In a bs → tl a ≡ v → ⊥) → (s : St) → scan tl hd en v bs s ≡ s
+  unfolding scan
+  scan-none en v [] n s = refl
+  scan-none en v (a ∷ bs) n s = rw (ne-eqb (tl a) v (n a (inl refl))) (scan-none en v bs (λ b i. n b (inr i)) s)
+
+  visit-none : (bs : List ℕ) (v : ℕ) → ((a : ℕ) → In a bs → tl a ≡ v → ⊥) → (f : ℕ) (s : St) → visit tl hd bs f v s ≡ s
+  unfolding visit
+  visit-none bs v n zero s = refl
+  visit-none bs v n (suc f) s = scan-none (λ w t. visit tl hd bs f w t) v bs n s
 
 module _ (p : Plant) where
   pub used-arc : (a : ℕ) → T (used p a) → Arc p a
@@ -342,6 +356,31 @@ module _ (p : Plant) (ok : Valid p) (start-in : p .start < p .switches) where
   pub few-roots-bridges : bridges p + length (roots p) ≤ S
   few-roots-bridges =
       omega (arith, bridges-sum, switches-sum, sums-lt (bridgesFrom p) (switchesFrom p) (roots p) (λ r i. bridges-few p ok r (listed-in r i)))
+
+  -- ---- a number that is no switch has no links
+
+  alone : (r : ℕ) → S ≤ r → visitedFrom p r .ord ≡ r ∷ []
+  unfolding visitFrom
+  alone r h = ap (λ (s : St). s .ord) (visit-none (tail p) (head p) (arcs p) r (λ a i e. omega (arith, e, tail-in p ok a (arcs-are p a .0 i))) (p .switches) (record { ord = r ∷ []; ent = [] }))
+
+  none-from : (r : ℕ) → S ≤ r → linksFrom p r ≡ 0
+  unfolding linksFrom
+  none-from r h = count-none (p .count) (λ l. reachedFrom p r (first p l) && live p l) (λ l i t.
+    let f = memb→in (first p l) (visitedFrom p r .ord) (and-left (reachedFrom p r (first p l)) (live p l) t) in
+    ⊎-elim (λ e. omega (arith, e, ok .first-in l (and-right (reachedFrom p r (first p l)) (live p l) t))) (λ z. z) (subst (λ (xs : List ℕ). In (first p l) xs) (alone r h) f))
+
+  lowest-none : (x : ℕ) → S ≤ x → S ≤ least x (λ y. reachedFrom p y x)
+  lowest-none x h = go (below? (least x (λ y. reachedFrom p y x)) x) (below? (least x (λ y. reachedFrom p y x)) S)
+    where
+      go : (least x (λ y. reachedFrom p y x) < x) ⊎ (x ≤ least x (λ y. reachedFrom p y x)) → (least x (λ y. reachedFrom p y x) < S) ⊎ (S ≤ least x (λ y. reachedFrom p y x))
+          → S ≤ least x (λ y. reachedFrom p y x)
+      go (inl l) (inl i) = absurd (omega (arith, joined-in (least x (λ y. reachedFrom p y x)) x i (least-passes x (λ y. reachedFrom p y x) l)))
+      go (inr l) (inl i) = omega arith
+      go l (inr i) = i
+
+  pub links-none : (x : ℕ) → S ≤ x → linksWith p x ≡ 0
+  unfolding linksWith
+  links-none x h = none-from (rootOf p x) (omega (arith, root-rest x (λ t. omega (arith, joined-in (p .start) x start-in t)), lowest-none x h))
 
   -- ---- where every switch is reached from the start
 
