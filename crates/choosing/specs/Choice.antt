@@ -2,7 +2,7 @@
 use mathlib.Core.List.{List}
 use Prim.Native.Nat.{ℕ}
 use lib.Dec.{ltb}
-use lib.ListN.{length, take}
+use lib.ListN.{length, take, drop}
 use Rattle.lists.specs.Tests.{choose}
 use Rattle.choosing.specs.declared.Choice.{Choice}
 use Rattle.choosing.specs.declared.Choice.the-variants.{Trail, Round}
@@ -11,11 +11,11 @@ use Rattle.choosing.specs.declared.Choice.the-variants.{Trail, Round}
 abbrev pub shorterOf : List ℕ → List ℕ → List ℕ
 shorterOf w v = choose (ltb (length v) (length w)) v w
 
--- by their hops: which one, and how many hops
-unfoldable pub choiceOf : ℕ → ℕ → Choice
-choiceOf n m = choose (ltb m n) (Round m) (Trail n)
+-- by their hops, n from place i on and m from place j on: which one, where it begins, and how many hops
+unfoldable pub choiceOf : ℕ → ℕ → ℕ → ℕ → Choice
+choiceOf i n j m = choose (ltb m n) (Round j m) (Trail i n)
 
--- so many hops of the lent trail w, or of the lent round trail v: as much as is there
+-- so many hops from place k on of the lent trail w, or of the lent round trail v: as much as is there
 abbrev pub hopsIn : List ℕ → List ℕ → Choice → List ℕ
-hopsIn w v (Trail n) = take n w
-hopsIn w v (Round n) = take n v
+hopsIn w v (Trail k n) = take n (drop k w)
+hopsIn w v (Round k n) = take n (drop k v)

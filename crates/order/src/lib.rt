@@ -1,6 +1,6 @@
 // The ring of an injection switch in a lent trail: its place, the order of links by first crossing, and the outward labels of a probe as parts of the trail. Inner: the calls are those of docs/CALLS.md.
 ghost use mathlib.Core.Path.{_≡_};
-ghost use Prim.Native.Nat.{ℕ, _/_, _≤_, _<_};
+ghost use Prim.Native.Nat.{ℕ, _+_, _/_, _≤_, _<_};
 ghost use lib.ListN.{length, getD, take, drop};
 ghost use Rattle.lists.specs.Members.{In};
 ghost use Rattle.limits.specs.Limits.{maxLinks};
@@ -11,7 +11,7 @@ ghost use Rattle.rings.specs.Probe.{upTo};
 ghost use Rattle.rings.specs.Injection.{placeOf, orderOf};
 ghost use Rattle.order.specs.Labels.{OverArcs};
 ghost use Rattle.order.specs.Order.{listed};
-ghost use Rattle.order.specs.Span.{ringSpan, spanOf, stretchOf, frontOf};
+ghost use Rattle.order.specs.Span.{ringSpan, spanOf, shiftedBy, stretchOf, frontOf};
 use plant::Plant;
 use plant::tail_of;
 
@@ -21,10 +21,11 @@ pub struct Order {
     pub links: [u16; Plant::MAX_LINKS],
 }
 
-// Where the outward labels of a probe stand in a trail: `len` labels from place `from` on, and then the first `front` labels.
+// Where the outward labels of a probe stand in a lent trail: `len` labels from place `from` on, and then `front` labels from place `begin` on, where the trail begins.
 pub struct Span {
     pub from: usize,
     pub len: usize,
+    pub begin: usize,
     pub front: usize,
 }
 
@@ -123,6 +124,7 @@ pub fn ring_span(p: Plant, s: u8, trail: &[u16]) -> Span
     Span {
         from: k,
         len: rest,
+        begin: 0,
         front: k,
     }
 }
@@ -145,13 +147,29 @@ pub fn span_of(p: Plant, s: u8, trail: &[u16], m: u16) -> Span
         return Span {
             from: k,
             len: n,
+            begin: 0,
             front: 0,
         };
     }
     Span {
         from: k,
         len: rest,
+        begin: 0,
         front: n - rest,
+    }
+}
+
+// Where the same labels stand in a lent list that has the trail from place `by` on.
+pub fn shifted(span: Span, by: usize) -> Span
+    requires { do ⌜ span .from + by ≤ (← ⟦usize::MAX⟧) ⌝ }
+    requires { do ⌜ span .begin + by ≤ (← ⟦usize::MAX⟧) ⌝ }
+    ensures { λ r. ⌜ r ≡ shiftedBy span by ⌝ }
+{
+    Span {
+        from: span.from + by,
+        len: span.len,
+        begin: span.begin + by,
+        front: span.front,
     }
 }
 
@@ -181,5 +199,5 @@ pub fn stretch<'a>(trail: &'a [u16], span: Span) -> &'a [u16]
 pub fn front<'a>(trail: &'a [u16], span: Span) -> &'a [u16]
     ensures { λ r. ⌜ now r ≡ frontOf (now (trail .entry)) span ⌝ }
 {
-    part(trail, 0, span.front)
+    part(trail, span.begin, span.front)
 }
