@@ -9,7 +9,7 @@ use lib.Seq.{take-length}
 use Rattle.lists.specs.Members.{In, Distinct}
 use Rattle.lists.proofs.Count.{count-all}
 use Rattle.lists.proofs.SumOf.{sums-same, sums-times}
-use Rattle.lists.proofs.Chained.{in-chained, chained-in, chained-distinct, chained-length, chained-begin}
+use Rattle.lists.proofs.Chained.{in-chained, chained-in, chained-distinct, chained-length, chained-begin, chained-within}
 use Rattle.plant.specs.declared.Plant.{Plant}
 use Rattle.plant.specs.Links.{live}
 use Rattle.limits.specs.Sound.{Sound}
@@ -34,6 +34,10 @@ module _ (p : Plant) where
   pub begin-next : (i : ℕ) → i < length (roots p) → roundBegin p (suc i) ≡ roundBegin p i + length (roundFrom p (getD (roots p) i 0))
   unfolding roundsOf
   begin-next i h = chained-begin (roundFrom p) (roots p) i h
+
+  pub begin-within : (i : ℕ) → i < length (roots p) → roundBegin p i + length (roundFrom p (getD (roots p) i 0)) ≤ length (roundOf p)
+  unfolding roundsOf
+  begin-within i h = chained-within (roundFrom p) (roots p) i h
 
   pub begin-last : roundBegin p (length (roots p)) ≡ length (roundOf p)
   begin-last = ap (λ (rs : List ℕ). length (roundsOf p rs)) (take-length (roots p))

@@ -12,7 +12,7 @@ use lib.Seq.{take-length}
 use Rattle.lists.specs.Members.{In}
 use Rattle.lists.proofs.Count.{count-all}
 use Rattle.lists.proofs.SumOf.{sums-plus, sums-times, sums-lt}
-use Rattle.lists.proofs.Chained.{in-chained, chained-in, chained-length, chained-begin}
+use Rattle.lists.proofs.Chained.{in-chained, chained-in, chained-length, chained-begin, chained-within}
 use Rattle.limits.specs.Limits.{maxHops}
 use Rattle.limits.specs.Sound.{Sound}
 use Rattle.plant.specs.declared.Plant.{Plant}
@@ -40,6 +40,10 @@ module _ (p : Plant) where
   pub begin-next : (i : ℕ) → i < length (roots p) → trailBegin p (suc i) ≡ trailBegin p i + length (trailFrom p (getD (roots p) i 0))
   unfolding trailsOf
   begin-next i h = chained-begin (trailFrom p) (roots p) i h
+
+  pub begin-within : (i : ℕ) → i < length (roots p) → trailBegin p i + length (trailFrom p (getD (roots p) i 0)) ≤ length (trailOf p)
+  unfolding trailsOf
+  begin-within i h = chained-within (trailFrom p) (roots p) i h
 
   pub begin-last : trailBegin p (length (roots p)) ≡ length (trailOf p)
   begin-last = ap (λ (rs : List ℕ). length (trailsOf p rs)) (take-length (roots p))

@@ -2,7 +2,7 @@
 use mathlib.Core.Path.{_≡_, refl, sym, ap, _∙_, subst}
 use mathlib.Core.Logic.{_⊎_, inl, inr, _↔_}
 use mathlib.Core.Bool.{Bool, true, false, _&&_}
-use mathlib.Core.List.{List}
+use mathlib.Core.List.{List, map}
 use Prim.Native.Nat.{ℕ, _+_, _*_, _/_, _≤_, _<_}
 use native.Mathlib.Omega.{arith}
 use lib.Dec.{T, eqb, eqb→eq}
@@ -84,7 +84,7 @@ module _ (x : Parts) (chart : Charted x) where
   listed-component : (i : ℕ) → i < length (roots p) → getD (componentsOf p .list) i zeroComponent ≡ componentAt p i
   unfolding componentsOf componentsWith
   listed-component i h =
-      padded-at maxSwitches zeroComponent _ i ∙ values-at (componentAt p) zeroComponent (length (roots p)) i h
+      padded-at maxSwitches zeroComponent (map (componentAt p) (range 0 (length (roots p)))) i ∙ values-at (componentAt p) zeroComponent (length (roots p)) i h
 
   module _ (measured : Measured x) (y : ℕ) (y-in : y < p .switches) where
     pub component-told : getD (x .components .list) (at (x .home) y) zeroComponent ≡ componentWith p y

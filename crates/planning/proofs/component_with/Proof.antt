@@ -1,29 +1,19 @@
+-- `planning::component_with` meets its contract. Assumes nothing.
+use Prim.Native.Nat.{_<_}
+use native.Mathlib.Omega.{arith}
 use borrow.Author.Needs.{needs}
+use Rattle.lists.specs.Arrays.{at}
+use Rattle.limits.specs.Limits.{maxSwitches}
+use Rattle.planning.proofs.Charts.{home-place, component-told}
 use Rattle.planning.proofs.component_with.Statement.{statement}
 use Rattle.planning.proofs.component_with.Tie as tie
-use Rattle.planning.proofs.component_with.Reads as reads
-use Rattle.planning.proofs.component_with.Lts as lts
-
--- src/lib.rt:325:13
-element-copy-out-i : tie.Need-element-copy-out-i
-element-copy-out-i c = search needs
-
--- src/lib.rt:325:13
-cast-i : tie.Need-cast-i
-cast-i c = search needs
-
--- src/lib.rt:327:5
-mul-result : tie.Need-mul-result
-mul-result c = ?
-
--- src/lib.rt:327:5
-element-copy-out-result : tie.Need-element-copy-out-result
-element-copy-out-result c = ?
-
--- src/lib.rt:320:1
-returns : tie.Need-returns
-returns c = ?
 
 pub component-with-spec : {M : Type 1} → statement M
 component-with-spec =
-    tie.close (tie.spec element-copy-out-i cast-i mul-result element-copy-out-result returns)
+    tie.close
+    (tie.spec
+    (λ c. omega (arith, c .pre .1, c .pre .0 .charted .sound .few-switches))
+    (λ c. search needs)
+    (λ c. omega (arith, home-place _ (c .before .before .pre .0 .charted) _ (c .before .before .pre .1)))
+    (λ c. home-place _ (c .before .before .pre .0 .charted) _ (c .before .before .pre .1))
+    (λ c. let h = c .before .before .before .pre in component-told _ (h .0 .charted) (h .0 .measured) _ (h .1)))

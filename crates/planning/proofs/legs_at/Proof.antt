@@ -1,26 +1,23 @@
+-- `planning::legs_at` meets its contract: the shared arrays are those of each component. Assumes nothing.
 use borrow.Author.Needs.{needs}
+use Rattle.planning.proofs.Laid.{start-legs, some-parts, own-legs}
 use Rattle.planning.proofs.legs_at.Statement.{statement}
 use Rattle.planning.proofs.legs_at.Tie as tie
-use Rattle.planning.proofs.legs_at.Reads as reads
-use Rattle.planning.proofs.legs_at.Lts as lts
-use Rattle.legs.proofs.legs_of.Reads as legs-of-reads
-use Rattle.planning.proofs.net_at.Reads as net-at-reads
 
--- src/lib.rt:205:9
 returns : tie.Need-returns
-returns c = ?
+returns c = start-legs _ _ (c .before .before .pre .0) _ (c .before .if1 .taken)
 
--- src/lib.rt:211:19
-net-at-requires : tie.Need-net-at-requires
-net-at-requires c κs = search needs
-
--- src/lib.rt:211:5
 legs-of-requires : tie.Need-legs-of-requires
-legs-of-requires c κs = ?
+legs-of-requires c κs =
+    let n = c .before .before .before .before .before in
+    let h = n .before .before .before .before .before .before .pre in
+    some-parts _ _ (h .0) _ (h .1) _ (n .net-at .ensures)
 
--- src/lib.rt:199:1
 returns-2 : tie.Need-returns-2
-returns-2 c = ?
+returns-2 c =
+    let n = c .before .before .before .before .before .before in
+    let h = n .before .before .before .before .before .before .pre in
+    own-legs _ _ (h .0) _ (h .1) _ (n .net-at .ensures) _ (c .legs-of .ensures)
 
 pub legs-at-spec : {M : Type 1} → statement M
-legs-at-spec = tie.close (tie.spec returns net-at-requires legs-of-requires returns-2)
+legs-at-spec = tie.close (tie.spec returns (λ c κs. search needs) legs-of-requires returns-2)

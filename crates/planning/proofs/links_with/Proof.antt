@@ -1,21 +1,16 @@
+-- `planning::links_with` meets its contract. Assumes nothing.
+use mathlib.Core.Path.{_≡_, ap, _∙_}
+use Prim.Native.Nat.{_/_}
 use borrow.Author.Needs.{needs}
+use Rattle.planning.specs.declared.Component.{Component}
+use Rattle.planning.proofs.Charts.{links-told, none-told}
 use Rattle.planning.proofs.links_with.Statement.{statement}
 use Rattle.planning.proofs.links_with.Tie as tie
-use Rattle.planning.proofs.links_with.Reads as reads
-use Rattle.planning.proofs.links_with.Lts as lts
-use Rattle.planning.proofs.component_with.Reads as component-with-reads
 
--- src/lib.rt:336:13
-component-with-requires : tie.Need-component-with-requires
-component-with-requires c κs = search needs
-
--- src/lib.rt:337:9
 returns : tie.Need-returns
-returns c = ?
-
--- src/lib.rt:331:1
-returns-2 : tie.Need-returns-2
-returns-2 c = ?
+returns c =
+    let h = c .before .before .before .before .pre in
+    ap (λ (d : Component). d .«round_hops» / 2) (c .before .component-with .ensures) ∙ links-told _ (h .charted) (h .measured) _ (c .before .before .if1 .taken)
 
 pub links-with-spec : {M : Type 1} → statement M
-links-with-spec = tie.close (tie.spec component-with-requires returns returns-2)
+links-with-spec = tie.close (tie.spec (λ c κs. search needs) returns (λ c. none-told _ (c .before .before .pre .charted) _ (c .if1 .left)))

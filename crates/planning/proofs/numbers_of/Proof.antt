@@ -1,42 +1,26 @@
+-- `planning::numbers_of` meets its contract: the flags that are set are as many as the bridges and the arcs in use. Assumes nothing.
+use Prim.Native.Nat.{_*_, _≤_}
+use native.Mathlib.Omega.{arith}
+use Rattle.limits.specs.Limits.{maxLinks}
+use Rattle.planning.proofs.Counted.{bridges-few, rules-few, numbers-are}
 use borrow.Author.Needs.{needs}
 use Rattle.planning.proofs.numbers_of.Statement.{statement}
 use Rattle.planning.proofs.numbers_of.Tie as tie
-use Rattle.planning.proofs.numbers_of.Reads as reads
-use Rattle.planning.proofs.numbers_of.Lts as lts
-use Rattle.arcs.proofs.links_in_service.Reads as links-in-service-reads
-use Rattle.uses.proofs.count_set.Reads as count-set-reads
 
--- src/lib.rt:462:9
-count-set-requires : tie.Need-count-set-requires
-count-set-requires c κs = search needs
+-- there are few enough of both
+few : (c : tie.After-links-in-service)
+    → let u = c .before .before in (u .before .before .before .before .count-set .result ≤ 2 * maxLinks) × (u .count-set2 .result ≤ 2 * maxLinks)
+few c =
+    let u = c .before .before in
+    let b = u .before .before .before .before in
+    let plan = b .before .before .before .before .pre in
+    (omega (arith, b .count-set .ensures, bridges-few _ (plan .charted)), omega (arith, u .count-set2 .ensures, rules-few _ (plan .charted)))
 
--- src/lib.rt:463:9
-count-set-requires-2 : tie.Need-count-set-requires-2
-count-set-requires-2 c κs = search needs
-
--- src/lib.rt:464:9
-links-in-service-requires : tie.Need-links-in-service-requires
-links-in-service-requires c κs = search needs
-
--- src/lib.rt:468:18
-cast-t12 : tie.Need-cast-t12
-cast-t12 c = ?
-
--- src/lib.rt:469:16
-cast-t13 : tie.Need-cast-t13
-cast-t13 c = ?
-
--- src/lib.rt:458:1
 returns : tie.Need-returns
-returns c = ?
+returns c =
+    let u = c .before .before in
+    let b = u .before .before .before .before in
+    numbers-are _ (b .before .before .before .before .pre) _ _ _ (c .links-in-service .ensures) (b .count-set .ensures) (u .count-set2 .ensures)
 
 pub numbers-of-spec : {M : Type 1} → statement M
-numbers-of-spec =
-    tie.close
-    (tie.spec
-    count-set-requires
-    count-set-requires-2
-    links-in-service-requires
-    cast-t12
-    cast-t13
-    returns)
+numbers-of-spec = tie.close (tie.spec (λ c κs. search needs) (λ c κs. search needs) (λ c κs. search needs) (λ c. omega (arith, few c)) (λ c. omega (arith, few c)) returns)
