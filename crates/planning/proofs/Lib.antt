@@ -1,2 +1,3 @@
 pub mod Shared
 pub mod Networks
+pub mod OneAfterAnother
