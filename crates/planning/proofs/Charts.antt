@@ -68,11 +68,11 @@ module _ (x : Parts) (chart : Charted x) where
       same : (l : ℕ) → T (ofComponent i l) ↔ T (reachedFrom p (getD (roots p) i 0) (first p l) && live p l)
       same l = (
         λ t. let a = and-left (live p l) (eqb (componentOf p (first p l)) i) t in
-        and-both (reachedFrom p (getD (roots p) i 0) (first p l)) (live p l)
-        (component-is p ok (chart .sound .start-in) i (first p l) h (ok .first-in l a) .1 (eqb→eq (componentOf p (first p l)) i (and-right (live p l) (eqb (componentOf p (first p l)) i) t))) a,
+            and-both (reachedFrom p (getD (roots p) i 0) (first p l)) (live p l)
+            (component-is p ok (chart .sound .start-in) i (first p l) h (ok .first-in l a) .1 (eqb→eq (componentOf p (first p l)) i (and-right (live p l) (eqb (componentOf p (first p l)) i) t))) a,
         λ t. let a = and-right (reachedFrom p (getD (roots p) i 0) (first p l)) (live p l) t in
-        and-both (live p l) (eqb (componentOf p (first p l)) i) a
-        (eq→eqb (component-is p ok (chart .sound .start-in) i (first p l) h (ok .first-in l a) .0 (and-left (reachedFrom p (getD (roots p) i 0) (first p l)) (live p l) t))),
+            and-both (live p l) (eqb (componentOf p (first p l)) i) a
+            (eq→eqb (component-is p ok (chart .sound .start-in) i (first p l) h (ok .first-in l a) .0 (and-left (reachedFrom p (getD (roots p) i 0) (first p l)) (live p l) t))),
       )
 
   -- the component of a switch has a place

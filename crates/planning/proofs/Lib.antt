@@ -6,3 +6,5 @@ pub mod Measuring
 pub mod Counting
 pub mod Counted
 pub mod Plans
+pub mod Drawing
+pub mod OneAfterAnother

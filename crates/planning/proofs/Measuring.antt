@@ -27,7 +27,7 @@ use Rattle.planning.specs.declared.Parts.{Parts}
 use Rattle.planning.specs.declared.Component.{Component}
 use Rattle.planning.specs.declared.Components.{Components}
 use Rattle.planning.specs.Components.{zeroComponent, componentsWith, componentAt, componentsOf}
-use Rattle.planning.specs.Plans.{Charted, LinksBy, LegsFrom}
+use Rattle.planning.specs.Plans.{Charted, LinksBy, LegsFrom, Laying, Plan}
 use Rattle.planning.proofs.Networks.{net-trail}
 use Rattle.planning.proofs.Charts.{few-components, root-below}
 
@@ -73,9 +73,9 @@ module _ (x : Parts) (chart : Charted x) where
       both-few = omega (arith, round-few)
 
       pub measuring-next : (count : ℕ) → Measuring (i + 1) (record {
-          count = count;
-          list = set (cs .list) i (record { first = at (x .roots) i; begin = begin; hops = legs .hops; «round_begin» = round; «round_hops» = 2 * at links i });
-        }) (begin + legs .hops) (round + 2 * at links i)
+        count = count;
+        list = set (cs .list) i (record { first = at (x .roots) i; begin = begin; hops = legs .hops; «round_begin» = round; «round_hops» = 2 * at links i });
+      }) (begin + legs .hops) (round + 2 * at links i)
       unfolding componentAt
       measuring-next count =
           let e : i + 1 ≡ suc i = omega arith in
@@ -115,3 +115,38 @@ module _ (x : Parts) (chart : Charted x) where
 
     pub hops-all : begin ≡ length (trailOf p)
     hops-all = all .begin-is ∙ trails.begin-last p
+
+    -- the parts with their components measured are the plan
+    pub is-measured : (t : List (List ℕ)) → Laying x t → Plan (record {
+      plant = x .plant;
+      net = x .net;
+      tails = x .tails;
+      heads = x .heads;
+      count = x .count;
+      roots = x .roots;
+      home = x .home;
+      bridges = x .bridges;
+      used = x .used;
+      first = x .first;
+      after = x .after;
+      legs = x .legs;
+      components = record { count = x .count; list = cs .list };
+      hops = begin;
+    }) t
+    is-measured t laying = record {
+      laying = record {
+        charted = record {
+          sound = chart .sound;
+          net-is = chart .net-is;
+          ends = chart .ends;
+          count-is = chart .count-is;
+          roots-are = chart .roots-are;
+          homes = chart .homes;
+          bridges-are = chart .bridges-are;
+          used-are = chart .used-are;
+        };
+        tables = laying .tables;
+        legs-are = laying .legs-are;
+      };
+      measured = record { components-are = components-are; hops-are = hops-all };
+    }

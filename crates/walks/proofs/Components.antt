@@ -366,8 +366,8 @@ module _ (p : Plant) (ok : Valid p) (start-in : p .start < p .switches) where
   none-from : (r : ℕ) → S ≤ r → linksFrom p r ≡ 0
   unfolding linksFrom
   none-from r h = count-none (p .count) (λ l. reachedFrom p r (first p l) && live p l) (λ l i t.
-    let f = memb→in (first p l) (visitedFrom p r .ord) (and-left (reachedFrom p r (first p l)) (live p l) t) in
-    ⊎-elim (λ e. omega (arith, e, ok .first-in l (and-right (reachedFrom p r (first p l)) (live p l) t))) (λ z. z) (subst (λ (xs : List ℕ). In (first p l) xs) (alone r h) f))
+      let f = memb→in (first p l) (visitedFrom p r .ord) (and-left (reachedFrom p r (first p l)) (live p l) t) in
+      ⊎-elim (λ e. omega (arith, e, ok .first-in l (and-right (reachedFrom p r (first p l)) (live p l) t))) (λ z. z) (subst (λ (xs : List ℕ). In (first p l) xs) (alone r h) f))
 
   lowest-none : (x : ℕ) → S ≤ x → S ≤ least x (λ y. reachedFrom p y x)
   lowest-none x h = go (below? (least x (λ y. reachedFrom p y x)) x) (below? (least x (λ y. reachedFrom p y x)) S)

@@ -1,57 +1,43 @@
+-- `planning::drawn` meets its contract: each part is what the next asks for. Assumes nothing.
+use mathlib.Core.Path.{refl}
 use borrow.Author.Needs.{needs}
+use Rattle.planning.proofs.Drawing.{chains-asked, distances-asked, legs-asked, laying}
 use Rattle.planning.proofs.drawn.Statement.{statement}
 use Rattle.planning.proofs.drawn.Tie as tie
-use Rattle.planning.proofs.drawn.Reads as reads
-use Rattle.planning.proofs.drawn.Lts as lts
-use Rattle.arcs.proofs.chains_of.Reads as chains-of-reads
-use Rattle.arcs.proofs.ends_of.Reads as ends-of-reads
-use Rattle.components.proofs.find.Reads as find-reads
-use Rattle.distance.proofs.distances.Reads as distances-reads
-use Rattle.legs.proofs.legs_of.Reads as legs-of-reads
-use Rattle.planning.proofs.Components.none.Reads as none-reads
-use Rattle.planning.proofs.net_of.Reads as net-of-reads
 
--- src/lib.rt:151:9
-ends-of-requires : tie.Need-ends-of-requires
-ends-of-requires c κs = search needs
-
--- src/lib.rt:154:9
-find-requires : tie.Need-find-requires
-find-requires c κs = search needs
-
--- src/lib.rt:156:9
-net-of-requires : tie.Need-net-of-requires
-net-of-requires c κs = search needs
-
--- src/lib.rt:157:9
 chains-of-requires : tie.Need-chains-of-requires
-chains-of-requires c κs = ?
+chains-of-requires c κs =
+    let n = c .before .before in
+    let f = n .before .before in
+    let e = f .before .before .before .before .before in
+    chains-asked _ (e .before .pre) _ _ (e .ends-of .ensures) _ (f .find .ensures) _ (n .net-of .ensures)
 
--- src/lib.rt:160:9
 distances-requires : tie.Need-distances-requires
-distances-requires c κs = ?
+distances-requires c κs =
+    let n = c .before .before .before .before .before .before .before .before in
+    let f = n .before .before in
+    let e = f .before .before .before .before .before in
+    distances-asked _ (e .before .pre) _ _ (e .ends-of .ensures) _ (f .find .ensures) _ (n .net-of .ensures)
 
--- src/lib.rt:162:9
 legs-of-requires : tie.Need-legs-of-requires
-legs-of-requires c κs = ?
+legs-of-requires c κs =
+    let d = c .before .before .before .before in
+    let k = d .before .before .before .before .before .before in
+    let n = k .before .before .before in
+    let f = n .before .before in
+    let e = f .before .before .before .before .before in
+    legs-asked _ (e .before .pre) _ _ (e .ends-of .ensures) _ (f .find .ensures) _ (n .net-of .ensures) _ _ (k .chains-of .ensures) _ (d .distances .ensures)
 
--- src/lib.rt:166:9
-none-requires : tie.Need-none-requires
-none-requires c κs = search needs
-
--- src/lib.rt:146:1
 returns : tie.Need-returns
-returns c = ?
+returns c =
+    let l = c .before .before .before .before in
+    let d = l .before .before .before .before .before in
+    let k = d .before .before .before .before .before .before in
+    let n = k .before .before .before in
+    let f = n .before .before in
+    let e = f .before .before .before .before .before in
+    (refl, laying _ (e .before .pre) _ _ (e .ends-of .ensures) _ (f .find .ensures) _ (n .net-of .ensures) _ _ (k .chains-of .ensures) _ (d .distances .ensures) _ (l .legs-of .ensures) _ _)
 
 pub drawn-spec : {M : Type 1} → statement M
 drawn-spec =
-    tie.close
-    (tie.spec
-    ends-of-requires
-    find-requires
-    net-of-requires
-    chains-of-requires
-    distances-requires
-    legs-of-requires
-    none-requires
-    returns)
+    tie.close (tie.spec (λ c κs. search needs) (λ c κs. search needs) (λ c κs. search needs) chains-of-requires distances-requires legs-of-requires (λ c κs. search needs) returns)

@@ -90,7 +90,7 @@ links-by-spec =
     (λ c. home-at (c .before .before))
     (λ c. add-links c)
     (λ c. home-at (c .before .before))
-    (λ c. omega (arith, place (c .before .before)))
-    (λ c. omega (arith, c .before .before .loop-test .taken))
+    (λ c. omega (arith, place (c .before .before .before)))
+    (λ c. omega (arith, c .before .before .before .loop-test .taken))
     loop-again
     returns)

@@ -1,84 +1,69 @@
+-- `planning::measured` meets its contract. The loop's invariant: i components are measured. Assumes nothing.
+use mathlib.Core.Path.{_≡_, refl, sym, subst}
+use Prim.Native.Nat.{ℕ, _+_, _-_, _*_, _≤_, _<_}
+use native.Mathlib.Omega.{arith}
+use lib.ListN.{length}
+use Rattle.lists.specs.Arrays.{at}
+use Rattle.limits.specs.Limits.{maxSwitches, maxLinks, maxHops}
+use Rattle.walks.specs.Components.{roots}
+use Rattle.planning.specs.declared.Components.{Components}
+use Rattle.planning.specs.Plans.{Charted}
+use Rattle.planning.proofs.Charts.{few-components}
+use Rattle.planning.proofs.Measuring.{Measuring, measuring-none, measuring-next, begin-few, round-few, both-few, is-measured}
 use Rattle.planning.proofs.measured.Statement.{statement}
 use Rattle.planning.proofs.measured.Tie as tie
-use Rattle.planning.proofs.measured.Reads as reads
-use Rattle.planning.proofs.measured.Lts as lts
-use Rattle.planning.proofs.Components.none.Reads as none-reads
-use Rattle.planning.proofs.legs_at.Reads as legs-at-reads
-use Rattle.planning.proofs.links_by.Reads as links-by-reads
 
 abbrev Inv-loop : tie.InvT-loop
-Inv-loop t x links components₀ n begin₀ round₀ i₀ components begin round i = ?
+Inv-loop t x links components₀ n begin₀ round₀ i₀ components begin round i = (i ≤ n) × ((chart : Charted x) → Measuring x chart i components begin round)
 
 abbrev μ-loop : tie.MeasureT-loop
-μ-loop t x links components₀ n begin₀ round₀ i₀ components begin round i = ?
+μ-loop t x links components₀ n begin₀ round₀ i₀ components begin round i = n - i
 
--- src/lib.rt:240:17
-links-by-requires : tie.Need-links-by-requires Inv-loop μ-loop
-links-by-requires c κs = ?
-
--- src/lib.rt:241:26
-none-requires : tie.Need-none-requires Inv-loop μ-loop
-none-requires c κs = ?
-
--- src/lib.rt:242:13
-cast-n : tie.Need-cast-n Inv-loop μ-loop
-cast-n c = ?
-
--- src/lib.rt:246:5
 loop-holds : tie.Need-loop-holds Inv-loop μ-loop
-loop-holds c = ?
+loop-holds c = (omega arith, λ chart. subst (λ (cs : Components). Measuring _ chart 0 cs 0 0) (sym (c .none .ensures)) (measuring-none _ chart))
 
--- src/lib.rt:247:13
-legs-at-requires : tie.Need-legs-at-requires Inv-loop μ-loop
-legs-at-requires c κs = ?
+-- there is such a component
+inside : (c : tie.In-loop Inv-loop μ-loop) → let k = c .before in k .loop .i < length (roots (k .before .before .before .args .t1 .plant))
+inside c = let k = c .before in omega (arith, c .loop-test .taken, k .before .before .before .pre .charted .count-is)
 
--- src/lib.rt:248:24
-mul-both : tie.Need-mul-both Inv-loop μ-loop
-mul-both c = ?
+place : (c : tie.In-loop Inv-loop μ-loop) → c .before .loop .i < maxSwitches
+place c = let h = c .before .before .before .before .pre in omega (arith, inside c, few-components _ (h .charted))
 
--- src/lib.rt:248:24
-array-read-both : tie.Need-array-read-both Inv-loop μ-loop
-array-read-both c = ?
+-- its hops, those of its round trail, and those of all so far are within the limits
+few-both : (c : tie.After-legs-at Inv-loop μ-loop) → let k = c .before .before in 2 * at (k .before .before .links-by .result) (k .loop .i) ≤ 2 * maxLinks
+few-both c =
+    let k = c .before .before in
+    let h = k .before .before .before .pre in
+    both-few _ (h .charted) (k .loop .i) (inside (c .before)) (k .loop .components) (k .loop .begin) (k .loop .round) (k .loop .inv .1 (h .charted)) (c .legs-at .result) (c .legs-at .ensures) (k .before .before .links-by .result) (k .before .before .links-by .ensures)
 
--- src/lib.rt:248:20
-mul-both-2 : tie.Need-mul-both-2 Inv-loop μ-loop
-mul-both-2 c = ?
+few-begin : (c : tie.After-legs-at Inv-loop μ-loop) → let k = c .before .before in k .loop .begin + c .legs-at .result .hops ≤ maxHops
+few-begin c =
+    let k = c .before .before in
+    let h = k .before .before .before .pre in
+    begin-few _ (h .charted) (k .loop .i) (inside (c .before)) (k .loop .components) (k .loop .begin) (k .loop .round) (k .loop .inv .1 (h .charted)) (c .legs-at .result) (c .legs-at .ensures) (k .before .before .links-by .result) (k .before .before .links-by .ensures)
 
--- src/lib.rt:250:20
-element-copy-out-t25 : tie.Need-element-copy-out-t25 Inv-loop μ-loop
-element-copy-out-t25 c = ?
+few-round : (c : tie.After-legs-at Inv-loop μ-loop) → let k = c .before .before in k .loop .round + 2 * at (k .before .before .links-by .result) (k .loop .i) ≤ 2 * maxLinks
+few-round c =
+    let k = c .before .before in
+    let h = k .before .before .before .pre in
+    round-few _ (h .charted) (k .loop .i) (inside (c .before)) (k .loop .components) (k .loop .begin) (k .loop .round) (k .loop .inv .1 (h .charted)) (c .legs-at .result) (c .legs-at .ensures) (k .before .before .links-by .result) (k .before .before .links-by .ensures)
 
--- src/lib.rt:249:9
-mul-t19 : tie.Need-mul-t19 Inv-loop μ-loop
-mul-t19 c = ?
-
--- src/lib.rt:249:9
-element-set-from-components : tie.Need-element-set-from-components Inv-loop μ-loop
-element-set-from-components c = ?
-
--- src/lib.rt:256:9
-add-begin : tie.Need-add-begin Inv-loop μ-loop
-add-begin c = ?
-
--- src/lib.rt:257:9
-add-round : tie.Need-add-round Inv-loop μ-loop
-add-round c = ?
-
--- src/lib.rt:258:9
-add-i : tie.Need-add-i Inv-loop μ-loop
-add-i c = ?
-
--- src/lib.rt:246:5
-loop-less : tie.Need-loop-less Inv-loop μ-loop
-loop-less c = ?
-
--- src/lib.rt:246:5
 loop-again : tie.Need-loop-again Inv-loop μ-loop
-loop-again c = ?
+loop-again c =
+    let g = c .before .before in
+    let k = g .before .before in
+    let h = k .before .before .before .pre in (
+      omega (arith, g .before .loop-test .taken),
+      λ chart. measuring-next _ chart _ (inside (g .before)) _ _ _ (k .loop .inv .1 chart) _ (g .legs-at .ensures) (k .before .before .links-by .result) (k .before .before .links-by .ensures) _,
+    )
 
--- src/lib.rt:235:1
 returns : tie.Need-returns Inv-loop μ-loop
-returns c = ?
+returns c =
+    let k = c .before in
+    let h = k .before .before .before .pre in
+    let x = k .before .before .before .args .t1 in
+    let e : k .loop .i ≡ length (roots (x .plant)) = omega (arith, c .loop-test .left, h .charted .count-is) in
+    (refl, is-measured _ (h .charted) _ _ _ (subst (λ (n : ℕ). Measuring x (h .charted) n (k .loop .components) (k .loop .begin) (k .loop .round)) e (k .loop .inv .1 (h .charted))) _ h)
 
 pub measured-spec : {M : Type 1} → statement M
 measured-spec =
@@ -86,20 +71,20 @@ measured-spec =
     (tie.spec
     Inv-loop
     μ-loop
-    links-by-requires
-    none-requires
-    cast-n
+    (λ c κs. c .pre .charted)
+    (λ c κs. tt)
+    (λ c. omega (arith, c .before .before .pre .charted .count-is, few-components _ (c .before .before .pre .charted)))
     loop-holds
-    legs-at-requires
-    mul-both
-    array-read-both
-    mul-both-2
-    element-copy-out-t25
-    mul-t19
-    element-set-from-components
-    add-begin
-    add-round
-    add-i
-    loop-less
+    (λ c κs. (c .before .before .before .before .pre, inside c))
+    (λ c. omega (arith, place (c .before)))
+    (λ c. place (c .before))
+    (λ c. omega (arith, few-both c))
+    (λ c. place (c .before))
+    (λ c. omega (arith, place (c .before .before)))
+    (λ c. place (c .before .before))
+    (λ c. omega (arith, few-begin (c .before .before)))
+    (λ c. omega (arith, few-round (c .before .before)))
+    (λ c. omega (arith, place (c .before .before .before)))
+    (λ c. omega (arith, c .before .before .before .loop-test .taken))
     loop-again
     returns)
