@@ -7,6 +7,7 @@ use Rattle.answers.specs.declared.Refusal.the-variants as is
 use Rattle.answers.specs.declared.Verdict.{Verdict}
 use Rattle.answers.specs.declared.Verdict.the-variants as verdict
 
+-- with document 02's order 9 the number 9 stays unused
 abbrev pub numberOf : Refusal → ℕ
 numberOf is.MapMissing = 1
 numberOf is.MapUndefined = 2
@@ -16,7 +17,6 @@ numberOf is.ValueOutOfRange = 5
 numberOf is.EndOutOfRange = 6
 numberOf is.SelfLink = 7
 numberOf is.BytesRemain = 8
-numberOf is.NotConnected = 9
 numberOf is.TrailBufferShort = 10
 numberOf is.SwitchOutOfRange = 11
 numberOf is.TrailDiffers = 12

@@ -5,7 +5,7 @@ ghost use lib.Dec.{ltb};
 ghost use Rattle.answers.specs.Answers.{numberOf, firstOf};
 ghost use Rattle.answers.specs.Checks.{Judges};
 
-// The refusals, in the order of their numbers, 1 to 21. Each is named after its condition.
+// The refusals, in the order of their numbers, 1 to 21. Each is named after its condition. The number 9 is unused: no call refuses a plant in several components.
 pub enum Refusal {
     MapMissing,
     MapUndefined,
@@ -15,7 +15,6 @@ pub enum Refusal {
     EndOutOfRange,
     SelfLink,
     BytesRemain,
-    NotConnected,
     TrailBufferShort,
     SwitchOutOfRange,
     TrailDiffers,
@@ -43,7 +42,6 @@ impl Refusal {
             Refusal::EndOutOfRange => 6,
             Refusal::SelfLink => 7,
             Refusal::BytesRemain => 8,
-            Refusal::NotConnected => 9,
             Refusal::TrailBufferShort => 10,
             Refusal::SwitchOutOfRange => 11,
             Refusal::TrailDiffers => 12,

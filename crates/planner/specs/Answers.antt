@@ -13,9 +13,12 @@ use Rattle.senders.specs.declared.BySwitch.{BySwitch}
 use Rattle.table.specs.Rules.{tableWith}
 use Rattle.senders.specs.Senders.{noneSent}
 use Rattle.plan.specs.Totals.{Totals}
+use Rattle.planning.specs.declared.Components.{Components}
 use Rattle.planning.specs.declared.Numbers.{Numbers}
+use Rattle.planning.specs.Components.{componentsWith}
 use Rattle.planner.specs.declared.Bridged.{Bridged}
 use Rattle.planner.specs.declared.Counted.{Counted}
+use Rattle.planner.specs.declared.Parted.{Parted}
 use Rattle.planner.specs.declared.Tabled.{Tabled}
 use Rattle.planner.specs.declared.Summary.{Summary}
 use Rattle.planner.specs.declared.Summary.the-variants as summary-is
@@ -37,6 +40,10 @@ AddsUp p r = r .verdict ≡ verdict.Accepted → Totals p (r .rules)
 -- the bridges; at a refusal no flag is set
 abbrev pub Bridges : Answer (List Bool) → Bridged → Type 0
 Bridges a r = Beside (replicate maxLinks false) a (r .verdict) (r .flags)
+
+-- the components; at a refusal there is none
+abbrev pub Parts : Answer Components → Parted → Type 0
+Parts a r = Beside (componentsWith []) a (r .verdict) (r .components)
 
 abbrev pub summaryAnswer : Summary → Answer Numbers
 summaryAnswer (summary-is.Plant n) = given n

@@ -21,7 +21,8 @@ use Rattle.sheet.specs.declared.Sheet.{Sheet}
 use Rattle.sheet.specs.Page.{pageLeft}
 use Rattle.quoting.specs.Quotes.{pricing, quoting}
 use Rattle.planning.specs.declared.Numbers.{Numbers}
-use Rattle.planning.specs.Planning.{planning}
+use Rattle.planning.specs.declared.Components.{Components}
+use Rattle.planning.specs.Components.{componentsOf}
 use Rattle.planning.specs.Numbers.{numbersOf}
 
 -- ---- reading and writing again: 1 to 8, then 16, the lent buffer is shorter than the listing
@@ -38,32 +39,37 @@ rewritten s b = leaves (λ n. s ++ drop n b) b (answer (rewriting s b))
 unfoldable pub rereading : Plant → List ℕ → Checked Plant
 rereading p b = writing p b giving λ _. p
 
--- ---- the forwarding table: 1 to 9
+-- ---- the forwarding table: 1 to 8
 
 unfoldable pub tabling : List ℕ → Checked Table
-tabling s = planning s giving tableOf
+tabling s = reading s giving tableOf
 
--- ---- the rules for each switch: 1 to 9
+-- ---- the rules for each switch: 1 to 8
 
 -- those of the forwarding table, by sending switch
 unfoldable pub counting : List ℕ → Checked BySwitch
 counting s = tabling s giving bySwitch
 
--- ---- the bridges: 1 to 9
+-- ---- the bridges: 1 to 8
 
 -- a flag for each link place: is it a bridge?
 unfoldable pub bridgeFlags : Plant → List Bool
 bridgeFlags p = map (bridge p) (range 0 maxLinks)
 
 unfoldable pub bridging : List ℕ → Checked (List Bool)
-bridging s = planning s giving bridgeFlags
+bridging s = reading s giving bridgeFlags
 
--- ---- switches, links, bridges, rules and hops: 1 to 9
+-- ---- switches, links, bridges, rules and hops: 1 to 8
 
 unfoldable pub summing : List ℕ → Checked Numbers
-summing s = planning s giving numbersOf
+summing s = reading s giving numbersOf
 
--- ---- the trail, and the round trail: 1 to 9, then 10
+-- ---- the components (document 02, order 9): 1 to 8
+
+unfoldable pub parting : List ℕ → Checked Components
+parting s = reading s giving componentsOf
+
+-- ---- the trails, and the round trails, one after another: 1 to 8, then 10
 
 -- 10: the lent buffer has fewer places than the trail w has hops
 unfoldable pub placesShort : List ℕ → List ℕ → Bool
@@ -78,26 +84,26 @@ abbrev pub trailLeft : List ℕ → List ℕ → Answer ℕ → List ℕ
 trailLeft w b = leaves (λ n. filledWith w b) b
 
 unfoldable pub trailing : List ℕ → List ℕ → Checked ℕ
-trailing s b = planning s then λ p. laying (trailOf p) b
+trailing s b = reading s then λ p. laying (trailOf p) b
 
 unfoldable pub laidOut : List ℕ → List ℕ → List ℕ
-laidOut s b = trailLeft (trailOf (planning s .result)) b (answer (trailing s b))
+laidOut s b = trailLeft (trailOf (reading s .result)) b (answer (trailing s b))
 
 unfoldable pub roundTrailing : List ℕ → List ℕ → Checked ℕ
-roundTrailing s b = planning s then λ p. laying (roundOf p) b
+roundTrailing s b = reading s then λ p. laying (roundOf p) b
 
 unfoldable pub roundLaidOut : List ℕ → List ℕ → List ℕ
-roundLaidOut s b = trailLeft (roundOf (planning s .result)) b (answer (roundTrailing s b))
+roundLaidOut s b = trailLeft (roundOf (reading s .result)) b (answer (roundTrailing s b))
 
--- ---- the buying page: 1 to 9, then 17, then 18
+-- ---- the buying page: 1 to 8, then 17, then 18
 
--- its counts: 1 to 9, then 17
+-- its counts: 1 to 8, then 17
 unfoldable pub quotingFor : List ℕ → ℕ → Checked Sheet
-quotingFor s spare = planning s then λ p. pricing p spare
+quotingFor s spare = reading s then λ p. pricing p spare
 
 -- the length of the page
 unfoldable pub buying : List ℕ → ℕ → List ℕ → Checked ℕ
-buying s spare b = planning s then λ p. quoting p spare b
+buying s spare b = reading s then λ p. quoting p spare b
 
 -- the page, then the bytes that stood past it; at a refusal the buffer as it was
 unfoldable pub boughtOut : List ℕ → ℕ → List ℕ → List ℕ

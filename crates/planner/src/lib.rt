@@ -4,6 +4,7 @@ use answers::Refusal;
 use answers::Verdict;
 use listing::Decoded;
 use listing::Written;
+use planning::Components;
 use planning::Numbers;
 use planning::Parts;
 use plant::Plant;
@@ -14,16 +15,15 @@ use table::Table;
 ghost use mathlib.Core.Path.{_≡_};
 ghost use Rattle.answers.specs.Checks.{answer};
 ghost use Rattle.plan.specs.Plan.{trailOf, roundOf};
-ghost use Rattle.planning.specs.Plans.{FromStart, Plan};
+ghost use Rattle.planning.specs.Plans.{Charted, Plan};
 ghost use Rattle.listing.specs.Writing.{bufferAfter, writing};
 ghost use Rattle.listing.specs.Listing.{reading};
 ghost use Rattle.listing.specs.Answers.{Reads, writeAnswer};
 ghost use Rattle.quantity.specs.Quantity.{orderQuantity, quantityOf};
 ghost use Rattle.allowance.specs.Allowance.{allowance, clipped};
-ghost use Rattle.planning.specs.Planning.{planning};
 ghost use Rattle.sheet.specs.Form.{readingPage, ReadsPage};
-ghost use Rattle.planner.specs.Calls.{rewriting, rewritten, rereading, tabling, counting, bridging, summing, laying, trailLeft, trailing, laidOut, roundTrailing, roundLaidOut, buying, boughtOut};
-ghost use Rattle.planner.specs.Answers.{Tables, Counts, AddsUp, Bridges, summaryAnswer, trailAnswer};
+ghost use Rattle.planner.specs.Calls.{rewriting, rewritten, rereading, tabling, counting, bridging, parting, summing, laying, trailLeft, trailing, laidOut, roundTrailing, roundLaidOut, buying, boughtOut};
+ghost use Rattle.planner.specs.Answers.{Tables, Counts, AddsUp, Bridges, Parts, summaryAnswer, trailAnswer};
 
 // The forwarding table of a listing. At a refusal it has no rule.
 pub struct Tabled {
@@ -41,6 +41,12 @@ pub struct Counted {
 pub struct Bridged {
     pub verdict: Verdict,
     pub flags: [bool; Plant::MAX_LINKS],
+}
+
+// The components of a listing in their order. At a refusal there is none.
+pub struct Parted {
+    pub verdict: Verdict,
+    pub components: Components,
 }
 
 pub enum Summary {
@@ -96,7 +102,7 @@ pub fn reread(p: Plant, buffer: &mut [u8]) -> Decoded
     }
 }
 
-// The forwarding table of a listing: refusals 1 to 9.
+// The forwarding table of a listing: refusals 1 to 8.
 pub fn forwarding_table(listing: &[u8]) -> Tabled
     ensures { λ r. ⌜ Tables (answer (tabling (now (listing .entry)))) r ⌝ }
 {
@@ -121,10 +127,10 @@ pub fn forwarding_table(listing: &[u8]) -> Tabled
     }
 }
 
-// The number of rules of a listing that each switch sends by, and their total over switches: refusals 1 to 9.
+// The number of rules of a listing that each switch sends by, and their total over switches: refusals 1 to 8.
 pub fn rules_by_switch(listing: &[u8]) -> Counted
     ensures { λ r. ⌜ Counts (answer (counting (now (listing .entry)))) r ⌝ }
-    ensures { λ r. ⌜ AddsUp (planning (now (listing .entry)) .result) r ⌝ }
+    ensures { λ r. ⌜ AddsUp (reading (now (listing .entry)) .result) r ⌝ }
 {
     let mut t = planning::blank();
     let d = planning::plan(listing, &mut t);
@@ -148,7 +154,7 @@ pub fn rules_by_switch(listing: &[u8]) -> Counted
     }
 }
 
-// The bridges of a listing: refusals 1 to 9.
+// The bridges of a listing: refusals 1 to 8.
 pub fn find_bridges(listing: &[u8]) -> Bridged
     ensures { λ r. ⌜ Bridges (answer (bridging (now (listing .entry)))) r ⌝ }
 {
@@ -173,7 +179,33 @@ pub fn find_bridges(listing: &[u8]) -> Bridged
     }
 }
 
-// Switches, links, bridges, rules and hops of a listing: refusals 1 to 9.
+// The components of a listing: how many, and of each its root, where its trail begins among the trails of all and its hops, and the same of its round trail: refusals 1 to 8.
+pub fn find_components(listing: &[u8]) -> Parted
+    ensures { λ r. ⌜ Parts (answer (parting (now (listing .entry)))) r ⌝ }
+{
+    let mut t = planning::blank();
+    let d = planning::plan(listing, &mut t);
+    let v = d.verdict;
+    match v {
+        Verdict::Accepted => {
+            let x = d.parts;
+            let components = x.components;
+            Parted {
+                verdict: Verdict::Accepted,
+                components,
+            }
+        }
+        Verdict::Refused(k) => {
+            let components = Components::none();
+            Parted {
+                verdict: Verdict::Refused(k),
+                components,
+            }
+        }
+    }
+}
+
+// Switches, links, bridges, rules and hops of a listing: refusals 1 to 8.
 pub fn summarize(listing: &[u8]) -> Summary
     ensures { λ r. ⌜ summaryAnswer r ≡ answer (summing (now (listing .entry))) ⌝ }
 {
@@ -186,13 +218,13 @@ pub fn summarize(listing: &[u8]) -> Summary
     }
 }
 
-// The trail of a plan into the front of the buffer, or refusal 10.
+// The trails of a plan one after another into the front of the buffer, or refusal 10.
 fn put_trail(x: Parts, t: &[[u8; Plant::PLACES]; Plant::PLACES], buffer: &mut [u16]) -> Trailed
     requires { ⌜ Plan x (now t) ⌝ }
     ensures { λ r. ⌜ trailAnswer r ≡ answer (laying (trailOf (x .plant)) (now (buffer .entry))) ⌝ }
     ensures { λ _. ⌜ now (buffer .exit) ≡ trailLeft (trailOf (x .plant)) (now (buffer .entry)) (answer (laying (trailOf (x .plant)) (now (buffer .entry)))) ⌝ }
 {
-    let hops = x.legs.hops;
+    let hops = x.hops;
     let n = hops as usize;
     if buffer.len() < n {
         return Trailed::Refused(Refusal::TrailBufferShort);
@@ -201,7 +233,7 @@ fn put_trail(x: Parts, t: &[[u8; Plant::PLACES]; Plant::PLACES], buffer: &mut [u
     Trailed::Hops(hops)
 }
 
-// The trail of a listing into the front of the lent buffer, and its hops: refusals 1 to 10.
+// The trails of a listing's components one after another into the front of the lent buffer, and their hops: refusals 1 to 8, then 10.
 pub fn lay_trail(listing: &[u8], buffer: &mut [u16]) -> Trailed
     ensures { λ r. ⌜ trailAnswer r ≡ answer (trailing (now (listing .entry)) (now (buffer .entry))) ⌝ }
     ensures { λ _. ⌜ now (buffer .exit) ≡ laidOut (now (listing .entry)) (now (buffer .entry)) ⌝ }
@@ -215,22 +247,22 @@ pub fn lay_trail(listing: &[u8], buffer: &mut [u16]) -> Trailed
     }
 }
 
-// The round trail of a plan into the front of the buffer, or refusal 10.
+// The round trails of a plan one after another into the front of the buffer, or refusal 10.
 fn put_round(x: Parts, buffer: &mut [u16]) -> Trailed
-    requires { ⌜ FromStart x ⌝ }
+    requires { ⌜ Charted x ⌝ }
     ensures { λ r. ⌜ trailAnswer r ≡ answer (laying (roundOf (x .plant)) (now (buffer .entry))) ⌝ }
     ensures { λ _. ⌜ now (buffer .exit) ≡ trailLeft (roundOf (x .plant)) (now (buffer .entry)) (answer (laying (roundOf (x .plant)) (now (buffer .entry)))) ⌝ }
 {
-    let r = planning::round_of(x);
-    let hops = r.hops as usize;
-    if buffer.len() < hops {
+    let hops = 2 * arcs::links_in_service(x.plant);
+    let n = hops as usize;
+    if buffer.len() < n {
         return Trailed::Refused(Refusal::TrailBufferShort);
     }
-    round::lay(r, buffer);
-    Trailed::Hops(r.hops)
+    planning::lay_round(x, buffer);
+    Trailed::Hops(hops)
 }
 
-// The round trail of a listing into the front of the lent buffer, and its hops: refusals 1 to 10.
+// The round trails of a listing's components one after another into the front of the lent buffer, and their hops: refusals 1 to 8, then 10.
 pub fn lay_round_trail(listing: &[u8], buffer: &mut [u16]) -> Trailed
     ensures { λ r. ⌜ trailAnswer r ≡ answer (roundTrailing (now (listing .entry)) (now (buffer .entry))) ⌝ }
     ensures { λ _. ⌜ now (buffer .exit) ≡ roundLaidOut (now (listing .entry)) (now (buffer .entry)) ⌝ }
@@ -244,7 +276,7 @@ pub fn lay_round_trail(listing: &[u8], buffer: &mut [u16]) -> Trailed
     }
 }
 
-// The buying page of a listing with a spare in percent into the front of the lent buffer, and its length: refusals 1 to 9, then 17, then 18.
+// The buying page of a listing with a spare in percent into the front of the lent buffer, and its length: refusals 1 to 8, then 17, then 18.
 pub fn write_buying_page(listing: &[u8], spare: u8, buffer: &mut [u8]) -> Written
     ensures { λ r. ⌜ writeAnswer r ≡ answer (buying (now (listing .entry)) spare (now (buffer .entry))) ⌝ }
     ensures { λ _. ⌜ now (buffer .exit) ≡ boughtOut (now (listing .entry)) spare (now (buffer .entry)) ⌝ }

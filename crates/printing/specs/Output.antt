@@ -6,29 +6,31 @@ use Rattle.plant.specs.declared.Plant.{Plant}
 use Rattle.answers.specs.Answers.{Answer, given, refused}
 use Rattle.limits.specs.Limits.{maxRules}
 use Rattle.walks.specs.Graph.{liveLinks, bridges}
-use Rattle.plan.specs.Plan.{arcsUsed, trailOf, rulesOf}
+use Rattle.walks.specs.Components.{roots, arcsUsed}
+use Rattle.routes.specs.Plants.{trailFrom}
+use Rattle.plan.specs.Plan.{trailOf, rulesOf}
 use Rattle.table.specs.declared.Rule.{Rule}
 use Rattle.text.specs.Lines.{pageOf, refusalOf}
 use Rattle.text.specs.Sizes.{summaryMost, ruleMost, trailMost}
 use Rattle.answers.specs.Checks.{answer}
-use Rattle.planning.specs.Planning.{planning}
+use Rattle.listing.specs.Listing.{reading}
 
 -- a rule as three numbers: sending switch, label, receiving switch
 abbrev pub triple : Rule → ℕ × ℕ × ℕ
 triple r = (r .from, r .label, r .to)
 
--- the page of a plant: its numbers, its rules and its trail
+-- the page of a plant: its numbers and its rules over all components, and a line for the trail of each (document 02, order 9)
 unfoldable pub plantOutput : Plant → List ℕ
-plantOutput p = pageOf (p .switches) (liveLinks p) (bridges p) (arcsUsed p) (length (trailOf p)) (map triple (rulesOf p)) (trailOf p)
+plantOutput p = pageOf (p .switches) (liveLinks p) (bridges p) (arcsUsed p) (length (trailOf p)) (map triple (rulesOf p)) (map (trailFrom p) (roots p))
 
--- the page of a plant that can be planned, or the line of a refusal
+-- the page of a plant, or the line of a refusal
 abbrev pub outputOf : Answer Plant → List ℕ
 outputOf (given p) = plantOutput p
 outputOf (refused n) = refusalOf n
 
 -- the bytes that `rules` prints for a listing
 abbrev pub printed : List ℕ → List ℕ
-printed s = outputOf (answer (planning s))
+printed s = outputOf (answer (reading s))
 
 -- the most bytes of a page with so many hops: a line of numbers, as many rules as there can be, and the trail
 abbrev pub pageRoom : ℕ → ℕ

@@ -61,9 +61,13 @@ trailLine labels = line trailWord labels
 
 -- ---- the whole output
 
--- of a plant: the first line, the rules, the trail
-unfoldable pub pageOf : ℕ → ℕ → ℕ → ℕ → ℕ → List (ℕ × ℕ × ℕ) → List ℕ → List ℕ
-pageOf switches links bridges rules hops page trail = summaryLine switches links bridges rules hops ++ (ruleLines page ++ trailLine trail)
+-- one line for each trail
+abbrev pub trailLines : List (List ℕ) → List ℕ
+trailLines ws = each trailLine ws
+
+-- of a plant: the first line, the rules, the trails
+unfoldable pub pageOf : ℕ → ℕ → ℕ → ℕ → ℕ → List (ℕ × ℕ × ℕ) → List (List ℕ) → List ℕ
+pageOf switches links bridges rules hops page trails = summaryLine switches links bridges rules hops ++ (ruleLines page ++ trailLines trails)
 
 -- of a refusal: its number
 abbrev pub refusalOf : ℕ → List ℕ
