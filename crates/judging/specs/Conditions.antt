@@ -5,16 +5,13 @@ use Prim.Native.Nat.{ℕ, _*_}
 use lib.Dec.{eqb, ltb}
 use lib.ListN.{length}
 use Rattle.plant.specs.declared.Plant.{Plant}
-use Rattle.answers.specs.Answers.{Answer, given, refused, numberOf}
 use Rattle.answers.specs.Checks.{Conditions, Checked, check}
 use Rattle.plan.specs.Plan.{trailOf, roundOf}
 use Rattle.trail.specs.Filled.{beginsWith}
-use Rattle.judging.specs.declared.LentHops.{LentHops}
-use Rattle.judging.specs.declared.LentHops.the-variants as lent
 use Rattle.search.specs.declared.Search.{Search}
 use Rattle.search.specs.Search.{sound, soundFor, ended, wanted}
 
--- 12: the lent trail, in its whole length, differs from the listing's trail: it does not begin with the trail's hops, or has another length
+-- 12: the lent trail, in its whole length, differs from the listing's trails, one after another: it does not begin with their hops, or has another length
 unfoldable pub trailDiffers : Plant → List ℕ → Bool
 trailDiffers p w = not (beginsWith w (trailOf p) && eqb (length w) (length (trailOf p)))
 
@@ -27,7 +24,7 @@ hopsDiffer w lent = not (beginsWith lent w)
 unfoldable pub statesShort : ℕ → List ℕ → Bool
 statesShort e states = ltb (length states) e
 
--- 14: the search is unsound by itself, or in a call with a listing, where a search is over e links
+-- 14: the search is unsound by itself, or in a call with a listing, where a search is over e links: those in service of the component of its switch
 unfoldable pub searchUnsound : ℕ → Search → Bool
 searchUnsound e q = not (sound q && soundFor e q)
 
@@ -40,15 +37,6 @@ lentChecks p w states = (12, trailDiffers p w) ∷ (13, statesShort (p .count) s
 -- 12 and 13 of the round run: of the lent round trail, and of a byte for each label
 abbrev pub roundChecks : Plant → List ℕ → List ℕ → Conditions
 roundChecks p lent states = (12, hopsDiffer (roundOf p) lent) ∷ (13, statesShort (2 * p .count) states) ∷ []
-
--- then its hops
-unfoldable pub roundLent : Plant → List ℕ → List ℕ → Checked ℕ
-roundLent p lent states = check (roundChecks p lent states) (length (roundOf p))
-
--- what is answered of a lent trail: its hops, or the number of a refusal
-abbrev pub lentAnswer : LentHops → Answer ℕ
-lentAnswer (lent.Of n) = given n
-lentAnswer (lent.Refused k) = refused (numberOf k)
 
 -- 14, then 15: a probe is wanted of All up or Down
 abbrev pub wantedChecks : ℕ → Search → Conditions

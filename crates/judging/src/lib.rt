@@ -11,16 +11,9 @@ ghost use mathlib.Core.Bool.{not};
 ghost use lib.Dec.{eqb};
 ghost use lib.ListN.{length};
 ghost use Rattle.answers.specs.Checks.{Judges, answer};
-ghost use Rattle.walks.specs.Graph.{liveLinks};
-ghost use Rattle.planning.specs.Plans.{FromStart, Plan};
+ghost use Rattle.planning.specs.Plans.{Charted, Plan};
 ghost use Rattle.search.specs.Search.{askedOf};
-ghost use Rattle.judging.specs.Conditions.{trailDiffers, statesShort, searchUnsound, lentChecks, roundLent, lentAnswer, probeWanted};
-
-// The hops of a lent trail that may have spare places, or a refusal.
-pub enum LentHops {
-    Of(usize),
-    Refused(Refusal),
-}
+ghost use Rattle.judging.specs.Conditions.{trailDiffers, statesShort, searchUnsound, lentChecks, roundChecks, probeWanted};
 
 // Has the lent trail another length than these hops?
 fn other_length(trail: &[u16], hops: usize) -> bool
@@ -29,7 +22,7 @@ fn other_length(trail: &[u16], hops: usize) -> bool
     trail.len() != hops
 }
 
-// Refusal 12: does the lent trail begin with other hops than the plant's, or has it another length?
+// Refusal 12: does the lent trail begin with other hops than the trails of the plant, one after another, or has it another length?
 pub fn differs(x: Parts, t: &[[u8; Plant::PLACES]; Plant::PLACES], trail: &[u16]) -> bool
     requires { ⌜ Plan x (now t) ⌝ }
     ensures { λ r. ⌜ r ≡ trailDiffers (x .plant) (now (trail .entry)) ⌝ }
@@ -68,38 +61,37 @@ pub fn judge_lent(
     Verdict::Accepted
 }
 
-// The hops of a lent round trail, with a state byte for each label: refusals 12, by the hops alone, and 13.
-pub fn judge_round(x: Parts, round: &[u16], states: &[u8]) -> LentHops
-    requires { ⌜ FromStart x ⌝ }
-    ensures { λ r. ⌜ lentAnswer r ≡ answer (roundLent (x .plant) (now (round .entry)) (now (states .entry))) ⌝ }
+// Refusals 12, by the hops alone, and 13 of a lent round trail and a state byte for each label.
+pub fn judge_round(x: Parts, round: &[u16], states: &[u8]) -> Verdict
+    requires { ⌜ Charted x ⌝ }
+    ensures { λ r. ⌜ Judges (roundChecks (x .plant) (now (round .entry)) (now (states .entry))) r ⌝ }
 {
     match planning::compare_round(x, round) {
-        Compared::Same(hops) => {
+        Compared::Same(_) => {
             if too_few(states, 2 * x.plant.count) {
-                return LentHops::Refused(Refusal::StatesShort);
+                return Verdict::Refused(Refusal::StatesShort);
             }
-            LentHops::Of(hops)
+            Verdict::Accepted
         }
-        Compared::Other => LentHops::Refused(Refusal::TrailDiffers),
+        Compared::Other => Verdict::Refused(Refusal::TrailDiffers),
     }
 }
 
-// Refusal 14, in a call with a listing: a search is over the links in service.
-pub fn unsound(p: Plant, search: Search) -> bool
-    ensures { λ r. ⌜ r ≡ searchUnsound (liveLinks p) search ⌝ }
+// Refusal 14, in a call with a listing, where a search is over so many links: those in service of the component of its switch.
+pub fn unsound(links: u16, search: Search) -> bool
+    ensures { λ r. ⌜ r ≡ searchUnsound links search ⌝ }
 {
     if !search.sound() {
         return true;
     }
-    let links = arcs::links_in_service(p);
     !search.sound_for(links)
 }
 
-// The probe that a search wants over the links of a plant: refusals 14 and 15.
-pub fn probe_wanted(p: Plant, search: Search) -> Asked
-    ensures { λ r. ⌜ askedOf r ≡ answer (probeWanted (liveLinks p) search) ⌝ }
+// The probe that a search over so many links wants: refusals 14 and 15.
+pub fn probe_wanted(links: u16, search: Search) -> Asked
+    ensures { λ r. ⌜ askedOf r ≡ answer (probeWanted links search) ⌝ }
 {
-    if unsound(p, search) {
+    if unsound(links, search) {
         return Asked::Refused(Refusal::SearchUnsound);
     }
     search.ask()
