@@ -6,9 +6,11 @@ use Prim.Native.Nat.{ℕ}
 use lib.Dec.{ltb}
 use Rattle.answers.specs.Answers.{Answer, given, refused, numberOf}
 use Rattle.answers.specs.Checks.{Checked, check, answer, _then_, _giving_}
-use Rattle.walks.specs.Graph.{liveLinks}
-use Rattle.planning.specs.Planning.{planning}
+use Rattle.walks.specs.Components.{linksWith}
+use Rattle.listing.specs.Listing.{reading}
 use Rattle.search.specs.declared.Outcome.{Outcome}
+use Rattle.desk.specs.declared.Held.{Held}
+use Rattle.desk.specs.declared.Held.the-variants.{Nothing, From}
 use Rattle.desk.specs.declared.Console.{Console}
 use Rattle.desk.specs.declared.Desk.{Desk}
 use Rattle.desk.specs.Console.{replacing, starting, telling}
@@ -20,15 +22,26 @@ use Rattle.consoles.specs.declared.Sized.the-variants as sized
 unfoldable pub consoleOutOfRange : ℕ → Bool
 consoleOutOfRange k = ltb 3 k
 
--- 19, then 1 to 9, then S and E of the listing's plant: its switches and its links in service
-unfoldable pub sizing : ℕ → List ℕ → Checked (ℕ × ℕ)
-sizing k s = check ((19, consoleOutOfRange k) ∷ []) s then λ t. planning t giving λ p. (p .switches, liveLinks p)
+-- 19, then 1 to 8, then S of the listing's plant, and E for the switch x: the links in service of its component (document 02, order 9)
+unfoldable pub sizing : ℕ → List ℕ → ℕ → Checked (ℕ × ℕ)
+sizing k s x = check ((19, consoleOutOfRange k) ∷ []) s then λ t. reading t giving λ p. (p .switches, linksWith p x)
 
 -- what a console asks for: a new set, a search from a switch, or that an outcome (document 01: a fate) be given to its search
 pub data Request : Type 0 where
   newSet : ℕ → Request
   start : ℕ → Request
   outcome : Outcome → Request
+
+-- the switch that a search is at; without one it does not matter
+abbrev pub heldAt : Held → ℕ
+heldAt Nothing = 0
+heldAt (From x q) = x
+
+-- the switch that a call goes by: that of a start, or that of the search which an outcome is given to; a new set goes by none
+abbrev pub switchOf : Request → Console → ℕ
+switchOf (newSet set) c = 0
+switchOf (start x) c = x
+switchOf (outcome o) c = heldAt (c .search)
 
 -- what its console tries and does, for S and E
 abbrev pub asking : ℕ → ℕ → Request → Console → Checked Console
@@ -38,7 +51,7 @@ asking s e (outcome o) c = telling s e o c
 
 -- a call of console k with the listing s, by that console's set and search
 unfoldable pub calling : ℕ → List ℕ → Request → Console → Checked Console
-calling k s r c = sizing k s then λ z. asking (z .0) (z .1) r c
+calling k s r c = sizing k s (switchOf r c) then λ z. asking (z .0) (z .1) r c
 
 -- on a desk: what is answered is the console's set and search as they then stand
 abbrev pub serving : Desk → ℕ → List ℕ → Request → Checked Console

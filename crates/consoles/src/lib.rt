@@ -14,15 +14,15 @@ ghost use Rattle.consoles.specs.Calls.{sizedAnswer, sizing, newSet, star
 // How many consoles a desk has.
 const CONSOLES: u8 = 4;
 
-// The switches and the links in service of a plant, or a refusal.
+// The switches of a plant and the links in service of a component, or a refusal.
 enum Sized {
     Of(u8, u16),
     Refused(Refusal),
 }
 
-// The switches and the links in service of a listing's plant: refusals 19 and 1 to 9.
-fn size_of(console: u8, listing: &[u8]) -> Sized
-    ensures { λ r. ⌜ sizedAnswer r ≡ answer (sizing console (now (listing .entry))) ⌝ }
+// The switches of a listing's plant, and the links in service of the component of a switch: refusals 19 and 1 to 8.
+fn size_of(console: u8, listing: &[u8], switch: u8) -> Sized
+    ensures { λ r. ⌜ sizedAnswer r ≡ answer (sizing console (now (listing .entry)) switch) ⌝ }
 {
     let mut t = planning::blank();
     let d = planning::plan(listing, &mut t);
@@ -30,7 +30,7 @@ fn size_of(console: u8, listing: &[u8]) -> Sized
     let known = answers::judge(CONSOLES <= console, Refusal::ConsoleOutOfRange);
     match answers::first_of(known, v) {
         Verdict::Accepted => {
-            let links = arcs::links_in_service(d.parts.plant);
+            let links = planning::links_with(d.parts, switch);
             Sized::Of(d.parts.plant.switches, links)
         }
         Verdict::Refused(k) => Sized::Refused(k),
@@ -41,7 +41,7 @@ fn size_of(console: u8, listing: &[u8]) -> Sized
 fn set_on(d: Desk, listing: &[u8], console: u8, set: u64) -> Served
     ensures { λ r. ⌜ Serves d console (answer (serving d console (now (listing .entry)) (newSet set))) r ⌝ }
 {
-    match size_of(console, listing) {
+    match size_of(console, listing, 0) {
         Sized::Of(switches, _) => {
             let c = desk::console_of(d, console);
             desk::kept(d, console, desk::replaced(c, switches, set))
@@ -54,7 +54,7 @@ fn set_on(d: Desk, listing: &[u8], console: u8, set: u64) -> Served
 fn start_on(d: Desk, listing: &[u8], console: u8, switch: u8) -> Served
     ensures { λ r. ⌜ Serves d console (answer (serving d console (now (listing .entry)) (start switch))) r ⌝ }
 {
-    match size_of(console, listing) {
+    match size_of(console, listing, switch) {
         Sized::Of(switches, links) => {
             let c = desk::console_of(d, console);
             desk::kept(d, console, desk::started(c, switches, links, switch))
@@ -67,9 +67,9 @@ fn start_on(d: Desk, listing: &[u8], console: u8, switch: u8) -> Served
 fn give_on(d: Desk, listing: &[u8], console: u8, o: Outcome) -> Served
     ensures { λ r. ⌜ Serves d console (answer (serving d console (now (listing .entry)) (outcome o))) r ⌝ }
 {
-    match size_of(console, listing) {
+    let c = desk::console_of(d, console);
+    match size_of(console, listing, desk::switch_of(c)) {
         Sized::Of(switches, links) => {
-            let c = desk::console_of(d, console);
             desk::kept(d, console, desk::told(c, switches, links, o))
         }
         Sized::Refused(k) => desk::kept(d, console, Shown::Refused(k)),
@@ -83,7 +83,7 @@ pub fn fresh_desk() -> Desk
     desk::fresh()
 }
 
-// A console replaces its set: refusals 19, 1 to 9, and 20 of the new set.
+// A console replaces its set: refusals 19, 1 to 8, and 20 of the new set.
 pub fn replace_set(desk: &mut Desk, listing: &[u8], console: u8, set: u64) -> Shown
     ensures { λ r. ⌜ shownAnswer r ≡ answer (serving (now (desk .entry)) console (now (listing .entry)) (newSet set)) ⌝ }
     ensures { λ _. ⌜ now (desk .exit) ≡ served (now (desk .entry)) console (now (listing .entry)) (newSet set) ⌝ }
@@ -93,7 +93,7 @@ pub fn replace_set(desk: &mut Desk, listing: &[u8], console: u8, set: u64) -> Sh
     r.shown
 }
 
-// A console starts a search at a switch, which replaces its own: refusals 19, 1 to 9, 20 of its set, 11 and 21.
+// A console starts a search at a switch, which replaces its own: refusals 19, 1 to 8, 20 of its set, 11 and 21.
 pub fn start_search(desk: &mut Desk, listing: &[u8], console: u8, switch: u8) -> Shown
     ensures { λ r. ⌜ shownAnswer r ≡ answer (serving (now (desk .entry)) console (now (listing .entry)) (start switch)) ⌝ }
     ensures { λ _. ⌜ now (desk .exit) ≡ served (now (desk .entry)) console (now (listing .entry)) (start switch) ⌝ }
@@ -103,7 +103,7 @@ pub fn start_search(desk: &mut Desk, listing: &[u8], console: u8, switch: u8) ->
     r.shown
 }
 
-// The outcome of a sending is given to a console's search: refusals 19, 1 to 9 and 20 of its set, then 15 if it has no search, else 11 and 21 of the search's switch, 14
+// The outcome of a sending is given to a console's search: refusals 19, 1 to 8 and 20 of its set, then 15 if it has no search, else 11 and 21 of the search's switch, 14
 // and 15.
 pub fn give_outcome(desk: &mut Desk, listing: &[u8], console: u8, o: Outcome) -> Shown
     ensures { λ r. ⌜ shownAnswer r ≡ answer (serving (now (desk .entry)) console (now (listing .entry)) (outcome o)) ⌝ }
