@@ -1,79 +1,111 @@
--- Injection at a switch of a plant: the trail leaves the switch, the order has each link once, and E, the number of links that a search is over, is its length. So
--- probe m returns exactly if m is less than the place of the first broken link. Assumes a sound connected plant and one of its switches.
-use mathlib.Core.Path.{_≡_, refl, sym, subst}
-use mathlib.Core.Logic.{_⊎_, inl, inr, _↔_}
+-- Injection at a switch of a plant: the trail of its component leaves the switch, the order has each link of the component once, and E, the number of links that a search is over,
+-- is its length. So probe m returns exactly if m is less than the place of the first broken link. Assumes a sound plant and one of its switches.
+use mathlib.Core.Path.{_≡_, refl, sym, _∙_, subst}
+use mathlib.Core.Logic.{_⊎_, inl, inr, ⊎-elim, _↔_}
 use mathlib.Core.Bool.{Bool}
 use mathlib.Core.List.{List, [], _∷_}
-use Prim.Native.Nat.{ℕ, _+_, _*_, _≤_, _<_}
+use Prim.Native.Nat.{ℕ, _+_, _*_, _/_, _≤_, _<_}
 use native.Mathlib.Omega.{arith}
 use lib.Dec.{T, ltb}
 use lib.ListN.{length}
 use Rattle.lists.specs.Members.{In, memb}
 use Rattle.lists.proofs.Members.{memb→in, in→memb}
-use Rattle.lists.proofs.Count.{count-le, distinct-count}
+use Rattle.lists.proofs.Count.{count-le, count-all, distinct-count}
+use Rattle.lists.proofs.Tests.{and-left}
 use Rattle.plant.specs.declared.Plant.{Plant}
-use Rattle.plant.specs.Links.{live}
+use Rattle.plant.specs.Links.{first, second, live}
+use Rattle.limits.specs.Limits.{maxLinks}
 use Rattle.limits.specs.Sound.{Sound}
 use Rattle.walks.specs.Walk.{Walk}
-use Rattle.walks.specs.Arcs.{tail, head}
-use Rattle.walks.specs.Graph.{liveLinks}
+use Rattle.walks.specs.Arcs.{tail, head, Arc, Valid}
+use Rattle.walks.specs.Graph.{reachedFrom}
+use Rattle.walks.specs.Components.{rootOf, roots, linkWith, linksWith, used}
 use Rattle.walks.proofs.Valid.{sound-valid}
 use Rattle.walks.proofs.Live.{live-below}
-use Rattle.walks.proofs.Labels.{even-half, odd-half, tail-in}
-use Rattle.plan.specs.Plan.{Connected, used, trailOf}
+use Rattle.walks.proofs.Labels.{even-half, odd-half, tail-even, tail-odd, tail-in, ends}
+use Rattle.walks.proofs.Components.{root-in, root-own, root-reaches, root-listed, reaches-root, reached-root, link-roots, link-with, links-with}
+use Rattle.plan.specs.Plan.{trailWith}
 use Rattle.plan.proofs.Plan.{used-arc, strongly-connected, one-used}
-use Rattle.plan.proofs.Trails.{trail-is, trail-closed}
+use Rattle.plan.proofs.Trails.{trail-from, trail-closed}
 use Rattle.rings.specs.Packet.{byLink}
 use Rattle.rings.specs.Injection.{orderOf, probeRun}
 use Rattle.rings.proofs.FirstDown.{firstDown}
 use Rattle.rings.proofs.Injection as rings
 use Rattle.rings.proofs.Injection.{RingAt, order-once, order-crosses}
 
-module _ (p : Plant) (ok : Sound p) (con : Connected p) (x : ℕ) (x-in : x < p .switches) where
+module _ (p : Plant) (ok : Sound p) (x : ℕ) (x-in : x < p .switches) where
   abbrev w : List ℕ
-  w = trailOf p
+  w = trailWith p x
 
-  exactly : (a : ℕ) → In a w ↔ T (used p a)
-  exactly = trail-is p ok .exactly
+  valid : Valid p
+  valid = sound-valid p ok
+
+  pub root-among : In (rootOf p x) (roots p)
+  root-among = root-listed p valid (ok .start-in) x x-in
+
+  -- the trail crosses the arcs in use of the component
+  exactly : (a : ℕ) → In a w ↔ (T (reachedFrom p (rootOf p x) (tail p a)) × T (used p a))
+  exactly = trail-from p ok (rootOf p x) root-among .exactly
+
+  pub trail-used : (a : ℕ) → In a w → T (used p a)
+  trail-used a i = exactly a .0 i .1
 
   -- some hop of the trail leaves x: the first of a walk over arcs in use from x to where a hop of the trail begins, or that hop
-  leaves : (v : List ℕ) → ((a : ℕ) → In a v → T (used p a)) → (v ≡ []) ⊎ ((a : ℕ) × In a w × (tail p a ≡ x))
+  leaves : (v : List ℕ) → ((a : ℕ) → In a v → In a w) → (v ≡ []) ⊎ ((a : ℕ) × In a w × (tail p a ≡ x))
   leaves [] f = inl refl
   leaves (b ∷ v) f =
-      let u = f b (inl refl) in
-      let r = strongly-connected p ok con x (tail p b) x-in (tail-in p (sound-valid p ok) b (used-arc p b u)) in
-      inr (step u (r .0) (r .1) (r .2))
+      let u = exactly b .0 (f b (inl refl)) in
+      let same = sym (reaches-root p valid (ok .start-in) (rootOf p x) (tail p b) root-among (u .0)) in
+      let r = strongly-connected p ok x (tail p b) x-in (tail-in p valid b (used-arc p b (u .1))) same in
+      inr (step (f b (inl refl)) (r .0) (r .1) (r .2))
     where
-      step : T (used p b) → (u : List ℕ) → Walk (tail p) (head p) u x (tail p b) → ((a : ℕ) → In a u → T (used p a)) → (a : ℕ) × In a w × (tail p a ≡ x)
-      step t [] e g = (b, exactly b .1 t, sym e)
-      step t (a ∷ u) q g = (a, exactly a .1 (g a (inl refl)), q .0)
+      step : In b w → (u : List ℕ) → Walk (tail p) (head p) u x (tail p b) → ((a : ℕ) → In a u → T (used p a)) → (a : ℕ) × In a w × (tail p a ≡ x)
+      step i [] e g = (b, i, sym e)
+      step i (a ∷ u) q g = (a, exactly a .1 (subst (λ (y : ℕ). T (reachedFrom p (rootOf p x) y)) (sym (q .0)) (root-reaches p valid (ok .start-in) x x-in), g a (inl refl)), q .0)
 
   pub ring-at : RingAt p w x
-  ring-at = record { closed = trail-closed p ok; leaves = leaves w (λ a. exactly a .0) }
+  ring-at = record { closed = trail-closed p ok (rootOf p x) root-among; leaves = leaves w (λ a i. i) }
 
-  -- the order has each link in service
-  pub order-links : (l : ℕ) → In l (orderOf p w x) ↔ T (live p l)
-  order-links l = (
-    λ h. let c = order-crosses p w x l .0 h in subst (λ (k : ℕ). T (live p k)) (c .2) (used-arc p (c .0) (exactly (c .0) .0 (c .1))),
-    λ t. from (one-used p ok con l t),
-  )
+  -- the order has each link in service of the component
+  pub order-links : (l : ℕ) → In l (orderOf p w x) ↔ T (linkWith p x l)
+  order-links l = (λ h. let c = order-crosses p w x l .0 h in subst (λ (k : ℕ). T (linkWith p x k)) (c .2) (to (c .0) (c .1)), λ t. let q = link-with p valid (ok .start-in) x l x-in .0 t in from (q .0) (q .1) (one-used p ok l (q .0)))
     where
-      from : T (used p (2 * l)) ⊎ T (used p (2 * l + 1)) → In l (orderOf p w x)
-      from (inl u) = order-crosses p w x l .1 (2 * l, exactly (2 * l) .1 u, even-half l)
-      from (inr u) = order-crosses p w x l .1 (2 * l + 1, exactly (2 * l + 1) .1 u, odd-half l)
+      to : (a : ℕ) → In a w → T (linkWith p x (a / 2))
+      to a i =
+          let u = exactly a .0 i in
+          let arc = used-arc p a (u .1) in
+          link-with p valid (ok .start-in) x (a / 2) x-in .1 (arc, ⊎-elim (λ e. subst (λ (y : ℕ). T (reachedFrom p (rootOf p x) y)) (e .0) (u .0)) (λ e. other arc (subst (λ (y : ℕ). T (reachedFrom p (rootOf p x) y)) (e .0) (u .0))) (ends p a))
+        where
+          other : T (live p (a / 2)) → T (reachedFrom p (rootOf p x) (second p (a / 2))) → T (reachedFrom p (rootOf p x) (first p (a / 2)))
+          other alive t =
+              reached-root p valid (ok .start-in) (rootOf p x) (first p (a / 2)) (root-in p valid (ok .start-in) x x-in) (root-own p valid (ok .start-in) x x-in) .1
+              (valid .first-in (a / 2) alive, link-roots p valid (ok .start-in) (a / 2) alive ∙ reaches-root p valid (ok .start-in) (rootOf p x) (second p (a / 2)) root-among t)
+
+      from : T (live p l) → T (reachedFrom p (rootOf p x) (first p l)) → T (used p (2 * l)) ⊎ T (used p (2 * l + 1)) → In l (orderOf p w x)
+      from alive t (inl u) = order-crosses p w x l .1 (2 * l, exactly (2 * l) .1 (subst (λ (y : ℕ). T (reachedFrom p (rootOf p x) y)) (sym (tail-even p l)) t, u), even-half l)
+      from alive t (inr u) =
+          order-crosses p w x l .1 (2 * l + 1, exactly (2 * l + 1) .1 (subst (λ (y : ℕ). T (reachedFrom p (rootOf p x) y)) (sym (tail-odd p l)) there, u), odd-half l)
+        where
+          there : T (reachedFrom p (rootOf p x) (second p l))
+          there =
+              reached-root p valid (ok .start-in) (rootOf p x) (second p l) (root-in p valid (ok .start-in) x x-in) (root-own p valid (ok .start-in) x x-in) .1
+              (valid .second-in l alive, sym (link-roots p valid (ok .start-in) l alive) ∙ reaches-root p valid (ok .start-in) (rootOf p x) (first p l) root-among t)
 
   -- so it is as long as there are links in service
-  pub order-length : length (orderOf p w x) ≡ liveLinks p
-  unfolding liveLinks
+  pub order-length : length (orderOf p w x) ≡ linksWith p x
   order-length =
       omega (
         arith,
-        distinct-count (p .count) (orderOf p w x) (order-once p w x) (λ l h. live-below p l (order-links l .0 h)),
-        count-le (p .count) (λ l. memb l (orderOf p w x)) (live p) (λ l h t. order-links l .0 (memb→in l (orderOf p w x) t)),
-        count-le (p .count) (live p) (λ l. memb l (orderOf p w x)) (λ l h t. in→memb l (orderOf p w x) (order-links l .1 t)),
+        links-with p valid (ok .start-in) x x-in,
+        distinct-count (p .count) (orderOf p w x) (order-once p w x) (λ l h. live-below p l (link-with p valid (ok .start-in) x l x-in .0 (order-links l .0 h) .0)),
+        count-le (p .count) (λ l. memb l (orderOf p w x)) (linkWith p x) (λ l h t. order-links l .0 (memb→in l (orderOf p w x) t)),
+        count-le (p .count) (linkWith p x) (λ l. memb l (orderOf p w x)) (λ l h t. in→memb l (orderOf p w x) (order-links l .1 t)),
       )
 
+  pub links-few : linksWith p x ≤ maxLinks
+  links-few = omega (arith, links-with p valid (ok .start-in) x x-in, count-all (p .count) (linkWith p x), ok .few-links)
+
   -- probe m returns exactly if m is less than the place of the first broken link
-  pub probe-tells : (up : ℕ → Bool) (m : ℕ) → 1 ≤ m → m ≤ liveLinks p
-      → probeRun p (used p) w x (liveLinks p) (byLink up) m .ended ≡ ltb m (firstDown up (orderOf p w x))
-  probe-tells up = rings.probe-tells p w x ring-at (liveLinks p) (used p) (λ a. exactly a .0) up order-length
+  pub probe-tells : (up : ℕ → Bool) (m : ℕ) → 1 ≤ m → m ≤ linksWith p x
+      → probeRun p (used p) w x (linksWith p x) (byLink up) m .ended ≡ ltb m (firstDown up (orderOf p w x))
+  probe-tells up = rings.probe-tells p w x ring-at (linksWith p x) (used p) trail-used up order-length

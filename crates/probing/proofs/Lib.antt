@@ -1,5 +1,5 @@
-pub mod Lent
 pub mod Injection
+pub mod Lent
 pub mod Results
 pub mod StateBytes
 pub mod OutwardLabels

@@ -1,4 +1,4 @@
--- The order of links has each link of the plant once, and a link that is named is one of the plant. Assumes a sound connected plant and one of its switches.
+-- The order of links has each link of the component of a switch once, and a link that is named is one of these. Assumes a sound plant and one of its switches.
 use mathlib.Core.Path.{_≡_, sym, subst}
 use mathlib.Core.Logic.{_↔_}
 use mathlib.Core.List.{List, [], _∷_}
@@ -9,13 +9,12 @@ use lib.ListN.{length, take}
 use Rattle.lists.specs.Members.{In, Distinct}
 use Rattle.lists.proofs.Members.{getD-in}
 use Rattle.plant.specs.declared.Plant.{Plant}
-use Rattle.plant.specs.Links.{live}
 use Rattle.answers.specs.Answers.{given}
 use Rattle.answers.specs.Checks.{answer}
 use Rattle.limits.specs.Sound.{Sound}
 use Rattle.answers.proofs.Checks.{given-exactly}
-use Rattle.walks.specs.Graph.{liveLinks}
-use Rattle.plan.specs.Plan.{Connected, trailOf}
+use Rattle.walks.specs.Components.{linkWith, linksWith}
+use Rattle.plan.specs.Plan.{trailWith}
 use Rattle.rings.specs.Order.{nth}
 use Rattle.rings.specs.Injection.{orderOf}
 use Rattle.rings.proofs.Injection.{order-once}
@@ -33,46 +32,46 @@ use Rattle.probing.specs.Calls.{orderIn, Name, link, none, unknown, name
 use Rattle.probing.proofs.Injection.{order-links, order-length}
 use Rattle.judging.proofs.Searching.{good-here}
 
--- each link of the plant once, and no other
-pub record EachOnce (p : Plant) (o : Order) : Type 0 where
-  pub counted : o .count ≡ liveLinks p
+-- each link of the component of x once, and no other
+pub record EachOnce (p : Plant) (x : ℕ) (o : Order) : Type 0 where
+  pub counted : o .count ≡ linksWith p x
   pub once : Distinct (take (o .count) (o .links))
-  pub every : (l : ℕ) → In l (take (o .count) (o .links)) ↔ T (live p l)
+  pub every : (l : ℕ) → In l (take (o .count) (o .links)) ↔ T (linkWith p x l)
 
--- what is named is of the plant
-abbrev pub OfPlant : Plant → Name → Type 0
-OfPlant p (link l) = T (live p l)
-OfPlant p none = Unit
-OfPlant p unknown = Unit
+-- what is named is of the component of x
+abbrev pub Within : Plant → ℕ → Name → Type 0
+Within p x (link l) = T (linkWith p x l)
+Within p x none = Unit
+Within p x unknown = Unit
 
-module _ (p : Plant) (ok : Sound p) (con : Connected p) (x : ℕ) (x-in : x < p .switches) where
-  pub order-each : (w : List ℕ) (o : Order) → answer (orderIn x w p) ≡ given o → EachOnce p o
+module _ (p : Plant) (ok : Sound p) (x : ℕ) (x-in : x < p .switches) where
+  pub order-each : (w : List ℕ) (o : Order) → answer (orderIn x w p) ≡ given o → EachOnce p x o
   unfolding orderIn listed
-  order-each w o e = subst (EachOnce p) (given-exactly ((12, trailDiffers p w) ∷ []) (listed ls) o .0 e .1) each
+  order-each w o e = subst (EachOnce p x) (given-exactly ((12, trailDiffers p w) ∷ []) (listed ls) o .0 e .1) each
     where
       ls : List ℕ
-      ls = orderOf p (trailOf p) x
+      ls = orderOf p (trailWith p x) x
 
-      each : EachOnce p (listed ls)
+      each : EachOnce p x (listed ls)
       each = record {
-        counted = order-length p ok con x x-in;
-        once = subst Distinct (sym (listed-links ls)) (order-once p (trailOf p) x);
-        every = λ l. subst (λ (v : List ℕ). In l v ↔ T (live p l)) (sym (listed-links ls)) (order-links p ok con x x-in l);
+        counted = order-length p ok x x-in;
+        once = subst Distinct (sym (listed-links ls)) (order-once p (trailWith p x) x);
+        every = λ l. subst (λ (v : List ℕ). In l v ↔ T (linkWith p x l)) (sym (listed-links ls)) (order-links p ok x x-in l);
       }
 
-  -- a link that is named is a link of the plant
-  pub named-live : (w : List ℕ) (q : Search) (n : Name) → answer (nameIn x w q p) ≡ given n → OfPlant p n
+  -- a link that is named is one of the component
+  pub named-within : (w : List ℕ) (q : Search) (n : Name) → answer (nameIn x w q p) ≡ given n → Within p x n
   unfolding nameIn
-  named-live w q n e =
-      let r = given-exactly ((12, trailDiffers p w) ∷ (14, searchUnsound (liveLinks p) q) ∷ []) (namedIn ls (says q)) n .0 e in
-      subst (OfPlant p) (r .1) (go (says q) (says-in (liveLinks p) q (good-here (liveLinks p) q (r .0 .1 .0))))
+  named-within w q n e =
+      let r = given-exactly ((12, trailDiffers p w) ∷ (14, searchUnsound (linksWith p x) q) ∷ []) (namedIn ls (says q)) n .0 e in
+      subst (Within p x) (r .1) (go (says q) (says-in (linksWith p x) q (good-here (linksWith p x) q (r .0 .1 .0))))
     where
       ls : List ℕ
-      ls = orderOf p (trailOf p) x
+      ls = orderOf p (trailWith p x) x
 
-      go : (d : Said) → SaysIn (liveLinks p) d → OfPlant p (namedIn ls d)
+      go : (d : Said) → SaysIn (linksWith p x) d → Within p x (namedIn ls d)
       go Open g = tt
       go AllUp g = tt
       go (Down k) g =
-          let inside : k - 1 < length ls = omega (arith, g, order-length p ok con x x-in) in
-          order-links p ok con x x-in (nth ls k) .0 (getD-in ls (k - 1) inside)
+          let inside : k - 1 < length ls = omega (arith, g, order-length p ok x x-in) in
+          order-links p ok x x-in (nth ls k) .0 (getD-in ls (k - 1) inside)

@@ -1,4 +1,4 @@
--- What demand 3 says of a list of calls to a search, and so of what `perform` answers. Assumes a sound connected plant and one of its switches.
+-- What demand 3 says of a list of calls to a search, and so of what `perform` answers. Assumes a sound plant and one of its switches.
 use mathlib.Core.Path.{_≡_, sym, subst, _∙_}
 use mathlib.Core.Logic.{_⊎_, inl, inr, _↔_}
 use mathlib.Core.Bool.{true}
@@ -13,8 +13,8 @@ use Rattle.limits.specs.Sound.{Sound}
 use Rattle.answers.specs.Answers.{Answer, given, refused}
 use Rattle.answers.specs.Checks.{answer}
 use Rattle.answers.proofs.Checks.{gives-so, given-given, result-given}
-use Rattle.walks.specs.Graph.{liveLinks}
-use Rattle.plan.specs.Plan.{Connected, trailOf}
+use Rattle.walks.specs.Components.{linksWith}
+use Rattle.plan.specs.Plan.{trailWith}
 use Rattle.rings.specs.Rules.{upBy}
 use Rattle.rings.specs.Injection.{orderOf}
 use Rattle.rings.proofs.FirstDown.{firstDown, first-one, first-most, first-some, first-none}
@@ -28,11 +28,10 @@ use Rattle.search.proofs.Sound.{answers-given}
 use Rattle.search.proofs.Finds.{Tells, tells-by, Finds, kept-new, packets-sent, finds}
 use Rattle.search.proofs.Probes.{sent-thrice, probes-counted}
 use Rattle.planning.specs.Planning.{planningAt}
-use Rattle.planning.proofs.Counted.{links-few}
 use Rattle.planning.proofs.Plans.{at-given}
 use Rattle.probing.specs.Calls.{probeEnd, performedIn, performing}
 use Rattle.probing.specs.Searches.{MostProbes, NoneBroken, actualOutcome, ComesHome, AllTrue, OneOfThree, Says, Searches, Performs}
-use Rattle.probing.proofs.Injection.{order-links, order-length, probe-tells}
+use Rattle.probing.proofs.Injection.{order-links, order-length, links-few, probe-tells}
 
 -- ---- the most probes
 
@@ -45,12 +44,12 @@ most-probes e = record {
 
 -- ---- the search
 
-module _ (p : Plant) (ok : Sound p) (con : Connected p) (x : ℕ) (x-in : x < p .switches) where
+module _ (p : Plant) (ok : Sound p) (x : ℕ) (x-in : x < p .switches) where
   abbrev order : List ℕ
-  order = orderOf p (trailOf p) x
+  order = orderOf p (trailWith p x) x
 
-  long : length order ≡ liveLinks p
-  long = order-length p ok con x x-in
+  long : length order ≡ linksWith p x
+  long = order-length p ok x x-in
 
   module _ (states : List ℕ) where
     -- the place of the first broken link
@@ -58,32 +57,32 @@ module _ (p : Plant) (ok : Sound p) (con : Connected p) (x : ℕ) (x-in : x < p 
     place = firstDown (upBy states) order
 
     -- the packet rule brings probe m home exactly if it comes after the m-th link
-    tells : Tells (liveLinks p) place (ComesHome p x states)
+    tells : Tells (linksWith p x) place (ComesHome p x states)
     unfolding actualOutcome
     tells =
-        tells-by (liveLinks p) place (first-one (upBy states) order) (omega (arith, long, first-most (upBy states) order)) (λ m. probeEnd p x states m .ended)
-        (probe-tells p ok con x x-in (upBy states))
+        tells-by (linksWith p x) place (first-one (upBy states) order) (omega (arith, long, first-most (upBy states) order)) (λ m. probeEnd p x states m .ended)
+        (probe-tells p ok x x-in (upBy states))
 
-    none : (place ≡ liveLinks p + 1) ↔ NoneBroken p states
+    none : (place ≡ linksWith p x + 1) ↔ NoneBroken p x states
     none =
         let b = first-none (upBy states) order in
-        let links = order-links p ok con x x-in in (
+        let links = order-links p ok x x-in in (
           λ e l t d. not-both (upBy states l) (b .0 (omega (arith, long)) l (links l .1 t)) d,
           λ f. omega (arith, long, b .1 (λ l h. not-false-true (upBy states l) (f l (links l .0 h)))),
         )
 
-    some : (NoneBroken p states → ⊥) → place ≤ liveLinks p
-    some f = go (eq? place (liveLinks p + 1))
+    some : (NoneBroken p x states → ⊥) → place ≤ linksWith p x
+    some f = go (eq? place (linksWith p x + 1))
       where
-        go : (place ≡ liveLinks p + 1) ⊎ (place ≡ liveLinks p + 1 → ⊥) → place ≤ liveLinks p
+        go : (place ≡ linksWith p x + 1) ⊎ (place ≡ linksWith p x + 1 → ⊥) → place ≤ linksWith p x
         go (inl e) = absurd (f (none .0 e))
         go (inr n) = omega (arith, n, tells .to-none)
 
-    found : (cs : List Call) → Finds (liveLinks p) place (ComesHome p x states) (limit (liveLinks p)) (begun (liveLinks p)) cs (perform (begun (liveLinks p)) cs)
-    found = finds (liveLinks p) (links-few p ok) place (ComesHome p x states) tells
+    found : (cs : List Call) → Finds (linksWith p x) place (ComesHome p x states) (limit (linksWith p x)) (begun (linksWith p x)) cs (perform (begun (linksWith p x)) cs)
+    found = finds (linksWith p x) (links-few p ok x x-in) place (ComesHome p x states) tells
 
-    says : (cs : List Call) → AllTrue p x states cs → OneOfThree p x states cs → ended (perform (begun (liveLinks p)) cs .state) ≡ true
-        → Says p x states (perform (begun (liveLinks p)) cs .state)
+    says : (cs : List Call) → AllTrue p x states cs → OneOfThree p x states cs → ended (perform (begun (linksWith p x)) cs .state) ≡ true
+        → Says p x states (perform (begun (linksWith p x)) cs .state)
     says cs t h q =
         let r = found cs in
         record {
@@ -91,20 +90,20 @@ module _ (p : Plant) (ok : Sound p) (con : Connected p) (x : ℕ) (x-in : x < p 
           first-broken = λ f. (place, r .first-down t h q (some f), first-some (upBy states) order (omega (arith, long, some f)));
         }
 
-  pub searches : (cs : List Call) → Searches p x cs (perform (begun (liveLinks p)) cs)
+  pub searches : (cs : List Call) → Searches p x cs (perform (begun (linksWith p x)) cs)
   unfolding give begun
   searches cs =
-      let e = liveLinks p in
+      let e = linksWith p x in
       let state = perform (begun e) cs .state in
       let r = found [] cs in
       record {
-        probes-are = probes-counted e (links-few p ok) cs;
-        packets-are = omega (arith, packets-sent e (links-few p ok) (limit e) cs (begun e) (kept-new e));
+        probes-are = probes-counted e (links-few p ok x x-in) cs;
+        packets-are = omega (arith, packets-sent e (links-few p ok x x-in) (limit e) cs (begun e) (kept-new e));
         limit-is = most-probes e;
         few = r .few;
         enough = r .enough;
         packets-few = r .packets-few;
-        thrice = sent-thrice e (links-few p ok) cs;
+        thrice = sent-thrice e (links-few p ok x x-in) cs;
         goes-on = r .goes-on;
         accepts = λ q o. (next state o, answers-given state (next state o) (r .stays-sound .0) q);
         says = λ states. says states cs;
@@ -115,11 +114,11 @@ module _ (p : Plant) (ok : Sound p) (con : Connected p) (x : ℕ) (x-in : x < p 
 
 -- what it answers for a listing that is read as such a plant, and at a refusal
 module _ (s : List ℕ) (x : ℕ) (cs : List Call) where
-  pub performs : (p : Plant) → answer (planningAt s x) ≡ given p → Sound p → Connected p → (a : Answer Progress) → a ≡ answer (performing s x cs) → Performs s x cs a
+  pub performs : (p : Plant) → answer (planningAt s x) ≡ given p → Sound p → (a : Answer Progress) → a ≡ answer (performing s x cs) → Performs s x cs a
   unfolding performing performedIn
-  performs p g ok con a f r e =
-      let q = given-given _ r (sym (gives-so (planningAt s x) (performedIn cs) p g) ∙ sym f ∙ e) in
-      rw (result-given (planningAt s x) p g) (subst (Searches p x cs) q (searches p ok con x (at-given s x p g .1) cs))
+  performs p g ok a f r e =
+      let q = given-given _ r (sym (gives-so (planningAt s x) (performedIn x cs) p g) ∙ sym f ∙ e) in
+      rw (result-given (planningAt s x) p g) (subst (Searches p x cs) q (searches p ok x (at-given s x p g .1) cs))
 
   pub performs-none : (a : Answer Progress) (k : ℕ) → a ≡ refused k → Performs s x cs a
   performs-none a k f r e = let z : _≡_ {A = ℕ} 0 1 = cc in absurd (omega arith)

@@ -11,8 +11,8 @@ use Rattle.answers.specs.Answers.{Answer, given, refused, _>>=_}
 use Rattle.answers.specs.Checks.{Checked, check, answer, _then_}
 use Rattle.answers.proofs.Checks.{then-is}
 use Rattle.walks.specs.Arcs.{head, Arc}
-use Rattle.walks.specs.Graph.{liveLinks}
-use Rattle.plan.specs.Plan.{used, trailOf, roundOf, inTable}
+use Rattle.walks.specs.Components.{linksWith, used}
+use Rattle.plan.specs.Plan.{trailWith, roundOf, roundWith, inTable}
 use Rattle.plan.proofs.Plan.{used-arc}
 use Rattle.rings.specs.Packet.{End, run}
 use Rattle.rings.specs.Rules.{upBy, upByLink, inAll}
@@ -50,19 +50,19 @@ module _ (p : Plant) (x : ℕ) (states states′ : List ℕ) where
 
     check-alike : (w : List ℕ) → checkIn x w states p ≡ checkIn x w states′ p
     unfolding checkIn
-    check-alike w = ap₂ (λ (t : Bool) (e : End). check ((12, trailDiffers p w) ∷ (13, t) ∷ []) e) (h .short) (table-run (ringOf p (trailOf p) x))
+    check-alike w = ap₂ (λ (t : Bool) (e : End). check ((12, trailDiffers p w) ∷ (13, t) ∷ []) e) (h .short) (table-run (ringOf p (trailWith p x) x))
 
     probe-alike : (w : List ℕ) (q : Search) → probeIn x w states q p ≡ probeIn x w states′ q p
     unfolding probeIn
     probe-alike w q =
-        ap₂ (λ (t : Bool) (e : End). check ((12, trailDiffers p w) ∷ (13, t) ∷ wantedChecks (liveLinks p) q) e)
-        (h .short) (probe-agrees p (trailOf p) x (used p) (used-arc p) (liveLinks p) (upByLink states) (upByLink states′) by-link (wanted q))
+        ap₂ (λ (t : Bool) (e : End). check ((12, trailDiffers p w) ∷ (13, t) ∷ wantedChecks (linksWith p x) q) e)
+        (h .short) (probe-agrees p (trailWith p x) x (used p) (used-arc p) (linksWith p x) (upByLink states) (upByLink states′) by-link (wanted q))
 
   round-alike : ByLabelAlike p states states′ → (w : List ℕ) → roundIn x w states p ≡ roundIn x w states′ p
   unfolding roundIn roundRun
   round-alike h w =
       ap₂ (λ (t : Bool) (e : End). check ((12, hopsDiffer (roundOf p) w) ∷ (13, t) ∷ []) e) (h .short)
-      (run-agrees p (inAll p) (all-arc p) (upByLabel states) (upByLabel states′) (h .same) (head p) (ringOf p (roundOf p) x) x 0)
+      (run-agrees p (inAll p) (all-arc p) (upByLabel states) (upByLabel states′) (h .same) (head p) (ringOf p (roundWith p x) x) x 0)
 
 -- so the calls have the same answers
 module _ (s : List ℕ) (x : ℕ) (states states′ : List ℕ) where

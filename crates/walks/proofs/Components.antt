@@ -11,13 +11,13 @@ use borrow.Author.Tests.{ne-eqb}
 use lib.Dec.{T, T-not, not-T, eqb, eqb→eq}
 use lib.ListN.{length, getD, take, drop}
 use Rattle.lists.specs.Members.{In, memb, Distinct}
-use Rattle.lists.specs.Count.{bit}
+use Rattle.lists.specs.Count.{bit, count}
 use Rattle.lists.specs.Least.{least}
 use Rattle.lists.specs.Numbers.{range, keep}
 use Rattle.lists.specs.Sum.{sumOf}
 use Rattle.lists.proofs.Tests.{T-or, T-same, eq?, below?, eq→eqb, choose-true, choose-false, and-left, and-right, and-both}
 use Rattle.lists.proofs.Members.{memb→in, in→memb, getD-in, in-getD, distinct-at}
-use Rattle.lists.proofs.Count.{bit-true, bit-false, bit-one, count-all, count-none, count-every, counts-le, distinct-count, pairs}
+use Rattle.lists.proofs.Count.{bit-true, bit-false, bit-one, count-all, count-none, count-both, count-every, counts-le, distinct-count, pairs}
 use Rattle.lists.proofs.Least.{least-top, least-passes, least-first, least-le, least-none}
 use Rattle.lists.proofs.Numbers.{range-in, in-range, keep-in, in-keep, keep-none, range-distinct, keep-distinct}
 use Rattle.lists.proofs.Chained.{chained, chained-within, chained-part}
@@ -27,7 +27,7 @@ use Rattle.plant.specs.Links.{first, second, live}
 use Rattle.walks.specs.Visit.{St, scan, visit}
 use Rattle.walks.specs.Arcs.{opposite, tail, head, Arc, Valid}
 use Rattle.walks.specs.Graph.{AllFrom, arcs, visitFrom, visitedFrom, reachedFrom, usedFrom, bridge, bridgeFrom, liveLinks, bridges, switchesFrom, linksFrom, bridgesFrom, arcsUsedFrom}
-use Rattle.walks.specs.Components.{rootOf, begunAt, roots, componentOf, linksWith, used, arcsUsed}
+use Rattle.walks.specs.Components.{rootOf, begunAt, roots, componentOf, linkWith, linksWith, used, arcsUsed}
 use Rattle.walks.proofs.Walk.{trans, one}
 use Rattle.walks.proofs.Labels.{even-half, odd-half, opposite-half, of-link, tail-even, tail-odd, head-even, tail-in, even-arc, opposite-arc, arcs-are}
 use Rattle.walks.proofs.Visited.{visited-root, visited-inside, visited-finds}
@@ -356,6 +356,24 @@ module _ (p : Plant) (ok : Valid p) (start-in : p .start < p .switches) where
   pub few-roots-bridges : bridges p + length (roots p) ≤ S
   few-roots-bridges =
       omega (arith, bridges-sum, switches-sum, sums-lt (bridgesFrom p) (switchesFrom p) (roots p) (λ r i. bridges-few p ok r (listed-in r i)))
+
+  -- ---- the links of the component of a switch
+
+  pub link-with : (x l : ℕ) → x < S → T (linkWith p x l) ↔ (T (live p l) × T (reachedFrom p (rootOf p x) (first p l)))
+  link-with x l h = (
+    λ t. let a = and-left (live p l) (eqb (rootOf p (first p l)) (rootOf p x)) t in
+    (a, reached-root (rootOf p x) (first p l) (root-in x h) (root-own x h) .1 (ok .first-in l a, eqb→eq (rootOf p (first p l)) (rootOf p x) (and-right (live p l) (eqb (rootOf p (first p l)) (rootOf p x)) t))),
+    λ q. and-both (live p l) (eqb (rootOf p (first p l)) (rootOf p x)) (q .0) (eq→eqb (reached-root (rootOf p x) (first p l) (root-in x h) (root-own x h) .0 (q .1) .1)),
+  )
+
+  pub links-with : (x : ℕ) → x < S → linksWith p x ≡ count (p .count) (linkWith p x)
+  unfolding linksWith linksFrom
+  links-with x h =
+      count-both (p .count) (λ l. reachedFrom p (rootOf p x) (first p l) && live p l) (linkWith p x)
+      (λ l i. (
+        λ t. link-with x l h .1 (and-right (reachedFrom p (rootOf p x) (first p l)) (live p l) t, and-left (reachedFrom p (rootOf p x) (first p l)) (live p l) t),
+        λ t. let q = link-with x l h .0 t in and-both (reachedFrom p (rootOf p x) (first p l)) (live p l) (q .1) (q .0),
+      ))
 
   -- ---- a number that is no switch has no links
 

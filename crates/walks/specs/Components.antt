@@ -10,6 +10,7 @@ use Rattle.lists.specs.Count.{count}
 use Rattle.lists.specs.Least.{least}
 use Rattle.lists.specs.Numbers.{range, keep}
 use Rattle.plant.specs.declared.Plant.{Plant}
+use Rattle.plant.specs.Links.{first, live}
 use Rattle.walks.specs.Arcs.{tail}
 use Rattle.walks.specs.Graph.{reachedFrom, usedFrom, linksFrom}
 
@@ -29,6 +30,10 @@ module _ (p : Plant) where
   -- the number of the component of x, from 0
   unfoldable pub componentOf : ℕ → ℕ
   componentOf x = least (length roots) (λ i. eqb (getD roots i 0) (rootOf x))
+
+  -- link l is in service, and of the component of x
+  abbrev pub linkWith : ℕ → ℕ → Bool
+  linkWith x l = live p l && eqb (rootOf (first p l)) (rootOf x)
 
   -- E for a named switch x: how many links in service its component has
   unfoldable pub linksWith : ℕ → ℕ
