@@ -1,5 +1,5 @@
--- The round run, by a state byte for each label (document 02, order 6). The ring of a switch on a closed walk that has each arc of the plant, and no other label, comes home
--- exactly if every direction is up, and no labels of which that holds are fewer than two to each link; where the two directions of each link are up or down together, a
+-- The round run, by a state byte for each label (document 02, order 6). The ring of a switch on a closed walk that has each arc of some links, and no other label, comes home
+-- exactly if every direction of these is up, and no labels of which that holds are fewer than two to each of them; where the two directions of each link are up or down together, a
 -- run by label is the run by link. Assumes nothing more of the plant.
 use mathlib.Core.Path.{_≡_, refl, sym, ap, _∙_, subst}
 use mathlib.Core.Logic.{_⊎_, ⊎-elim, _↔_}
@@ -16,22 +16,22 @@ use Rattle.lists.specs.Members.{In, memb, all}
 use Rattle.lists.proofs.Members.{in?, in→memb, all-at, at-all}
 use Rattle.lists.specs.Numbers.{range}
 use Rattle.lists.proofs.Numbers.{values-length, values-at}
-use Rattle.lists.proofs.Count.{count-le, count-memb}
+use Rattle.lists.specs.Count.{count}
+use Rattle.lists.proofs.Count.{count-le, count-memb, pairs}
 use Rattle.plant.specs.declared.Plant.{Plant}
 use Rattle.plant.specs.Links.{live}
 use Rattle.walks.specs.Walk.{Walk}
 use Rattle.walks.specs.Arcs.{tail, head, Arc}
-use Rattle.walks.specs.Graph.{liveLinks}
 use Rattle.walks.proofs.Live.{live-below}
-use Rattle.walks.proofs.Labels.{even-or-odd, arc-below}
+use Rattle.walks.proofs.Labels.{even-or-odd, even-half, odd-half, arc-below}
 use Rattle.rings.specs.Packet.{End, ends, run}
-use Rattle.rings.specs.Rules.{upBy, upByLink, inAll, allRules}
+use Rattle.rings.specs.Rules.{upBy, upByLink, inAll}
 use Rattle.rings.specs.Ring.{readFrom, ring}
 use Rattle.rings.specs.Injection.{placeOf, ringOf, probeRun}
 use Rattle.rings.specs.Round.{upByLabel, EveryUp, Vouches, roundRun, Together, linkBytes}
 use Rattle.rings.proofs.Packet.{run-ended, run-clear, run-same}
 use Rattle.rings.proofs.Ring.{place-is, ring-empty}
-use Rattle.rings.proofs.Rules.{all-arc, all-rules}
+use Rattle.rings.proofs.Rules.{all-arc}
 use Rattle.rings.proofs.Injection.{RingAt, ring-labels, ring-closed, probe-agrees}
 
 -- the ring has as many labels as the walk
@@ -41,34 +41,34 @@ ring-length p w s =
     let k = placeOf p w s in
     omega (arith, length-append (drop k w) (take k w), length-append (take k w) (drop k w), ap length (take-append-drop k w))
 
--- ---- a closed walk from r that has each arc and no other label, and a switch that it leaves, unless it is empty
+-- ---- a closed walk from r that has each arc of some links in service and no other label, and a switch that it leaves, unless it is empty
 
-module _ (p : Plant) (w : List ℕ) (r : ℕ) (closed : Walk (tail p) (head p) w r r) (whole : (a : ℕ) → In a w ↔ Arc p a) (s : ℕ)
-    (leaves : (w ≡ []) ⊎ ((a : ℕ) × In a w × (tail p a ≡ s)))
+module _ (p : Plant) (links : ℕ → Bool) (alive : (l : ℕ) → T (links l) → T (live p l)) (w : List ℕ) (r : ℕ) (closed : Walk (tail p) (head p) w r r)
+    (whole : (a : ℕ) → In a w ↔ T (links (a / 2))) (s : ℕ) (leaves : (w ≡ []) ⊎ ((a : ℕ) × In a w × (tail p a ≡ s)))
   where
     ring-at : RingAt p w s
-    ring-at = record { closed = record { from = r; walk = closed; arcs-alone = λ a h. whole a .0 h }; leaves = leaves }
+    ring-at = record { closed = record { from = r; walk = closed; arcs-alone = λ a h. alive (a / 2) (whole a .0 h) }; leaves = leaves }
 
     -- the ring has the arcs too
-    ring-whole : (a : ℕ) → In a (ringOf p w s) ↔ Arc p a
+    ring-whole : (a : ℕ) → In a (ringOf p w s) ↔ T (links (a / 2))
     ring-whole a = (λ h. whole a .0 (ring-labels p w s a .0 h), λ h. ring-labels p w s a .1 (whole a .1 h))
 
     -- each hop has a rule, so only the states of its labels matter
     ends-clear : (up : ℕ → Bool) → ends (inAll p) up (head p) s (ringOf p w s) ≡ all up (ringOf p w s)
     unfolding run inAll
-    ends-clear up = run-ended (tail p) (head p) (λ a. live p (a / 2)) up (ringOf p w s) s s 0 (ring-closed p w s ring-at) (λ a h. ring-whole a .0 h)
+    ends-clear up = run-ended (tail p) (head p) (λ a. live p (a / 2)) up (ringOf p w s) s s 0 (ring-closed p w s ring-at) (λ a h. alive (a / 2) (ring-whole a .0 h))
 
     -- the packet comes home exactly if every direction is up
-    home-exactly : (states : List ℕ) → (ends (inAll p) (upByLabel states) (head p) s (ringOf p w s) ≡ true) ↔ EveryUp p states
+    home-exactly : (states : List ℕ) → (ends (inAll p) (upByLabel states) (head p) s (ringOf p w s) ≡ true) ↔ EveryUp p links states
     home-exactly states = (
       λ e a h. all-at (upByLabel states) (ringOf p w s) (sym (ends-clear (upByLabel states)) ∙ e) a (ring-whole a .1 h),
       λ f. ends-clear (upByLabel states) ∙ at-all (upByLabel states) (ringOf p w s) (λ a h. f a (ring-whole a .0 h)),
     )
 
-    pub vouches : Vouches p s (ringOf p w s)
+    pub vouches : Vouches p links s (ringOf p w s)
     vouches states h = home-exactly states
 
-    pub round-home : (states : List ℕ) → (roundRun p w s states .ended ≡ true) ↔ EveryUp p states
+    pub round-home : (states : List ℕ) → (roundRun p w s states .ended ≡ true) ↔ EveryUp p links states
     unfolding roundRun run
     round-home = home-exactly
 
@@ -76,7 +76,7 @@ module _ (p : Plant) (w : List ℕ) (r : ℕ) (closed : Walk (tail p) (head p) w
     pub round-back : (states : List ℕ) → roundRun p w s states .ended ≡ true → roundRun p w s states ≡ record { ended = true; hops = length w; last = s }
     unfolding roundRun run inAll
     round-back states e =
-        run-clear (tail p) (head p) (λ a. live p (a / 2)) (upByLabel states) (ringOf p w s) s s 0 (ring-closed p w s ring-at) (λ a h. ring-whole a .0 h) (sym (ends-clear (upByLabel states)) ∙ e)
+        run-clear (tail p) (head p) (λ a. live p (a / 2)) (upByLabel states) (ringOf p w s) s s 0 (ring-closed p w s ring-at) (λ a h. alive (a / 2) (ring-whole a .0 h)) (sym (ends-clear (upByLabel states)) ∙ e)
         ∙ ap (λ (n : ℕ). record { ended = true; hops = n; last = s }) (omega (arith, ring-length p w s))
 
 -- from where a closed walk begins its ring is the walk itself
@@ -106,14 +106,14 @@ module _ (p : Plant) where
   unfolding upBy
   one-down a h = rw (values-at (byteBut a) 0 (2 * p .count) a (arc-below p a h), eq-eqb a a refl)
 
-  -- whatever labels a packet carries that comes home exactly if every direction is up: there are two to each link
-  module _ (s : ℕ) (w : List ℕ) (vouched : Vouches p s w) where
-    told : (k : ℕ) → (ends (inAll p) (upByLabel (oneDown k)) (head p) s w ≡ true) ↔ EveryUp p (oneDown k)
+  -- whatever labels a packet carries that comes home exactly if every direction of some links in service is up: there are two to each of these
+  module _ (links : ℕ → Bool) (alive : (l : ℕ) → T (links l) → T (live p l)) (s : ℕ) (w : List ℕ) (vouched : Vouches p links s w) where
+    told : (k : ℕ) → (ends (inAll p) (upByLabel (oneDown k)) (head p) s w ≡ true) ↔ EveryUp p links (oneDown k)
     told k = vouched (oneDown k) (omega (arith, values-length (byteBut k) 0 (2 * p .count)))
 
     -- with every byte up it comes home
     home : ends (inAll p) (upByLabel (oneDown (2 * p .count))) (head p) s w ≡ true
-    home = told (2 * p .count) .1 (λ a h. one-up (2 * p .count) a h (λ e. omega (arith, arc-below p a h)))
+    home = told (2 * p .count) .1 (λ a h. one-up (2 * p .count) a (alive (a / 2) h) (λ e. omega (arith, arc-below p a (alive (a / 2) h))))
 
     -- with label a alone down it would come home all the same, if it did not carry a
     home-without : (a : ℕ) → (In a w → ⊥) → ends (inAll p) (upByLabel (oneDown a)) (head p) s w ≡ true
@@ -125,17 +125,19 @@ module _ (p : Plant) where
             let arc = all-arc p x b t in
             one-up a b arc (λ e. n (subst (λ (c : ℕ). In c w) e h)) ∙ sym (one-up (2 * p .count) b arc (λ e. omega (arith, arc-below p b arc)))
 
-    -- so it carries each arc
-    carries : (a : ℕ) → Arc p a → In a w
-    carries a h = ⊎-elim (λ i. i) (λ n. absurd (not-both (upByLabel (oneDown a) a) (told a .0 (home-without a n) a h) (one-down a h))) (in? a w)
+    -- so it carries each of their arcs
+    carries : (a : ℕ) → T (links (a / 2)) → In a w
+    carries a h = ⊎-elim (λ i. i) (λ n. absurd (not-both (upByLabel (oneDown a) a) (told a .0 (home-without a n) a h) (one-down a (alive (a / 2) h)))) (in? a w)
 
-    pub vouched-fewest : 2 * liveLinks p ≤ length w
-    unfolding allRules
+    two-each : count (2 * p .count) (λ a. links (a / 2)) ≡ 2 * count (p .count) links
+    two-each = pairs (p .count) (λ a. links (a / 2)) ∙ simp (even-half, odd-half) (omega arith)
+
+    pub vouched-fewest : 2 * count (p .count) links ≤ length w
     vouched-fewest =
         omega (
           arith,
-          all-rules p,
-          count-le (2 * p .count) (λ a. live p (a / 2)) (λ a. memb a w) (λ a h t. in→memb a w (carries a t)),
+          two-each,
+          count-le (2 * p .count) (λ a. links (a / 2)) (λ a. memb a w) (λ a h t. in→memb a w (carries a t)),
           count-memb (2 * p .count) w,
         )
 

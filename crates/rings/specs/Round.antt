@@ -3,13 +3,13 @@ use mathlib.Core.Path.{_≡_}
 use mathlib.Core.Logic.{_↔_}
 use mathlib.Core.Bool.{Bool, true}
 use mathlib.Core.List.{List, map}
-use Prim.Native.Nat.{ℕ, _+_, _*_, _≤_}
+use Prim.Native.Nat.{ℕ, _+_, _*_, _/_, _≤_}
 use lib.Dec.{T}
 use lib.ListN.{length, getD}
 use Rattle.lists.specs.Numbers.{range}
 use Rattle.plant.specs.declared.Plant.{Plant}
 use Rattle.plant.specs.Links.{live}
-use Rattle.walks.specs.Arcs.{head, Arc}
+use Rattle.walks.specs.Arcs.{head}
 use Rattle.rings.specs.Packet.{End, ends, run}
 use Rattle.rings.specs.Rules.{upBy, inAll}
 use Rattle.rings.specs.Injection.{ringOf}
@@ -19,14 +19,14 @@ abbrev pub upByLabel : List ℕ → ℕ → Bool
 upByLabel states a = upBy states a
 
 module _ (p : Plant) where
-  -- every direction is up
-  abbrev pub EveryUp : List ℕ → Type 0
-  EveryUp states = (a : ℕ) → Arc p a → upByLabel states a ≡ true
+  -- every direction of these links is up
+  abbrev pub EveryUp : (ℕ → Bool) → List ℕ → Type 0
+  EveryUp links states = (a : ℕ) → T (links (a / 2)) → upByLabel states a ≡ true
 
-  -- the packet over the labels w, injected at switch s, "comes home exactly if every direction is up", whichever those are, by a byte for each label. "All 2×E arcs have rules
-  -- here"
-  abbrev pub Vouches : ℕ → List ℕ → Type 0
-  Vouches s w = (states : List ℕ) → 2 * p .count ≤ length states → (ends (inAll p) (upByLabel states) (head p) s w ≡ true) ↔ EveryUp states
+  -- the packet over the labels w, injected at switch s, "comes home exactly if every direction is up" of these links, whichever those are, by a byte for each label. "All 2×E
+  -- arcs have rules here"
+  abbrev pub Vouches : (ℕ → Bool) → ℕ → List ℕ → Type 0
+  Vouches links s w = (states : List ℕ) → 2 * p .count ≤ length states → (ends (inAll p) (upByLabel states) (head p) s w ≡ true) ↔ EveryUp links states
 
   -- the run over the round trail w from the place of switch s: its ring
   unfoldable pub roundRun : List ℕ → ℕ → List ℕ → End
