@@ -1,6 +1,8 @@
 -- The three demands, each as one statement over the definitions that the contracts of the calls cite, and the promises of document 02's orders. What demand 3 says of a list
 -- of calls to a search, order 4's promises with it, is `Searches` of probing/specs/Searches, which the contract of `perform` cites too. The proofs are in proofs/.
--- Document 01's links are those in service (document 02, order 7): `live p l` says whether link l is, and `liveLinks p` is E. `p .count` counts all links of the listing.
+-- Document 01's links are those in service (document 02, order 7): `live p l` says whether link l is, `liveLinks p` counts them, and `p .count` all links of the listing. What
+-- document 01 says of a connected plant is said of each component (order 9): `roots p` has the switch at which each begins, `trailOf p` their trails one after another; of a named
+-- switch x, `trailWith p x` is the trail of its component, `linkWith p x l` says whether link l is one of it, and `linksWith p x` is E.
 use mathlib.Core.Path.{_≡_}
 use mathlib.Core.Logic.{_⊎_, _↔_}
 use mathlib.Core.Bool.{Bool, true, false}
@@ -12,8 +14,9 @@ use Rattle.lists.specs.Members.{In, Each, memb, Distinct}
 use Rattle.lists.specs.Count.{count}
 use Rattle.lists.specs.Arrays.{at}
 use Rattle.lists.specs.Numbers.{range, keep}
-use Rattle.lists.specs.Sum.{sum}
-use Rattle.answers.specs.Answers.{Answer, given, refused, _>>=_}
+use Rattle.lists.specs.Sum.{sum, sumOf}
+use Rattle.answers.specs.declared.Refusal.{Refusal}
+use Rattle.answers.specs.Answers.{Answer, given, refused, numberOf, _>>=_}
 use Rattle.answers.specs.Checks.{check, answer, _then_, Answers, AnswersInto}
 use Rattle.plant.specs.declared.Link.{Link}
 use Rattle.plant.specs.declared.Plant.{Plant}
@@ -25,11 +28,13 @@ use Rattle.codec.specs.Part.{part, partBytes}
 use Rattle.listing.specs.Listing.{encode, reading}
 use Rattle.listing.specs.Listing as listing
 use Rattle.listing.specs.Writing.{writing, bufferAfter}
-use Rattle.walks.specs.Arcs.{opposite, tail, head}
-use Rattle.walks.specs.Graph.{Crosses, ClosedWalk, ClosedWalks, Bridge, bridge, liveLinks, bridges, linksAt, enteredFrom, earlierFrom}
+use Rattle.walks.specs.Arcs.{opposite, tail, head, Arc}
+use Rattle.walks.specs.Graph.{Crosses, To, ClosedWalk, ClosedWalks, Bridge, bridge, liveLinks, bridges, linksAt, visitedFrom, enteredFrom, earlierFrom, usedFrom, switchesFrom, linksFrom, bridgesFrom, arcsUsedFrom}
+use Rattle.walks.specs.Components.{rootOf, roots, componentOf, linkWith, linksWith, used, arcsUsed}
 use Rattle.walks.specs.ByLinks.{visitLinks}
-use Rattle.walks.specs.Round.{tourFrom}
+use Rattle.walks.specs.Round.{tourFrom, roundFrom}
 use Rattle.routes.specs.Meaning.{Fewest}
+use Rattle.routes.specs.Plants.{distanceFrom, trailFrom}
 use Rattle.rings.specs.Packet.{End, leadsTo, run}
 use Rattle.rings.specs.Rules.{upBy, upByLink, inAll, allRules}
 use Rattle.rings.specs.Ring.{FirstHop}
@@ -40,10 +45,10 @@ use Rattle.rings.specs.FirstDown.{FirstDown}
 use Rattle.rings.specs.Round.{upByLabel, EveryUp, Vouches, linkBytes}
 use Rattle.table.specs.Rules.{tableWith}
 use Rattle.senders.specs.Senders.{sentBy, pastSenders, bySwitch}
-use Rattle.plan.specs.Plan.{Connected, visited, used, distanceOf, trailOf, roundOf, ruleOf, rulesOf, tableOf, inTable}
+use Rattle.plan.specs.Plan.{distanceOf, trailOf, trailWith, trailBegin, roundOf, roundWith, roundBegin, ruleOf, rulesOf, tableOf, inTable}
 use Rattle.plan.specs.Totals.{Totals}
-use Rattle.plan.specs.Trails.{IsTrail}
-use Rattle.plan.specs.Rounds.{IsRound}
+use Rattle.plan.specs.Trails.{AreTrails}
+use Rattle.plan.specs.Rounds.{AreRounds}
 use Rattle.choosing.specs.declared.Choice.{Choice}
 use Rattle.choosing.specs.Choice.{hopsIn}
 use Rattle.order.specs.declared.Span.{Span}
@@ -52,6 +57,7 @@ use Rattle.packet.specs.Outcome.{outcomeOf}
 use Rattle.allowance.specs.Allowance.{allowance, clipped}
 use Rattle.quantity.specs.Quantity.{orderQuantity}
 use Rattle.search.specs.declared.Search.{Search}
+use Rattle.search.specs.declared.Search.the-variants.{AllUp}
 use Rattle.search.specs.declared.Outcome.{Outcome}
 use Rattle.search.specs.declared.Outcome.the-variants.{Returned}
 use Rattle.search.specs.Search.{newSearch, soundFor, wanted, ended, ask, give}
@@ -61,8 +67,9 @@ use Rattle.sheet.specs.Columns.{lineColumns}
 use Rattle.sheet.specs.Page.{switchLine, totalLine, buyingPage}
 use Rattle.sheet.specs.Form.{formed, readingPage}
 use Rattle.sheet.specs.Shown.{ThreeDigits, Shown}
-use Rattle.planning.specs.Planning.{planning, planningAt}
-use Rattle.planner.specs.Calls.{rewriting, rewritten, rereading, summing, bridging, tabling, counting, trailing, laidOut, roundTrailing, roundLaidOut, buying, boughtOut}
+use Rattle.planning.specs.Components.{zeroComponent, componentsOf}
+use Rattle.planning.specs.Planning.{planningAt}
+use Rattle.planner.specs.Calls.{rewriting, rewritten, rereading, summing, bridging, parting, tabling, counting, trailing, laidOut, roundTrailing, roundLaidOut, buying, boughtOut}
 use Rattle.probing.specs.Calls.{running, checking, roundRunning, choosing, ordering, outLabels, outgoing, probeEnd, probing, link, naming, beginning, performing}
 use Rattle.probing.specs.Searches.{sentOver, actualOutcome, Says, Searches}
 use Rattle.desk.specs.declared.Held.{Held}
@@ -71,7 +78,7 @@ use Rattle.desk.specs.declared.Console.{Console}
 use Rattle.desk.specs.declared.Desk.{Desk}
 use Rattle.desk.specs.Console.{has, setOutOfRange, consoleWith, idle}
 use Rattle.desk.specs.Desk.{freshDesk, consoleOf}
-use Rattle.consoles.specs.Calls.{Request, newSet, start, outcome, asking, calling, serving, served}
+use Rattle.consoles.specs.Calls.{Request, newSet, start, outcome, switchOf, asking, calling, serving, served}
 use Rattle.consoles.specs.Lists.{DeskCall, answerTo, after, afterAll, callsOf, answersOf, since, fedIn}
 
 -- ---- demand 1: each call answers its result, or a refusal exactly under its condition, and a refusal leaves a lent buffer or desk as it was
@@ -85,6 +92,7 @@ pub record Demand1 : Type 0 where
   pub reread : (p : Plant) (b : List ℕ) → AnswersInto (rereading p b) b (bufferAfter p b)
   pub summarize : (s : List ℕ) → Answers (summing s)
   pub find-bridges : (s : List ℕ) → Answers (bridging s)
+  pub find-components : (s : List ℕ) → Answers (parting s)
   pub forwarding-table : (s : List ℕ) → Answers (tabling s)
   pub rules-by-switch : (s : List ℕ) → Answers (counting s)
   pub lay-trail : (s b : List ℕ) → AnswersInto (trailing s b) b (laidOut s b)
@@ -118,20 +126,33 @@ pub record Demand1 : Type 0 where
 
 -- ---- demand 2: the definitions are document 01's, the round trips and the trail
 
--- what bridges, the visit, distances and the trail of a plant that can be planned are, in document 01's words
+-- the components of a plant: what is joined over links in service, and in which order they are planned (document 02, order 9)
+pub record ComponentsAre (p : Plant) : Type 0 where
+  -- switches are of one component exactly if a walk over links in service leads from one to the other
+  pub joined : (x y : ℕ) → x < p .switches → y < p .switches → (rootOf p x ≡ rootOf p y) ↔ To p (Arc p) x y
+  -- each has one root, which is a switch of it
+  pub own : (x : ℕ) → x < p .switches → In (rootOf p x) (roots p) × To p (Arc p) (rootOf p x) x
+  pub once : Distinct (roots p)
+  pub few : length (roots p) ≤ maxSwitches
+  -- "the start's first, begun at the start, the rest by their lowest switch, begun there"
+  pub first : getD (roots p) 0 0 ≡ p .start
+  pub lowest : (i x : ℕ) → 1 ≤ i → i < length (roots p) → x < p .switches → To p (Arc p) (getD (roots p) i 0) x → getD (roots p) i 0 ≤ x
+  pub rising : (i j : ℕ) → 1 ≤ i → i < j → j < length (roots p) → getD (roots p) i 0 < getD (roots p) j 0
+
+-- what components, bridges, the visits, distances and the trails of a plant are, in the papers' words
 pub record PlanIs (p : Plant) : Type 0 where
   pub sound : Sound p
-  pub connected : Connected p
+  pub components : ComponentsAre p
   -- "a bridge is a link without which its two ends are not joined"
   pub bridges : (l : ℕ) → T (live p l) → T (bridge p l) ↔ Bridge p l
-  -- "at each switch the links are tried by rising number, and a link to an unvisited switch is entered before the next is tried"
-  pub visit : visitLinks p (keep (live p) (range 0 (p .count))) (p .switches) (p .start) (record { ord = p .start ∷ []; ent = [] }) ≡ visited p
+  -- "at each switch the links are tried by rising number, and a link to an unvisited switch is entered before the next is tried": so from each root
+  pub visit : (r : ℕ) → In r (roots p) → visitLinks p (keep (live p) (range 0 (p .count))) (p .switches) r (record { ord = r ∷ []; ent = [] }) ≡ visitedFrom p r
   -- "the fewest hops over arcs in use between every two switches"
   pub distances : (u v : ℕ) → u < p .switches → v < p .switches
       → Fewest (p .switches) (2 * p .count) (tail p) (head p) (used p) u v (distanceOf p u v)
-  -- the trail, which is defined leg by leg, is a closed walk from the start over exactly the arcs in use, of at most 20,479 hops
-  pub trail : IsTrail p (trailOf p)
-  pub closed : ClosedWalk p (trailOf p)
+  -- each trail, which is defined leg by leg, is a closed walk from its root over exactly the arcs in use of its component, and all have at most 20,479 hops
+  pub trails : AreTrails p
+  pub closed : ClosedWalks p (map (trailFrom p) (roots p))
 
 -- what the run of a packet is, under any rules and by the labels that are up, those whose link is: from switch `at`, after n hops
 pub record RunIs (rule : ℕ → ℕ → Bool) (up : ℕ → Bool) (hd : ℕ → ℕ) : Type 0 where
@@ -151,24 +172,30 @@ pub record RulesAre (p : Plant) : Type 0 where
   pub all : (at a : ℕ) → (inAll p at a ≡ true) ↔ (T (live p (a / 2)) × (tail p a ≡ at))
   pub number : allRules p ≡ 2 * liveLinks p
 
--- injection at switch x: its place, its ring, the order of links, and probes
+-- injection at switch x: its place, its ring, the order of links, and probes, all in the component of x
 pub record InjectionIs (p : Plant) (x : ℕ) : Type 0 where
+  -- the trail of the component stands among the trails of all, from the hops of those before it on
+  pub stretch : take (length (trailWith p x)) (drop (trailBegin p (componentOf p x)) (trailOf p)) ≡ trailWith p x
   -- "the place is the first hop of the trail that leaves it (0 if the trail is empty)"
-  pub place : 1 ≤ liveLinks p → FirstHop (tail p) x (trailOf p) (placeOf p (trailOf p) x)
-  pub place-empty : trailOf p ≡ [] → placeOf p (trailOf p) x ≡ 0
+  pub place : 1 ≤ linksWith p x → FirstHop (tail p) x (trailWith p x) (placeOf p (trailWith p x) x)
+  pub place-empty : trailWith p x ≡ [] → placeOf p (trailWith p x) x ≡ 0
   -- "the ring is read from there to the trail's end, then from its front"
-  pub ring : ringOf p (trailOf p) x ≡ drop (placeOf p (trailOf p) x) (trailOf p) ++ take (placeOf p (trailOf p) x) (trailOf p)
-  -- "the order of links is by first crossing from that place": each link once, and the earlier in the order is the earlier crossed
-  pub order-each : (l : ℕ) → In l (orderOf p (trailOf p) x) ↔ T (live p l)
-  pub order-once : Distinct (orderOf p (trailOf p) x)
-  pub order-rises : (i j : ℕ) → 1 ≤ i → i < j → j ≤ liveLinks p
-      → length (upTo (nth (orderOf p (trailOf p) x) i) (ringOf p (trailOf p) x)) < length (upTo (nth (orderOf p (trailOf p) x) j) (ringOf p (trailOf p) x))
+  pub ring : ringOf p (trailWith p x) x ≡ drop (placeOf p (trailWith p x) x) (trailWith p x) ++ take (placeOf p (trailWith p x) x) (trailWith p x)
+  -- "an island without links has an empty ring and is All up"
+  pub no-links : linksWith p x ≡ 0 → (ringOf p (trailWith p x) x ≡ []) × (newSearch (linksWith p x) ≡ AllUp)
+  -- "the order of links is by first crossing from that place": each link of the component once, and the earlier in the order is the earlier crossed
+  pub order-each : (l : ℕ) → In l (orderOf p (trailWith p x) x) ↔ T (linkWith p x l)
+  pub order-once : Distinct (orderOf p (trailWith p x) x)
+  pub order-rises : (i j : ℕ) → 1 ≤ i → i < j → j ≤ linksWith p x
+      → length (upTo (nth (orderOf p (trailWith p x) x) i) (ringOf p (trailWith p x) x)) < length (upTo (nth (orderOf p (trailWith p x) x) j) (ringOf p (trailWith p x) x))
+  -- E is how many these are
+  pub links : linksWith p x ≡ count (p .count) (linkWith p x)
   -- "probe m, for 1 ≤ m < E, goes out up to the first crossing of the m-th link and then back over the opposite arcs", under the rules of all arcs
-  pub probe : (up : ℕ → Bool) (m : ℕ) → m < liveLinks p
-      → probeRun p (used p) (trailOf p) x (liveLinks p) up m
-      ≡ run (inAll p) up (head p) x 0 (upTo (nth (orderOf p (trailOf p) x) m) (ringOf p (trailOf p) x) ++ back (upTo (nth (orderOf p (trailOf p) x) m) (ringOf p (trailOf p) x)))
+  pub probe : (up : ℕ → Bool) (m : ℕ) → m < linksWith p x
+      → probeRun p (used p) (trailWith p x) x (linksWith p x) up m
+      ≡ run (inAll p) up (head p) x 0 (upTo (nth (orderOf p (trailWith p x) x) m) (ringOf p (trailWith p x) x) ++ back (upTo (nth (orderOf p (trailWith p x) x) m) (ringOf p (trailWith p x) x)))
   -- "the full check, m = E, is the whole ring", under the rule page alone
-  pub full-check : (up : ℕ → Bool) → probeRun p (used p) (trailOf p) x (liveLinks p) up (liveLinks p) ≡ run (inTable p) up (head p) x 0 (ringOf p (trailOf p) x)
+  pub full-check : (up : ℕ → Bool) → probeRun p (used p) (trailWith p x) x (linksWith p x) up (linksWith p x) ≡ run (inTable p) up (head p) x 0 (ringOf p (trailWith p x) x)
 
 pub record Demand2 : Type 0 where
   -- what was read is written as the bytes that were read, and what was written is read as the plant that was written
@@ -179,13 +206,12 @@ pub record Demand2 : Type 0 where
       → (answer (rewriting s b) ≡ given (length s)) × (rewritten s b ≡ s ++ drop (length s) b)
   pub reread : (p : Plant) (b : List ℕ) → Sound p → length (encode p) ≤ length b
       → (answer (rereading p b) ≡ given p) × (bufferAfter p b ≡ encode p ++ drop (length (encode p)) b)
-  -- what is read is sound, and 9 is its refusal exactly if some switch can't be reached from the start
+  -- what is read is sound
   pub sound : (s : List ℕ) (p : Plant) → Bytes s → answer (reading s) ≡ given p → Sound p
-  pub unreached : (s : List ℕ) → Bytes s → (answer (planning s) ≡ refused 9) ↔ ((p : Plant) × (answer (reading s) ≡ given p) × (Connected p → ⊥))
-  -- the plan of a listing is document 01's
-  pub plan : (s : List ℕ) (p : Plant) → Bytes s → answer (planning s) ≡ given p → PlanIs p
-  -- a buffer with enough places begins with the whole trail, and places past it stay
-  pub laid : (s b : List ℕ) (p : Plant) → answer (planning s) ≡ given p → length (trailOf p) ≤ length b
+  -- the plan of a listing is document 01's, component by component
+  pub plan : (s : List ℕ) (p : Plant) → Bytes s → answer (reading s) ≡ given p → PlanIs p
+  -- "trails follow one another in the buffer": one with enough places begins with them, and places past them stay
+  pub laid : (s b : List ℕ) (p : Plant) → answer (reading s) ≡ given p → length (trailOf p) ≤ length b
       → (answer (trailing s b) ≡ given (length (trailOf p))) × (laidOut s b ≡ trailOf p ++ drop (length (trailOf p)) b)
   -- packets, rules and probes are document 01's
   pub run : (rule : ℕ → ℕ → Bool) (up : ℕ → Bool) (hd : ℕ → ℕ) → RunIs rule up hd
@@ -202,28 +228,30 @@ ruleLabels p = map (λ r. r .label) (rulesOf p)
 abbrev pub arcsCrossed : Plant → List ℕ → ℕ
 arcsCrossed p w = count (2 * p .count) (λ a. memb a w)
 
--- "for a connected plant its rules are those for the arcs that the trail crosses, they number its links plus its bridges, and every closed walk that crosses every
--- link at least once, either way, uses at least as many different directed arcs"
+-- "its rules are those for the arcs that the trail crosses, they number its links plus its bridges", and they are "the fewest that any set of closed walks crossing every link in
+-- service can use"
 pub record RulePage (p : Plant) : Type 0 where
-  -- a rule is the sending switch, the label and the receiving switch of its arc; there is one for each arc that the trail crosses, and no other
+  -- a rule is the sending switch, the label and the receiving switch of its arc; there is one for each arc that the trails cross, and no other
   pub of-arcs : rulesOf p ≡ map (ruleOf p) (ruleLabels p)
   pub crossed : (a : ℕ) → In a (ruleLabels p) ↔ In a (trailOf p)
   pub once : Distinct (ruleLabels p)
   pub number : length (rulesOf p) ≡ liveLinks p + bridges p
-  pub fewest : (w : List ℕ) → ClosedWalk p w → ((l : ℕ) → T (live p l) → Crosses l w) → length (rulesOf p) ≤ arcsCrossed p w
-  -- so do several closed walks that together cross every link in service
-  pub together : (ws : List (List ℕ)) → ClosedWalks p ws → ((l : ℕ) → T (live p l) → Crosses l (flatten ws)) → length (rulesOf p) ≤ arcsCrossed p (flatten ws)
+  -- every list of closed walks which together cross every link in service, either way, uses at least as many different directed arcs; one closed walk is such a list
+  pub fewest : (ws : List (List ℕ)) → ClosedWalks p ws → ((l : ℕ) → T (live p l) → Crosses l (flatten ws)) → length (rulesOf p) ≤ arcsCrossed p (flatten ws)
+  pub fewest-one : (w : List ℕ) → ClosedWalk p w → ((l : ℕ) → T (live p l) → Crosses l w) → length (rulesOf p) ≤ arcsCrossed p w
+  -- the trails are such a list, and use just as many
+  pub attained : ClosedWalks p (map (trailFrom p) (roots p)) × ((l : ℕ) → T (live p l) → Crosses l (trailOf p)) × (arcsCrossed p (trailOf p) ≡ length (rulesOf p))
 
--- for every listing that is read as a connected plant
+-- for every listing that is read as a plant
 pub record Demand3 (s : List ℕ) (p : Plant) : Type 0 where
   -- "the rule page is document 01's"
   pub page : answer (tabling s) ≡ given (tableWith (rulesOf p))
   pub rules : RulePage p
   -- "for every list of calls that ask for a probe or give a fate, refused ones included, after a new search over E links from any injection switch": the search begins, the
   -- calls lead to r, and what holds of r is one statement, `Searches` of probing/specs/Searches
-  pub begins : (x : ℕ) → x < p .switches → answer (beginning s x) ≡ given (newSearch (liveLinks p))
-  pub performs : (x : ℕ) → x < p .switches → (cs : List Call) → answer (performing s x cs) ≡ given (perform (begun (liveLinks p)) cs)
-  pub searches : (x : ℕ) → x < p .switches → (cs : List Call) → Searches p x cs (perform (begun (liveLinks p)) cs)
+  pub begins : (x : ℕ) → x < p .switches → answer (beginning s x) ≡ given (newSearch (linksWith p x))
+  pub performs : (x : ℕ) → x < p .switches → (cs : List Call) → answer (performing s x cs) ≡ given (perform (begun (linksWith p x)) cs)
+  pub searches : (x : ℕ) → x < p .switches → (cs : List Call) → Searches p x cs (perform (begun (linksWith p x)) cs)
 
 -- ---- document 02, order 1: where the packet got to
 
@@ -241,24 +269,24 @@ pub record GotTo (rule : ℕ → ℕ → Bool) (up : ℕ → Bool) (hd : ℕ →
 -- what the answer e of probe m tells, from injection switch x and by one byte for each link; `outLabels p x m` is its way out, for the full check the whole ring
 pub record ProbeGotTo (p : Plant) (x : ℕ) (states : List ℕ) (m : ℕ) (e : End) : Type 0 where
   -- one that has returned is back at its switch, and "the way back counts on": as many hops as out; the full check has no way back
-  pub there-and-back : m < liveLinks p → e .ended ≡ true → e ≡ record { ended = true; hops = 2 * length (outLabels p x m); last = x }
-  pub round : m ≡ liveLinks p → e .ended ≡ true → e ≡ record { ended = true; hops = length (ringOf p (trailOf p) x); last = x }
+  pub there-and-back : m < linksWith p x → e .ended ≡ true → e ≡ record { ended = true; hops = 2 * length (outLabels p x m); last = x }
+  pub round : m ≡ linksWith p x → e .ended ≡ true → e ≡ record { ended = true; hops = length (ringOf p (trailWith p x) x); last = x }
   -- one that is lost is lost on its way out, since it comes back over the links that it went out by
   pub lost-out : e .ended ≡ false → (e .hops < length (outLabels p x m)) × (e .last ≡ leadsTo (head p) x (take (e .hops) (outLabels p x m)))
   -- the label that it did not cross is of the first broken link in the order, which is the one that the search names
-  pub lost-at : e .ended ≡ false → (k : ℕ) × FirstDown (upBy states) (orderOf p (trailOf p) x) k × (nth (orderOf p (trailOf p) x) k ≡ getD (outLabels p x m) (e .hops) 0 / 2)
+  pub lost-at : e .ended ≡ false → (k : ℕ) × FirstDown (upBy states) (orderOf p (trailWith p x) x) k × (nth (orderOf p (trailWith p x) x) k ≡ getD (outLabels p x m) (e .hops) 0 / 2)
 
--- for every listing that is read as a connected plant, and every one of its switches: what the calls that run a packet tell
+-- for every listing that is read as a plant, and every one of its switches: what the calls that run a packet tell
 pub record PacketsTell (s : List ℕ) (p : Plant) (x : ℕ) : Type 0 where
   -- whatever labels are up: with all labels of its way out crossed, a probe goes back from where they lead, and counts on from as many hops as they are
-  pub counts-on : (up : ℕ → Bool) (m : ℕ) → m < liveLinks p → run (inAll p) up (head p) x 0 (outLabels p x m) .ended ≡ true
-      → probeRun p (used p) (trailOf p) x (liveLinks p) up m ≡ run (inAll p) up (head p) (leadsTo (head p) x (outLabels p x m)) (length (outLabels p x m)) (back (outLabels p x m))
+  pub counts-on : (up : ℕ → Bool) (m : ℕ) → m < linksWith p x → run (inAll p) up (head p) x 0 (outLabels p x m) .ended ≡ true
+      → probeRun p (used p) (trailWith p x) x (linksWith p x) up m ≡ run (inAll p) up (head p) (leadsTo (head p) x (outLabels p x m)) (length (outLabels p x m)) (back (outLabels p x m))
   -- the answers of the calls: packets of free labels and the full check run under the rule page, every other probe under the rules of all arcs
   pub run : (labels states : List ℕ) (e : End) → answer (running s x labels states) ≡ given e → GotTo (inTable p) (upByLink states) (head p) x labels e
   pub full-check : (w states : List ℕ) (e : End) → answer (checking s x w states) ≡ given e
-      → GotTo (inTable p) (upByLink states) (head p) x (ringOf p (trailOf p) x) e × ProbeGotTo p x states (liveLinks p) e
+      → GotTo (inTable p) (upByLink states) (head p) x (ringOf p (trailWith p x) x) e × ProbeGotTo p x states (linksWith p x) e
   pub run-probe : (w states : List ℕ) (q : Search) (e : End) → answer (probing s x w states q) ≡ given e
-      → GotTo (probeRules p (used p) (liveLinks p) (wanted q)) (upByLink states) (head p) x (probeOf p (trailOf p) x (liveLinks p) (wanted q)) e
+      → GotTo (probeRules p (used p) (linksWith p x) (wanted q)) (upByLink states) (head p) x (probeOf p (trailWith p x) x (linksWith p x) (wanted q)) e
       × ProbeGotTo p x states (wanted q) e
   -- "who used the old two-way fate reads it out of the new one": it is the one that demand 3 speaks of
   pub outcome : (w states : List ℕ) (q : Search) (e : End) → answer (probing s x w states q) ≡ given e → outcomeOf e ≡ actualOutcome p x states (wanted q)
@@ -272,7 +300,7 @@ pub record SameTotals (p : Plant) : Type 0 where
   -- "both totals must be the same number for every plant": that over switches, and that over labels
   pub same : sum (pastSenders (rulesOf p)) (sentBy (rulesOf p)) ≡ count (2 * p .count) (used p)
 
--- for every listing that is read as a connected plant
+-- for every listing that is read as a plant
 pub record BySwitches (s : List ℕ) (p : Plant) : Type 0 where
   pub answers : answer (counting s) ≡ given (bySwitch (tableOf p))
   -- a number for each of the S switches, zeros from S on; the total over the S switches is that over labels, and links plus bridges
@@ -283,7 +311,7 @@ pub record BySwitches (s : List ℕ) (p : Plant) : Type 0 where
 
 -- ---- document 02, order 3: the buying page
 
--- for every listing s that is read as a connected plant p, and every spare that is not refused: what the page of the counts c is
+-- for every listing s that is read as a plant p, and every spare that is not refused: what the page of the counts c is
 pub record PageWritten (s : List ℕ) (p : Plant) (spare : ℕ) (c : Sheet) : Type 0 where
   -- the rules of each switch are order 2's, and the links at it the plant's own; each link is at two switches
   pub switches : c .switches ≡ p .switches
@@ -319,49 +347,51 @@ pub record PageForm (b : List ℕ) : Type 0 where
 
 -- ---- document 02, order 6: links that fail one way
 
--- for every listing s that is read as a connected plant p: its round trail, of 2×E hops
+-- for every listing s that is read as a plant p: its round trails, of two hops to each link in service
 pub record RoundTrail (s : List ℕ) (p : Plant) : Type 0 where
-  -- "visit as in document 01": the switches and the entered arcs that it goes by are those of the plan
-  pub visit : tourFrom p (p .start) .seen ≡ visited p
+  -- "visit as in document 01": the switches and the entered arcs that each goes by are those of the plan
+  pub visit : (r : ℕ) → In r (roots p) → tourFrom p r .seen ≡ visitedFrom p r
   -- a link that is not entered "is crossed and crossed back from the end where it is first met": its later visited end, and at once
-  pub first-met : (x y : List ℕ) (a : ℕ) → roundOf p ≡ x ++ (a ∷ y) → (In (opposite a) x → ⊥) → (T (enteredFrom p (p .start) (a / 2)) → ⊥)
-      → T (earlierFrom p (p .start) (head p a) (tail p a)) × ((z : List ℕ) × (y ≡ opposite a ∷ z))
-  -- "a round trail that crosses each of the 2×E arcs just once"
-  pub is : IsRound p (roundOf p)
-  -- "no closed walk with that property", that its packet comes home exactly if every direction is up, "has fewer hops", wherever the packet is injected
-  pub fewest : (x : ℕ) (w : List ℕ) → ClosedWalk p w → Vouches p x w → length (roundOf p) ≤ length w
-  -- a buffer with enough places begins with it, and places past it stay; one with fewer is 10
+  pub first-met : (r : ℕ) → In r (roots p) → (x y : List ℕ) (a : ℕ) → roundFrom p r ≡ x ++ (a ∷ y) → (In (opposite a) x → ⊥) → (T (enteredFrom p r (a / 2)) → ⊥)
+      → T (earlierFrom p r (head p a) (tail p a)) × ((z : List ℕ) × (y ≡ opposite a ∷ z))
+  -- "a round trail that crosses each of the 2×E arcs just once": so each of its component, and all together of the plant
+  pub are : AreRounds p
+  -- "no closed walk with that property", that its packet comes home exactly if every direction of a component is up, "has fewer hops", wherever the packet is injected
+  pub fewest : (x y : ℕ) (w : List ℕ) → x < p .switches → ClosedWalk p w → Vouches p (linkWith p x) y w → length (roundWith p x) ≤ length w
+  -- "round trails are made and laid likewise": a buffer with enough places begins with them, and places past them stay; one with fewer is 10
   pub laid : (b : List ℕ) → 2 * liveLinks p ≤ length b
       → (answer (roundTrailing s b) ≡ given (2 * liveLinks p)) × (roundLaidOut s b ≡ roundOf p ++ drop (2 * liveLinks p) b)
   pub too-short : (b : List ℕ) → length b < 2 * liveLinks p → answer (roundTrailing s b) ≡ refused 10
 
--- for every switch x of it: the round run
+-- for every switch x of it: the round run, over the round trail of its component
 pub record RoundRun (s : List ℕ) (p : Plant) (x : ℕ) : Type 0 where
-  -- it begins at the place of the switch on the round trail; at the start that is the round trail itself
-  pub place : 1 ≤ liveLinks p → FirstHop (tail p) x (roundOf p) (placeOf p (roundOf p) x)
-  pub at-start : x ≡ p .start → ringOf p (roundOf p) x ≡ roundOf p
-  -- "its packet comes home exactly if every direction is up"
-  pub vouches : Vouches p x (ringOf p (roundOf p) x)
-  -- "a lent trail may have spare places here": the round trail with any places after it is taken, with a byte for each label at least
+  -- that stands among the round trails of all, from the hops of those before it on
+  pub stretch : take (length (roundWith p x)) (drop (roundBegin p (componentOf p x)) (roundOf p)) ≡ roundWith p x
+  -- it begins at the place of the switch on it; at the root that is the round trail itself
+  pub place : 1 ≤ linksWith p x → FirstHop (tail p) x (roundWith p x) (placeOf p (roundWith p x) x)
+  pub at-root : x ≡ rootOf p x → ringOf p (roundWith p x) x ≡ roundWith p x
+  -- "its packet comes home exactly if every direction is up": it "vouches for its island alone"
+  pub vouches : Vouches p (linkWith p x) x (ringOf p (roundWith p x) x)
+  -- "a lent trail may have spare places here": the round trails with any places after them are taken, with a byte for each label at least
   pub taken : (spare states : List ℕ) → 2 * p .count ≤ length states → (e : End) × (answer (roundRunning s x (roundOf p ++ spare) states) ≡ given e)
-  -- and whatever was lent, the answer is of the round trail's own hops
-  pub home : (w states : List ℕ) (e : End) → answer (roundRunning s x w states) ≡ given e → (e .ended ≡ true) ↔ EveryUp p states
+  -- and whatever was lent, the answer is of the component's own hops
+  pub home : (w states : List ℕ) (e : End) → answer (roundRunning s x w states) ≡ given e → (e .ended ≡ true) ↔ EveryUp p (linkWith p x) states
   pub back-home : (w states : List ℕ) (e : End) → answer (roundRunning s x w states) ≡ given e → e .ended ≡ true
-      → e ≡ record { ended = true; hops = 2 * liveLinks p; last = x }
+      → e ≡ record { ended = true; hops = 2 * linksWith p x; last = x }
   pub got-to : (w states : List ℕ) (e : End) → answer (roundRunning s x w states) ≡ given e
-      → GotTo (inAll p) (upByLabel states) (head p) x (ringOf p (roundOf p) x) e
+      → GotTo (inAll p) (upByLabel states) (head p) x (ringOf p (roundWith p x) x) e
 
--- the choice "for the ordinary check", from a switch x
+-- the choice "for the ordinary check", from a switch x, "within a named switch's island"
 pub record ShorterTrail (s : List ℕ) (p : Plant) (x : ℕ) : Type 0 where
-  -- both trails are taken with any places after them
+  -- the trails and the round trails of all components are taken with any places after them
   pub taken : (spare spare′ : List ℕ) → (c : Choice) × (answer (choosing s x (trailOf p ++ spare) (roundOf p ++ spare′)) ≡ given c)
   -- what is handed back of two lent trails is "the trail's own stretch of whichever of the two lent trails has fewer hops, document 01's if equal", and no spare place
-  pub trail : (w v : List ℕ) (c : Choice) → answer (choosing s x w v) ≡ given c → length (trailOf p) ≤ length (roundOf p) → hopsIn w v c ≡ trailOf p
-  pub round : (w v : List ℕ) (c : Choice) → answer (choosing s x w v) ≡ given c → length (roundOf p) < length (trailOf p) → hopsIn w v c ≡ roundOf p
+  pub trail : (w v : List ℕ) (c : Choice) → answer (choosing s x w v) ≡ given c → length (trailWith p x) ≤ length (roundWith p x) → hopsIn w v c ≡ trailWith p x
+  pub round : (w v : List ℕ) (c : Choice) → answer (choosing s x w v) ≡ given c → length (roundWith p x) < length (trailWith p x) → hopsIn w v c ≡ roundWith p x
 
 -- how probe m comes out by a byte for each label
 abbrev pub endByLabel : Plant → ℕ → List ℕ → ℕ → End
-endByLabel p x states m = probeRun p (used p) (trailOf p) x (liveLinks p) (upByLabel states) m
+endByLabel p x states m = probeRun p (used p) (trailWith p x) x (linksWith p x) (upByLabel states) m
 
 -- "searches keep one byte a link, and their verdicts hold for links whose two directions are up or down together": from injection switch x, by states of labels that are so
 -- (`Together` of rings/specs/Round)
@@ -372,9 +402,9 @@ pub record ByLabel (p : Plant) (x : ℕ) (states : List ℕ) : Type 0 where
   pub runs : (m : ℕ) → endByLabel p x states m ≡ probeEnd p x (linkBytes p states) m
   -- and after any list of calls, with demand 3's two premises on its sendings by the runs by label, the verdict is demand 3's
   pub says : (cs : List Call)
-      → Each (TrueSending (λ m. outcomeOf (endByLabel p x states m) ≡ Returned)) (sentOver p cs)
-      → OneReturns (λ m. outcomeOf (endByLabel p x states m) ≡ Returned) (sentOver p cs)
-      → ended (perform (begun (liveLinks p)) cs .state) ≡ true → Says p x (linkBytes p states) (perform (begun (liveLinks p)) cs .state)
+      → Each (TrueSending (λ m. outcomeOf (endByLabel p x states m) ≡ Returned)) (sentOver p x cs)
+      → OneReturns (λ m. outcomeOf (endByLabel p x states m) ≡ Returned) (sentOver p x cs)
+      → ended (perform (begun (linksWith p x)) cs .state) ≡ true → Says p x (linkBytes p states) (perform (begun (linksWith p x)) cs .state)
 
 -- ---- document 02, order 7: links laid up, here out of service
 
@@ -402,7 +432,7 @@ pub record Marks : Type 0 where
   -- the longest listing has document 01's length: a mark takes no byte
   pub longest : (s : List ℕ) (p : Plant) → answer (reading s) ≡ given p → length s ≤ 1285
 
--- for every listing s that is read as a connected plant p, and a link l of it that is marked
+-- for every listing s that is read as a plant p, and a link l of it that is marked
 pub record OutOfService (s : List ℕ) (p : Plant) (l : ℕ) : Type 0 where
   -- "it joins nothing", so that it is no bridge, whatever its ends are
   pub no-bridge : bridge p l ≡ false
@@ -410,10 +440,10 @@ pub record OutOfService (s : List ℕ) (p : Plant) (l : ℕ) : Type 0 where
   pub no-trail : Crosses l (trailOf p) → ⊥
   pub no-round : Crosses l (roundOf p) → ⊥
   pub no-closed-walk : (w : List ℕ) → ClosedWalk p w → Crosses l w → ⊥
-  pub no-probe : (x : ℕ) → x < p .switches → (m : ℕ) → Crosses l (probeOf p (trailOf p) x (liveLinks p) m) → ⊥
+  pub no-probe : (x : ℕ) → x < p .switches → (m : ℕ) → Crosses l (probeOf p (trailWith p x) x (linksWith p x) m) → ⊥
   pub no-rule : (a at : ℕ) → a / 2 ≡ l → (In a (ruleLabels p) → ⊥) × (inTable p at a ≡ false) × (inAll p at a ≡ false)
   -- a search is over the others: it is not in their order, and is never named, by whatever search
-  pub no-order : (x : ℕ) → x < p .switches → In l (orderOf p (trailOf p) x) → ⊥
+  pub no-order : (x : ℕ) → x < p .switches → In l (orderOf p (trailWith p x) x) → ⊥
   pub not-named : (x : ℕ) (w : List ℕ) (q : Search) → answer (naming s x w q) ≡ given (link l) → ⊥
 
 -- two lists of state bytes, one for each link number in both, that tell the same of the links in service: those of the others may differ
@@ -426,7 +456,7 @@ pub record SameByLabel (p : Plant) (states states′ : List ℕ) : Type 0 where
   pub enough : (2 * p .count ≤ length states) × (2 * p .count ≤ length states′)
   pub same : (a : ℕ) → T (live p (a / 2)) → upByLabel states a ≡ upByLabel states′ a
 
--- for every listing s that is read as a connected plant p, and one of its switches x
+-- for every listing s that is read as a plant p, and one of its switches x
 pub record StatesOf (s : List ℕ) (p : Plant) (x : ℕ) : Type 0 where
   -- "state bytes still cover every link number", in the round run every label: with fewer, and the plant's own trail, the answer is 13
   pub cover : (labels states : List ℕ) → length states < p .count → answer (running s x labels states) ≡ refused 13
@@ -458,17 +488,18 @@ pub record Sets : Type 0 where
   pub fresh : (k : ℕ) → k ≤ 3 → consoleOf freshDesk k ≡ idle
   pub empty : (x : ℕ) → has (idle .set) x ≡ false
 
--- for a console k of the four, and a listing s that is read as a connected plant p: what a call does goes by S and E of p
+-- for a console k of the four, and a listing s that is read as a plant p: what a call does goes by S of p, and by E of the component of the switch that it goes by, that of a
+-- start or of its search
 pub record ConsoleCalls (k : ℕ) (s : List ℕ) (p : Plant) : Type 0 where
-  pub asks : (r : Request) (c : Console) → answer (calling k s r c) ≡ answer (asking (p .switches) (liveLinks p) r c)
+  pub asks : (r : Request) (c : Console) → answer (calling k s r c) ≡ answer (asking (p .switches) (linksWith p (switchOf r c)) r c)
   -- "a console replaces its set": its search stays as it is, whatever it is
   pub keeps-search : (set : ℕ) (c a : Console) → answer (calling k s (newSet set) c) ≡ given a → a ≡ consoleWith set (c .search)
   -- "starts a search, which replaces its own", whatever that is; "injection must be at a switch of its set"
   pub replaces : (x set : ℕ) (h h′ : Held) → answer (calling k s (start x) (consoleWith set h)) ≡ answer (calling k s (start x) (consoleWith set h′))
   pub in-set : (x : ℕ) (c a : Console) → answer (calling k s (start x) c) ≡ given a
-      → (x < p .switches) × (has (c .set) x ≡ true) × (a ≡ consoleWith (c .set) (From x (newSearch (liveLinks p))))
+      → (x < p .switches) × (has (c .set) x ≡ true) × (a ≡ consoleWith (c .set) (From x (newSearch (linksWith p x))))
   -- "or gives a fate to it": a search at a switch of the set that is sound for the listing is fed as by its own call, 14 and 15 included
-  pub feeds : (o : Outcome) (set x : ℕ) (q : Search) → setOutOfRange (p .switches) set ≡ false → x < p .switches → has set x ≡ true → soundFor (liveLinks p) q ≡ true
+  pub feeds : (o : Outcome) (set x : ℕ) (q : Search) → setOutOfRange (p .switches) set ≡ false → x < p .switches → has set x ≡ true → soundFor (linksWith p x) q ≡ true
       → answer (calling k s (outcome o) (consoleWith set (From x q))) ≡ (answer (give q o) >>= λ r. given (consoleWith set (From x r)))
   -- "refusal 15 if it has none", right after 20
   pub no-search : (o : Outcome) (set : ℕ) → setOutOfRange (p .switches) set ≡ false → answer (calling k s (outcome o) (consoleWith set Nothing)) ≡ refused 15
@@ -498,8 +529,63 @@ pub record ConsoleSearch (k : ℕ) (d : Desk) (cs : List DeskCall) (s : List ℕ
   pub plant : Plant
   pub planned : answer (planningAt s x) ≡ given plant
   -- the console has the search from x to which the outcomes lead
-  pub stands : consoleOf (afterAll d cs) k .search ≡ From x (perform (begun (liveLinks plant)) os .state)
-  pub searches : Searches plant x os (perform (begun (liveLinks plant)) os)
+  pub stands : consoleOf (afterAll d cs) k .search ≡ From x (perform (begun (linksWith plant x)) os .state)
+  pub searches : Searches plant x os (perform (begun (linksWith plant x)) os)
 
 abbrev pub ConsoleSearches : Type 0
 ConsoleSearches = (k : ℕ) → k ≤ 3 → (d : Desk) (cs : List DeskCall) (s : List ℕ) (x : ℕ) (os : List Call) → Bytes s → fedIn k d cs ≡ since s x os → ConsoleSearch k d cs s x os
+
+-- ---- document 02, order 9: plants in several islands, here components
+
+-- "9 never occurs": no refusal has its number, so that no call can answer it
+abbrev pub NeverNine : Type 0
+NeverNine = (k : Refusal) → numberOf k ≡ 9 → ⊥
+
+-- for every listing s that is read as a plant p: its components as a call answers them
+pub record Parted (s : List ℕ) (p : Plant) : Type 0 where
+  pub answers : answer (parting s) ≡ given (componentsOf p)
+  -- how many, and for each its root, where its trail begins among the trails of all and its hops, and the same of its round trail; the places past them are zero
+  pub number : componentsOf p .count ≡ length (roots p)
+  pub each : (i : ℕ) → i < length (roots p) → getD (componentsOf p .list) i zeroComponent ≡ record {
+      first = getD (roots p) i 0;
+      begin = trailBegin p i;
+      hops = length (trailFrom p (getD (roots p) i 0));
+      «round_begin» = roundBegin p i;
+      «round_hops» = length (roundFrom p (getD (roots p) i 0));
+    }
+  pub zeros : (i : ℕ) → length (roots p) ≤ i → getD (componentsOf p .list) i zeroComponent ≡ zeroComponent
+  -- each begins where those before it end, the first at 0
+  pub begin-first : (trailBegin p 0 ≡ 0) × (roundBegin p 0 ≡ 0)
+  pub begin-next : (i : ℕ) → i < length (roots p)
+      → (trailBegin p (suc i) ≡ trailBegin p i + length (trailFrom p (getD (roots p) i 0))) × (roundBegin p (suc i) ≡ roundBegin p i + length (roundFrom p (getD (roots p) i 0)))
+  -- the component of a switch, by its number
+  pub component : (x : ℕ) → x < p .switches → (componentOf p x < length (roots p)) × (getD (roots p) (componentOf p x) 0 ≡ rootOf p x)
+  -- "bridges and totals are over all": the links, the bridges, the arcs in use and the switches of the components are those of the plant
+  pub sums : (sumOf (map (linksFrom p) (roots p)) ≡ liveLinks p) × (sumOf (map (bridgesFrom p) (roots p)) ≡ bridges p)
+      × (sumOf (map (arcsUsedFrom p) (roots p)) ≡ arcsUsed p) × (sumOf (map (switchesFrom p) (roots p)) ≡ p .switches)
+
+-- a link l that is not of the component of a switch x, be it of another or out of service
+pub record Elsewhere (s : List ℕ) (p : Plant) (x l : ℕ) : Type 0 where
+  -- "a link elsewhere or laid up is never its broken one"
+  pub not-named : (w : List ℕ) (q : Search) → answer (naming s x w q) ≡ given (link l) → ⊥
+  pub no-order : In l (orderOf p (trailWith p x) x) → ⊥
+  pub no-ring : Crosses l (ringOf p (trailWith p x) x) → ⊥
+  pub no-round : Crosses l (ringOf p (roundWith p x) x) → ⊥
+
+-- a switch x whose component has no links: "an empty ring", "All up", and a full check that ends at once
+pub record NoLinks (s : List ℕ) (p : Plant) (x : ℕ) : Type 0 where
+  pub all-up : answer (beginning s x) ≡ given AllUp
+  pub full-check : (states : List ℕ) → p .count ≤ length states → answer (checking s x (trailOf p) states) ≡ given (record { ended = true; hops = 0; last = x })
+  pub round-run : (spare states : List ℕ) → 2 * p .count ≤ length states → answer (roundRunning s x (roundOf p ++ spare) states) ≡ given (record { ended = true; hops = 0; last = x })
+
+-- "for a connected plant every earlier output remains": its one component is the plant, and every definition that this order changed is what it was, from the start and over all
+-- links in service
+pub record OneComponent (p : Plant) : Type 0 where
+  pub roots : roots p ≡ p .start ∷ []
+  pub used : used p ≡ usedFrom p (p .start)
+  pub distances : (u v : ℕ) → distanceOf p u v ≡ distanceFrom p (p .start) u v
+  pub trail : trailOf p ≡ trailFrom p (p .start)
+  pub round : roundOf p ≡ roundFrom p (p .start)
+  pub trail-with : (x : ℕ) → x < p .switches → (trailWith p x ≡ trailOf p) × (trailBegin p (componentOf p x) ≡ 0)
+  pub round-with : (x : ℕ) → x < p .switches → (roundWith p x ≡ roundOf p) × (roundBegin p (componentOf p x) ≡ 0)
+  pub links : (x : ℕ) → x < p .switches → (linksWith p x ≡ liveLinks p) × ((l : ℕ) → linkWith p x l ≡ live p l)

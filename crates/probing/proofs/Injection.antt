@@ -11,21 +11,20 @@ use lib.ListN.{length}
 use Rattle.lists.specs.Members.{In, memb}
 use Rattle.lists.proofs.Members.{memb→in, in→memb}
 use Rattle.lists.proofs.Count.{count-le, count-all, distinct-count}
-use Rattle.lists.proofs.Tests.{and-left}
 use Rattle.plant.specs.declared.Plant.{Plant}
-use Rattle.plant.specs.Links.{first, second, live}
 use Rattle.limits.specs.Limits.{maxLinks}
 use Rattle.limits.specs.Sound.{Sound}
 use Rattle.walks.specs.Walk.{Walk}
-use Rattle.walks.specs.Arcs.{tail, head, Arc, Valid}
+use Rattle.walks.specs.Arcs.{tail, head, Valid}
 use Rattle.walks.specs.Graph.{reachedFrom}
 use Rattle.walks.specs.Components.{rootOf, roots, linkWith, linksWith, used}
 use Rattle.walks.proofs.Valid.{sound-valid}
 use Rattle.walks.proofs.Live.{live-below}
-use Rattle.walks.proofs.Labels.{even-half, odd-half, tail-even, tail-odd, tail-in, ends}
-use Rattle.walks.proofs.Components.{root-in, root-own, root-reaches, root-listed, reaches-root, reached-root, link-roots, link-with, links-with}
-use Rattle.plan.specs.Plan.{trailWith}
+use Rattle.walks.proofs.Labels.{even-half, odd-half, tail-in}
+use Rattle.walks.proofs.Components.{root-reaches, root-listed, reaches-root, link-with, arc-with, links-with}
+use Rattle.plan.specs.Plan.{trailWith, roundWith}
 use Rattle.plan.proofs.Plan.{used-arc, strongly-connected, one-used}
+use Rattle.plan.proofs.Rounds.{round-from}
 use Rattle.plan.proofs.Trails.{trail-from, trail-closed}
 use Rattle.rings.specs.Packet.{byLink}
 use Rattle.rings.specs.Injection.{orderOf, probeRun}
@@ -66,30 +65,19 @@ module _ (p : Plant) (ok : Sound p) (x : ℕ) (x-in : x < p .switches) where
   pub ring-at : RingAt p w x
   ring-at = record { closed = trail-closed p ok (rootOf p x) root-among; leaves = leaves w (λ a i. i) }
 
+  -- each link that it crosses is one of the component
+  pub trail-links : (a : ℕ) → In a w → T (linkWith p x (a / 2))
+  trail-links a i = let u = exactly a .0 i in arc-with p valid (ok .start-in) x a x-in .0 (u .0, used-arc p a (u .1))
+
   -- the order has each link in service of the component
   pub order-links : (l : ℕ) → In l (orderOf p w x) ↔ T (linkWith p x l)
-  order-links l = (λ h. let c = order-crosses p w x l .0 h in subst (λ (k : ℕ). T (linkWith p x k)) (c .2) (to (c .0) (c .1)), λ t. let q = link-with p valid (ok .start-in) x l x-in .0 t in from (q .0) (q .1) (one-used p ok l (q .0)))
+  order-links l = (
+    λ h. let c = order-crosses p w x l .0 h in subst (λ (k : ℕ). T (linkWith p x k)) (c .2) (trail-links (c .0) (c .1)),
+    λ t. ⊎-elim (λ u. on (2 * l) u (even-half l) t) (λ u. on (2 * l + 1) u (odd-half l) t) (one-used p ok l (link-with p valid (ok .start-in) x l x-in .0 t .0)),
+  )
     where
-      to : (a : ℕ) → In a w → T (linkWith p x (a / 2))
-      to a i =
-          let u = exactly a .0 i in
-          let arc = used-arc p a (u .1) in
-          link-with p valid (ok .start-in) x (a / 2) x-in .1 (arc, ⊎-elim (λ e. subst (λ (y : ℕ). T (reachedFrom p (rootOf p x) y)) (e .0) (u .0)) (λ e. other arc (subst (λ (y : ℕ). T (reachedFrom p (rootOf p x) y)) (e .0) (u .0))) (ends p a))
-        where
-          other : T (live p (a / 2)) → T (reachedFrom p (rootOf p x) (second p (a / 2))) → T (reachedFrom p (rootOf p x) (first p (a / 2)))
-          other alive t =
-              reached-root p valid (ok .start-in) (rootOf p x) (first p (a / 2)) (root-in p valid (ok .start-in) x x-in) (root-own p valid (ok .start-in) x x-in) .1
-              (valid .first-in (a / 2) alive, link-roots p valid (ok .start-in) (a / 2) alive ∙ reaches-root p valid (ok .start-in) (rootOf p x) (second p (a / 2)) root-among t)
-
-      from : T (live p l) → T (reachedFrom p (rootOf p x) (first p l)) → T (used p (2 * l)) ⊎ T (used p (2 * l + 1)) → In l (orderOf p w x)
-      from alive t (inl u) = order-crosses p w x l .1 (2 * l, exactly (2 * l) .1 (subst (λ (y : ℕ). T (reachedFrom p (rootOf p x) y)) (sym (tail-even p l)) t, u), even-half l)
-      from alive t (inr u) =
-          order-crosses p w x l .1 (2 * l + 1, exactly (2 * l + 1) .1 (subst (λ (y : ℕ). T (reachedFrom p (rootOf p x) y)) (sym (tail-odd p l)) there, u), odd-half l)
-        where
-          there : T (reachedFrom p (rootOf p x) (second p l))
-          there =
-              reached-root p valid (ok .start-in) (rootOf p x) (second p l) (root-in p valid (ok .start-in) x x-in) (root-own p valid (ok .start-in) x x-in) .1
-              (valid .second-in l alive, sym (link-roots p valid (ok .start-in) l alive) ∙ reaches-root p valid (ok .start-in) (rootOf p x) (first p l) root-among t)
+      on : (a : ℕ) → T (used p a) → a / 2 ≡ l → T (linkWith p x l) → In l (orderOf p w x)
+      on a u e t = order-crosses p w x l .1 (a, exactly a .1 (arc-with p valid (ok .start-in) x a x-in .1 (subst (λ (k : ℕ). T (linkWith p x k)) (sym e) t) .0, u), e)
 
   -- so it is as long as there are links in service
   pub order-length : length (orderOf p w x) ≡ linksWith p x
@@ -109,3 +97,13 @@ module _ (p : Plant) (ok : Sound p) (x : ℕ) (x-in : x < p .switches) where
   pub probe-tells : (up : ℕ → Bool) (m : ℕ) → 1 ≤ m → m ≤ linksWith p x
       → probeRun p (used p) w x (linksWith p x) (byLink up) m .ended ≡ ltb m (firstDown up (orderOf p w x))
   probe-tells up = rings.probe-tells p w x ring-at (linksWith p x) (used p) trail-used up order-length
+
+  -- the round trail has each arc of the links of the component, and no other label
+  pub round-exactly : (a : ℕ) → In a (roundWith p x) ↔ T (linkWith p x (a / 2))
+  round-exactly a =
+      let q = round-from p ok (rootOf p x) root-among .each a in
+      let r = arc-with p valid (ok .start-in) x a x-in in
+      (λ i. r .0 (q .0 i), λ t. q .1 (r .1 t))
+
+  pub round-links : (a : ℕ) → In a (roundWith p x) → T (linkWith p x (a / 2))
+  round-links a = round-exactly a .0

@@ -29,7 +29,7 @@ use Rattle.walks.specs.Arcs.{opposite, tail, head, Arc, Valid}
 use Rattle.walks.specs.Graph.{AllFrom, arcs, visitFrom, visitedFrom, reachedFrom, usedFrom, bridge, bridgeFrom, liveLinks, bridges, switchesFrom, linksFrom, bridgesFrom, arcsUsedFrom}
 use Rattle.walks.specs.Components.{rootOf, begunAt, roots, componentOf, linkWith, linksWith, used, arcsUsed}
 use Rattle.walks.proofs.Walk.{trans, one}
-use Rattle.walks.proofs.Labels.{even-half, odd-half, opposite-half, of-link, tail-even, tail-odd, head-even, tail-in, even-arc, opposite-arc, arcs-are}
+use Rattle.walks.proofs.Labels.{even-half, odd-half, opposite-half, of-link, tail-even, tail-odd, head-even, tail-in, ends, even-arc, opposite-arc, arcs-are}
 use Rattle.walks.proofs.Visited.{visited-root, visited-inside, visited-finds}
 use Rattle.walks.proofs.Tests.{walk-back, bridge-live}
 use Rattle.walks.proofs.Orientation.{used-is, from-arc}
@@ -364,6 +364,19 @@ module _ (p : Plant) (ok : Valid p) (start-in : p .start < p .switches) where
     λ t. let a = and-left (live p l) (eqb (rootOf p (first p l)) (rootOf p x)) t in
     (a, reached-root (rootOf p x) (first p l) (root-in x h) (root-own x h) .1 (ok .first-in l a, eqb→eq (rootOf p (first p l)) (rootOf p x) (and-right (live p l) (eqb (rootOf p (first p l)) (rootOf p x)) t))),
     λ q. and-both (live p l) (eqb (rootOf p (first p l)) (rootOf p x)) (q .0) (eq→eqb (reached-root (rootOf p x) (first p l) (root-in x h) (root-own x h) .0 (q .1) .1)),
+  )
+
+  -- the ends of an arc are of the component of its link
+  tail-root : (a : ℕ) → Arc p a → rootOf p (tail p a) ≡ rootOf p (first p (a / 2))
+  tail-root a h = ⊎-elim (λ e. ap (rootOf p) (e .0)) (λ e. ap (rootOf p) (e .0) ∙ sym (link-roots (a / 2) h)) (ends p a)
+
+  -- the arcs of the links of the component of x are those that leave a switch of it
+  pub arc-with : (x a : ℕ) → x < S → (T (reachedFrom p (rootOf p x) (tail p a)) × Arc p a) ↔ T (linkWith p x (a / 2))
+  arc-with x a h = (
+    λ q. and-both (live p (a / 2)) (eqb (rootOf p (first p (a / 2))) (rootOf p x)) (q .1) (eq→eqb (sym (tail-root a (q .1)) ∙ reaches-root (rootOf p x) (tail p a) (root-listed x h) (q .0))),
+    λ t. let alive = and-left (live p (a / 2)) (eqb (rootOf p (first p (a / 2))) (rootOf p x)) t in
+    let same = eqb→eq (rootOf p (first p (a / 2))) (rootOf p x) (and-right (live p (a / 2)) (eqb (rootOf p (first p (a / 2))) (rootOf p x)) t) in
+    (reached-root (rootOf p x) (tail p a) (root-in x h) (root-own x h) .1 (tail-in p ok a alive, tail-root a alive ∙ same), alive),
   )
 
   pub links-with : (x : ℕ) → x < S → linksWith p x ≡ count (p .count) (linkWith p x)
