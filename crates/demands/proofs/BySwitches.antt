@@ -1,4 +1,4 @@
--- What document 02's order 2 promises holds: of every plant value, and of every listing that is read as a connected plant. Assumes nothing.
+-- What document 02's order 2 promises holds: of every plant value, and of every listing that is read as a plant. Assumes nothing.
 use mathlib.Core.Path.{_≡_, sym, ap, _∙_}
 use mathlib.Core.List.{List}
 use Prim.Native.Nat.{ℕ}
@@ -9,15 +9,15 @@ use Rattle.answers.specs.Answers.{given}
 use Rattle.answers.specs.Checks.{answer}
 use Rattle.answers.proofs.Checks.{gives-so}
 use Rattle.codec.specs.Field.{Bytes}
-use Rattle.walks.specs.Graph.{arcsUsedFrom}
+use Rattle.listing.specs.Listing.{reading}
+use Rattle.listing.proofs.RoundTrip.{decode-sound}
+use Rattle.walks.specs.Components.{arcsUsed}
 use Rattle.senders.specs.Senders.{overSwitches, bySwitch}
 use Rattle.senders.proofs.Senders.{held}
 use Rattle.quantity.specs.Quantity.{orderQuantity}
 use Rattle.quantity.proofs.Spare.{quantity-sum}
 use Rattle.plan.specs.Plan.{rulesOf, tableOf}
 use Rattle.plan.proofs.Totals.{same-totals, totals}
-use Rattle.planning.specs.Planning.{planning}
-use Rattle.planning.proofs.Plans.{plan-ready}
 use Rattle.planner.specs.Calls.{tabling, counting}
 use Rattle.demands.specs.Demands.{SameTotals, BySwitches}
 
@@ -27,17 +27,16 @@ module _ (p : Plant) where
   over-held = ap overSwitches (held (rulesOf p))
 
   pub same-totals-of : SameTotals p
-  unfolding arcsUsedFrom
+  unfolding arcsUsed
   same-totals-of = record { total = over-held; same = sym over-held ∙ same-totals p }
 
-module _ (s : List ℕ) (b : Bytes s) (p : Plant) (e : answer (planning s) ≡ given p) where
+module _ (s : List ℕ) (b : Bytes s) (p : Plant) (e : answer (reading s) ≡ given p) where
   pub by-switches : BySwitches s p
   unfolding tabling counting
   by-switches =
-      let r = plan-ready s p b e in
-      let t = totals p (r .0) (r .1) in
+      let t = totals p (decode-sound s p b e) in
       record {
-        answers = gives-so (planning s) (λ q. bySwitch (tableOf q)) p e;
+        answers = gives-so (reading s) (λ q. bySwitch (tableOf q)) p e;
         totals = t;
         spare-on-total = λ spare.
             omega (arith, ap (λ (n : ℕ). orderQuantity n spare .result) (t .over-switches), quantity-sum (p .switches) (at (bySwitch (tableOf p) .counts)) spare);

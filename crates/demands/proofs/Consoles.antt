@@ -9,12 +9,13 @@ use Rattle.limits.specs.Limits.{maxSwitches}
 use Rattle.answers.specs.Answers.{Answer, given, _>>=_}
 use Rattle.answers.specs.Checks.{answer}
 use Rattle.answers.proofs.Checks.{trying-then, given-exactly, result-given}
-use Rattle.walks.specs.Graph.{liveLinks}
+use Rattle.listing.specs.Listing.{reading}
+use Rattle.listing.proofs.RoundTrip.{decode-sound}
+use Rattle.walks.specs.Components.{linksWith}
 use Rattle.search.specs.declared.Search.{Search}
 use Rattle.search.specs.Search.{newSearch, next}
 use Rattle.judging.specs.Conditions.{wantedChecks}
-use Rattle.planning.specs.Planning.{planning}
-use Rattle.planning.proofs.Plans.{plan-ready, at-given}
+use Rattle.planning.proofs.Plans.{at-given}
 use Rattle.probing.proofs.Searching.{searches}
 use Rattle.desk.specs.declared.Held.the-variants.{From}
 use Rattle.desk.specs.Console.{has, setOutOfRange, switchChecks, consoleWith, replacing, starting, telling, givingTo}
@@ -36,7 +37,7 @@ sets = record {
   empty = λ x. sym (small-has 0 x (pow-pos x));
 }
 
-pub console-calls : (k : ℕ) → k ≤ 3 → (s : List ℕ) (p : Plant) → answer (planning s) ≡ given p → ConsoleCalls k s p
+pub console-calls : (k : ℕ) → k ≤ 3 → (s : List ℕ) (p : Plant) → answer (reading s) ≡ given p → ConsoleCalls k s p
 unfolding replacing starting telling givingTo
 console-calls k h s p e =
     let so = asks-so k s p h e in
@@ -46,13 +47,13 @@ console-calls k h s p e =
       replaces = λ x set u v. so (start x) (consoleWith set u) ∙ sym (so (start x) (consoleWith set v));
       in-set = λ x c a g.
           let r
-          = given-exactly ((20, setOutOfRange (p .switches) (c .set)) ∷ switchChecks (p .switches) (c .set) x) (consoleWith (c .set) (From x (newSearch (liveLinks p)))) a .0
+          = given-exactly ((20, setOutOfRange (p .switches) (c .set)) ∷ switchChecks (p .switches) (c .set) x) (consoleWith (c .set) (From x (newSearch (linksWith p x)))) a .0
           (sym (so (start x) c) ∙ g) in
           (leb-false (p .switches) x (r .0 .1 .0), not-false (has (c .set) x) (r .0 .1 .1 .0), sym (r .1));
       feeds = λ o set x q f h i j.
           so (outcome o) (consoleWith set (From x q)) ∙ rw (f, lt-leb (p .switches) x h, i)
-          (sym (ap (λ (a : Answer Search). a >>= λ r. given (consoleWith set (From x r))) (given-sound (liveLinks p) q o j)
-          ∙ trying-then (wantedChecks (liveLinks p) q) (given (next q o)) (λ r. given (consoleWith set (From x r)))));
+          (sym (ap (λ (a : Answer Search). a >>= λ r. given (consoleWith set (From x r))) (given-sound (linksWith p x) q o j)
+          ∙ trying-then (wantedChecks (linksWith p x) q) (given (next q o)) (λ r. given (consoleWith set (From x r)))));
       no-search = λ o set f. so (outcome o) (consoleWith set _) ∙ rw f;
     }
 
@@ -66,5 +67,4 @@ pub console-searches : ConsoleSearches
 console-searches k h d cs s x os b e =
     let f = subst (FedBy (consoleOf (afterAll d cs) k)) e (fed-keeps k h d cs unknown tt) in
     let g = at-given s x (f .0) (f .1) in
-    let r = plan-ready s (f .0) b (g .0) in
-    record { plant = f .0; planned = f .1; stands = f .2; searches = searches (f .0) (r .0) (r .1) x (g .1) os }
+    record { plant = f .0; planned = f .1; stands = f .2; searches = searches (f .0) (decode-sound s (f .0) b (g .0)) x (g .1) os }

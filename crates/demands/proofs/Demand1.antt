@@ -30,6 +30,7 @@ demand-1 = record {
   reread = λ p b. record { answers = answers _; kept = λ n e. buffer-refused p b n (reread-refused p b n e) };
   summarize = λ s. answers _;
   find-bridges = λ s. answers _;
+  find-components = λ s. answers _;
   forwarding-table = λ s. answers _;
   rules-by-switch = λ s. answers _;
   lay-trail = λ s b. into (trailing s b) _ b;

@@ -1,5 +1,5 @@
--- What document 02's order 1 promises holds: of any run, of probes, and of the calls that run a packet. Assumes a sound connected plant and one of its switches where it
--- speaks of a plant's trail.
+-- What document 02's order 1 promises holds: of any run, of probes, and of the calls that run a packet. Assumes a sound plant and one of its switches where it speaks of
+-- a trail.
 use mathlib.Core.Path.{_≡_, sym, ap, _∙_, subst}
 use mathlib.Core.Bool.{Bool, true, false, _&&_}
 use mathlib.Core.List.{List}
@@ -15,9 +15,10 @@ use Rattle.answers.specs.Checks.{answer}
 use Rattle.answers.proofs.Checks.{result-given}
 use Rattle.codec.specs.Field.{Bytes}
 use Rattle.walks.specs.Arcs.{head}
-use Rattle.walks.specs.Graph.{liveLinks}
-use Rattle.plan.specs.Plan.{Connected, used, trailOf, inTable}
-use Rattle.plan.proofs.Trails.{trail-is}
+use Rattle.listing.specs.Listing.{reading}
+use Rattle.listing.proofs.RoundTrip.{decode-sound}
+use Rattle.walks.specs.Components.{linksWith, used}
+use Rattle.plan.specs.Plan.{trailWith, inTable}
 use Rattle.rings.specs.Packet.{End, leadsTo, crossed, run}
 use Rattle.rings.specs.Rules.{upBy, upByLink}
 use Rattle.rings.specs.Probe.{back, outward, probe}
@@ -29,10 +30,10 @@ use Rattle.packet.specs.Outcome.{outcomeOf}
 use Rattle.packet.proofs.Ways.{back-length}
 use Rattle.search.specs.declared.Search.{Search}
 use Rattle.search.specs.Search.{wanted}
-use Rattle.planning.specs.Planning.{planning, planningAt}
-use Rattle.planning.proofs.Plans.{plan-ready, given-at}
+use Rattle.planning.specs.Planning.{planningAt}
+use Rattle.planning.proofs.Plans.{given-at}
 use Rattle.probing.specs.Calls.{runIn, running, checkIn, checking, outLabels, probeEnd, probeIn, probing}
-use Rattle.probing.proofs.Injection.{ring-at}
+use Rattle.probing.proofs.Injection.{trail-used, ring-at}
 use Rattle.probing.specs.Searches.{actualOutcome}
 use Rattle.demands.specs.Demands.{GotTo, ProbeGotTo, PacketsTell}
 
@@ -64,38 +65,38 @@ module _ (rule : ℕ → ℕ → Bool) (up : ℕ → Bool) (hd : ℕ → ℕ) (a
 
 -- ---- probes
 
-module _ (p : Plant) (ok : Sound p) (con : Connected p) (x : ℕ) (x-in : x < p .switches) where
+module _ (p : Plant) (ok : Sound p) (x : ℕ) (x-in : x < p .switches) where
   abbrev w : List ℕ
-  w = trailOf p
+  w = trailWith p x
 
   -- how many labels a probe has
-  there : (m : ℕ) → m < liveLinks p → length (probeOf p w x (liveLinks p) m) ≡ 2 * length (outLabels p x m)
+  there : (m : ℕ) → m < linksWith p x → length (probeOf p w x (linksWith p x) m) ≡ 2 * length (outLabels p x m)
   unfolding probeOf probe outLabels
   there m h =
       let o = outward m (ringOf p w x) in
-      rw (ne-eqb m (liveLinks p) (λ e. omega arith)) (omega (arith, length-append o (back o), back-length o))
+      rw (ne-eqb m (linksWith p x) (λ e. omega arith)) (omega (arith, length-append o (back o), back-length o))
 
-  whole : (m : ℕ) → m ≡ liveLinks p → length (probeOf p w x (liveLinks p) m) ≡ length (ringOf p w x)
+  whole : (m : ℕ) → m ≡ linksWith p x → length (probeOf p w x (linksWith p x) m) ≡ length (ringOf p w x)
   unfolding probeOf probe
-  whole m e = rw (eq-eqb m (liveLinks p) e)
+  whole m e = rw (eq-eqb m (linksWith p x) e)
 
   module _ (states : List ℕ) (m : ℕ) where
-    home : probeEnd p x states m .ended ≡ true → probeEnd p x states m ≡ record { ended = true; hops = length (probeOf p w x (liveLinks p) m); last = x }
-    home = probe-home p w x (ring-at p ok con x x-in) (liveLinks p) (used p) (λ a. trail-is p ok .exactly a .0) (upByLink states) m
+    home : probeEnd p x states m .ended ≡ true → probeEnd p x states m ≡ record { ended = true; hops = length (probeOf p w x (linksWith p x) m); last = x }
+    home = probe-home p w x (ring-at p ok x x-in) (linksWith p x) (used p) (trail-used p ok x x-in) (upByLink states) m
 
     -- the run under its rules, over all its labels
-    told : GotTo (probeRules p (used p) (liveLinks p) m) (upByLink states) (head p) x (probeOf p w x (liveLinks p) m) (probeEnd p x states m)
+    told : GotTo (probeRules p (used p) (linksWith p x) m) (upByLink states) (head p) x (probeOf p w x (linksWith p x) m) (probeEnd p x states m)
     unfolding probeRun
-    told = got-to (probeRules p (used p) (liveLinks p) m) (upByLink states) (head p) x (probeOf p w x (liveLinks p) m)
+    told = got-to (probeRules p (used p) (linksWith p x) m) (upByLink states) (head p) x (probeOf p w x (linksWith p x) m)
 
     module _ (f : probeEnd p x states m .ended ≡ false) where
       lost-out : probeEnd p x states m .hops < length (outLabels p x m)
       unfolding outLabels
-      lost-out = rings.lost-out p w x m (liveLinks p) (upBy states) (ring-at p ok con x x-in) (used p) (λ a. trail-is p ok .exactly a .0) f
+      lost-out = rings.lost-out p w x m (linksWith p x) (upBy states) (ring-at p ok x x-in) (used p) (trail-used p ok x x-in) f
 
       lost-reached : probeEnd p x states m .last ≡ leadsTo (head p) x (take (probeEnd p x states m .hops) (outLabels p x m))
       unfolding outLabels
-      lost-reached = told .reached ∙ ap (leadsTo (head p) x) (rings.way-take p w x m (liveLinks p) (probeEnd p x states m .hops) (omega (arith, lost-out)))
+      lost-reached = told .reached ∙ ap (leadsTo (head p) x) (rings.way-take p w x m (linksWith p x) (probeEnd p x states m .hops) (omega (arith, lost-out)))
 
     probe-got-to : ProbeGotTo p x states m (probeEnd p x states m)
     unfolding outLabels
@@ -103,17 +104,17 @@ module _ (p : Plant) (ok : Sound p) (con : Connected p) (x : ℕ) (x-in : x < p 
       there-and-back = λ h t. home t ∙ ap (λ (n : ℕ). record { ended = true; hops = n; last = x }) (there m h);
       round = λ e t. home t ∙ ap (λ (n : ℕ). record { ended = true; hops = n; last = x }) (whole m e);
       lost-out = λ f. (lost-out f, lost-reached f);
-      lost-at = rings.lost-broken p w x m (liveLinks p) (upBy states) (ring-at p ok con x x-in) (used p) (λ a. trail-is p ok .exactly a .0);
+      lost-at = rings.lost-broken p w x m (linksWith p x) (upBy states) (ring-at p ok x x-in) (used p) (trail-used p ok x x-in);
     }
 
 -- ---- the calls
 
 -- the way out of a probe that is not the full check
-out : (p : Plant) (x m : ℕ) → m < liveLinks p → outLabels p x m ≡ outward m (ringOf p (trailOf p) x)
+out : (p : Plant) (x m : ℕ) → m < linksWith p x → outLabels p x m ≡ outward m (ringOf p (trailWith p x) x)
 unfolding outLabels
-out p x m h = rw (ne-eqb m (liveLinks p) (λ e. omega arith))
+out p x m h = rw (ne-eqb m (linksWith p x) (λ e. omega arith))
 
-module _ (s : List ℕ) (b : Bytes s) (p : Plant) (g : answer (planning s) ≡ given p) (x : ℕ) (h : x < p .switches) where
+module _ (s : List ℕ) (b : Bytes s) (p : Plant) (g : answer (reading s) ≡ given p) (x : ℕ) (h : x < p .switches) where
   planned : planningAt s x .result ≡ p
   planned = result-given (planningAt s x) p (given-at s x p g h)
 
@@ -121,32 +122,32 @@ module _ (s : List ℕ) (b : Bytes s) (p : Plant) (g : answer (planning s) ≡ g
   unfolding running runIn
   ran labels states e q = ap (λ (r : Plant). run (inTable r) (upByLink states) (head r) x 0 labels) (sym planned) ∙ result-given (running s x labels states) e q
 
-  checked : (v states : List ℕ) (e : End) → answer (checking s x v states) ≡ given e → run (inTable p) (upByLink states) (head p) x 0 (ringOf p (trailOf p) x) ≡ e
+  checked : (v states : List ℕ) (e : End) → answer (checking s x v states) ≡ given e → run (inTable p) (upByLink states) (head p) x 0 (ringOf p (trailWith p x) x) ≡ e
   unfolding checking checkIn
   checked v states e q =
-      ap (λ (r : Plant). run (inTable r) (upByLink states) (head r) x 0 (ringOf r (trailOf r) x)) (sym planned) ∙ result-given (checking s x v states) e q
+      ap (λ (r : Plant). run (inTable r) (upByLink states) (head r) x 0 (ringOf r (trailWith r x) x)) (sym planned) ∙ result-given (checking s x v states) e q
 
   probed : (v states : List ℕ) (q : Search) (e : End) → answer (probing s x v states q) ≡ given e → probeEnd p x states (wanted q) ≡ e
   unfolding probing probeIn
   probed v states q e r = ap (λ (k : Plant). probeEnd k x states (wanted q)) (sym planned) ∙ result-given (probing s x v states q) e r
 
   tells : (states : List ℕ) (m : ℕ) → ProbeGotTo p x states m (probeEnd p x states m)
-  tells = let r = plan-ready s p b g in probe-got-to p (r .0) (r .1) x h
+  tells = probe-got-to p (decode-sound s p b g) x h
 
   pub packets-tell : PacketsTell s p x
   unfolding probeRun actualOutcome
   packets-tell = record {
-    counts-on = λ up m k t. rw (out p x m k) (rings.counts-on p (trailOf p) x (used p) (liveLinks p) up m (λ e. omega arith) (rw (out p x m k) at t));
+    counts-on = λ up m k t. rw (out p x m k) (rings.counts-on p (trailWith p x) x (used p) (linksWith p x) up m (λ e. omega arith) (rw (out p x m k) at t));
     run = λ labels states e q.
         subst (GotTo (inTable p) (upByLink states) (head p) x labels) (ran labels states e q) (got-to (inTable p) (upByLink states) (head p) x labels);
     full-check = λ v states e q.
-        let ring = ringOf p (trailOf p) x in (
+        let ring = ringOf p (trailWith p x) x in (
           subst (GotTo (inTable p) (upByLink states) (head p) x ring) (checked v states e q) (got-to (inTable p) (upByLink states) (head p) x ring),
-          subst (ProbeGotTo p x states (liveLinks p)) (full-run p (trailOf p) x (used p) (liveLinks p) (upByLink states) ∙ checked v states e q) (tells states (liveLinks p)),
+          subst (ProbeGotTo p x states (linksWith p x)) (full-run p (trailWith p x) x (used p) (linksWith p x) (upByLink states) ∙ checked v states e q) (tells states (linksWith p x)),
         );
     run-probe = λ v states q e r.
-        let rule = probeRules p (used p) (liveLinks p) (wanted q) in
-        let labels = probeOf p (trailOf p) x (liveLinks p) (wanted q) in (
+        let rule = probeRules p (used p) (linksWith p x) (wanted q) in
+        let labels = probeOf p (trailWith p x) x (linksWith p x) (wanted q) in (
           subst (GotTo rule (upByLink states) (head p) x labels) (probed v states q e r) (got-to rule (upByLink states) (head p) x labels),
           subst (ProbeGotTo p x states (wanted q)) (probed v states q e r) (tells states (wanted q)),
         );

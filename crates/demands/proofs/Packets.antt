@@ -1,4 +1,4 @@
--- What demand 2 says of packets, rules and injection. Assumes a sound connected plant where it speaks of its trail.
+-- What demand 2 says of packets, rules and injection. Assumes a sound plant and one of its switches where it speaks of a trail.
 use mathlib.Core.Path.{_≡_, refl, _∙_}
 use mathlib.Core.Logic.{_↔_}
 use mathlib.Core.Bool.{Bool, true, false}
@@ -11,8 +11,11 @@ use Rattle.lists.proofs.Tests.{and-comm, and-true, true-T, T-true}
 use Rattle.plant.specs.declared.Plant.{Plant}
 use Rattle.limits.specs.Sound.{Sound}
 use Rattle.walks.specs.Arcs.{tail, head}
-use Rattle.walks.specs.Graph.{liveLinks}
-use Rattle.plan.specs.Plan.{Connected, used, trailOf}
+use Rattle.walks.specs.Components.{linksWith, used}
+use Rattle.walks.proofs.Components.{links-with}
+use Rattle.walks.proofs.Valid.{sound-valid}
+use Rattle.plan.specs.Plan.{trailWith}
+use Rattle.plan.proofs.Trails as trails
 use Rattle.rings.specs.Packet.{run, rulesFor}
 use Rattle.rings.specs.Rules.{inAll}
 use Rattle.rings.specs.Ring.{readFrom, ring}
@@ -47,25 +50,36 @@ pub rules-are : (p : Plant) → RulesAre p
 unfolding inAll
 rules-are p = record { table = rule-is _ (tail p); all = rule-is _ (tail p); number = all-rules p }
 
-module _ (p : Plant) (ok : Sound p) (con : Connected p) (x : ℕ) (x-in : x < p .switches) where
+module _ (p : Plant) (ok : Sound p) (x : ℕ) (x-in : x < p .switches) where
   abbrev w : List ℕ
-  w = trailOf p
+  w = trailWith p x
 
-  below : (up : ℕ → Bool) (m : ℕ) → m < liveLinks p
-      → probeRun p (used p) w x (liveLinks p) up m
+  below : (up : ℕ → Bool) (m : ℕ) → m < linksWith p x
+      → probeRun p (used p) w x (linksWith p x) up m
       ≡ run (inAll p) up (head p) x 0 (upTo (nth (orderOf p w x) m) (ringOf p w x) ++ back (upTo (nth (orderOf p w x) m) (ringOf p w x)))
   unfolding probeRun probeRules probeOf probe outward orderOf
-  below up m h = rw (ne-eqb m (liveLinks p) (λ e. omega arith)) refl
+  below up m h = rw (ne-eqb m (linksWith p x) (λ e. omega arith)) refl
+
+  -- without links there is no hop
+  nothing : linksWith p x ≡ 0 → w ≡ []
+  nothing e = go w (λ a i. trail-links p ok x x-in a i)
+    where
+      go : (v : List ℕ) → ((a : ℕ) → In a v → T (linkWith p x (a / 2))) → v ≡ []
+      go [] f = refl
+      go (a ∷ v) f = absurd (omega (arith, order-length p ok x x-in, e, in-long (a / 2) (orderOf p w x) (order-links p ok x x-in (a / 2) .1 (f a (inl refl)))))
 
   pub injection-is : InjectionIs p x
   unfolding ringOf ring readFrom orderOf order outward
   injection-is = record {
-    place = λ h. has-place p w x (ring-at p ok con x x-in) (omega (arith, order-length p ok con x x-in));
+    stretch = trails.stretch p ok x x-in;
+    place = λ h. has-place p w x (ring-at p ok x x-in) (omega (arith, order-length p ok x x-in));
     place-empty = λ e. rw e (rings.place-empty (tail p) x);
     ring = refl;
-    order-each = order-links p ok con x x-in;
+    no-links = λ e. (rw (nothing e) (ring-empty (tail p) x), rw e refl);
+    order-each = order-links p ok x x-in;
     order-once = order-once p w x;
-    order-rises = λ i j h k l. probes.order-rises (ringOf p w x) i j h k (omega (arith, order-length p ok con x x-in));
+    order-rises = λ i j h k l. probes.order-rises (ringOf p w x) i j h k (omega (arith, order-length p ok x x-in));
+    links = links-with p (sound-valid p ok) (ok .start-in) x x-in;
     probe = below;
-    full-check = full-run p w x (used p) (liveLinks p);
+    full-check = full-run p w x (used p) (linksWith p x);
   }

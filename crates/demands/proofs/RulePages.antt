@@ -1,11 +1,14 @@
--- What demand 3 says of the rule page. Assumes a sound connected plant.
-use mathlib.Core.Path.{_≡_, refl, sym, ap, subst}
+-- What demand 3 says of the rule page. Assumes a sound plant.
+use mathlib.Core.Path.{_≡_, refl, sym, ap, subst, _∙_}
 use mathlib.Core.Logic.{_↔_}
 use mathlib.Core.List.{List, [], _∷_, map}
 use Prim.Native.Nat.{ℕ, _*_, _/_}
 use native.Mathlib.Omega.{arith}
 use lib.Dec.{T}
-use Rattle.lists.specs.Members.{In, Distinct}
+use lib.ListN.{length}
+use Rattle.lists.specs.Members.{In, memb, Distinct}
+use Rattle.lists.proofs.Members.{memb→in, in→memb}
+use Rattle.lists.proofs.Count.{count-both}
 use Rattle.lists.specs.Numbers.{range, keep}
 use Rattle.lists.proofs.Numbers.{in-range, keep-in, in-keep, range-distinct, keep-distinct}
 use Rattle.plant.specs.declared.Plant.{Plant}
@@ -14,10 +17,11 @@ use Rattle.walks.proofs.Live.{live-below}
 use Rattle.walks.proofs.Fewest.{fewest-together, fewest}
 use Rattle.walks.proofs.Valid.{sound-valid}
 use Rattle.table.specs.Rules.{rulesIn}
-use Rattle.plan.specs.Plan.{Connected, used, ruleOf, rulesOf}
-use Rattle.plan.proofs.Plan.{used-arc, rules-number}
-use Rattle.plan.proofs.Trails.{trail-is}
-use Rattle.demands.specs.Demands.{ruleLabels, RulePage}
+use Rattle.walks.specs.Components.{used, arcsUsed}
+use Rattle.plan.specs.Plan.{trailOf, ruleOf, rulesOf}
+use Rattle.plan.proofs.Plan.{used-arc, rules-by-label, rules-number}
+use Rattle.plan.proofs.Trails.{trails-are, trails-closed, trails-cross}
+use Rattle.demands.specs.Demands.{ruleLabels, arcsCrossed, RulePage}
 
 module _ (p : Plant) where
   label-rule : (ls : List ℕ) → map (λ r. r .label) (map (ruleOf p) ls) ≡ ls
@@ -39,13 +43,24 @@ module _ (p : Plant) where
     λ t. in-keep (used p) a (range 0 (2 * p .count)) (in-range a 0 (2 * p .count) (omega arith) (omega (arith, live-below p (a / 2) (used-arc p a t)))) t,
   )
 
-  module _ (ok : Sound p) (con : Connected p) where
+  module _ (ok : Sound p) where
+    abbrev exactly : (a : ℕ) → In a (trailOf p) ↔ T (used p a)
+    exactly = trails-are p ok .exactly
+
+    -- the trails cross as many different arcs as there are in use
+    just-so : arcsCrossed p (trailOf p) ≡ length (rulesOf p)
+    unfolding arcsUsed
+    just-so =
+        count-both (2 * p .count) (λ a. memb a (trailOf p)) (used p) (λ a h. (λ t. exactly a .0 (memb→in a (trailOf p) t), λ t. in→memb a (trailOf p) (exactly a .1 t)))
+        ∙ sym (rules-by-label p)
+
     pub rule-page : RulePage p
     rule-page = record {
       of-arcs = own-rules;
-      crossed = λ a. (λ h. trail-is p ok .exactly a .1 (labels-used a .0 h), λ h. labels-used a .1 (trail-is p ok .exactly a .0 h));
+      crossed = λ a. (λ h. exactly a .1 (labels-used a .0 h), λ h. labels-used a .1 (exactly a .0 h));
       once = subst Distinct (sym labels-are) (keep-distinct (used p) (range 0 (2 * p .count)) (range-distinct 0 (2 * p .count)));
-      number = rules-number p ok con;
-      together = λ ws c h. omega (arith, rules-number p ok con, fewest-together p (sound-valid p ok) ws c h);
-      fewest = λ w c h. omega (arith, rules-number p ok con, fewest p (sound-valid p ok) w c h);
+      number = rules-number p ok;
+      fewest = λ ws c h. omega (arith, rules-number p ok, fewest-together p (sound-valid p ok) ws c h);
+      fewest-one = λ w c h. omega (arith, rules-number p ok, fewest p (sound-valid p ok) w c h);
+      attained = (trails-closed p ok, trails-cross p ok, just-so);
     }

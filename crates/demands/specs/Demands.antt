@@ -446,15 +446,15 @@ pub record OutOfService (s : List ℕ) (p : Plant) (l : ℕ) : Type 0 where
   pub no-order : (x : ℕ) → x < p .switches → In l (orderOf p (trailWith p x) x) → ⊥
   pub not-named : (x : ℕ) (w : List ℕ) (q : Search) → answer (naming s x w q) ≡ given (link l) → ⊥
 
--- two lists of state bytes, one for each link number in both, that tell the same of the links in service: those of the others may differ
-pub record SameByLink (p : Plant) (states states′ : List ℕ) : Type 0 where
+-- two lists of state bytes, one for each link number in both, that tell the same of these links: those of the others may differ
+pub record SameByLink (p : Plant) (links : ℕ → Bool) (states states′ : List ℕ) : Type 0 where
   pub enough : (p .count ≤ length states) × (p .count ≤ length states′)
-  pub same : (l : ℕ) → T (live p l) → upBy states l ≡ upBy states′ l
+  pub same : (l : ℕ) → T (links l) → upBy states l ≡ upBy states′ l
 
 -- so with one for each label
-pub record SameByLabel (p : Plant) (states states′ : List ℕ) : Type 0 where
+pub record SameByLabel (p : Plant) (links : ℕ → Bool) (states states′ : List ℕ) : Type 0 where
   pub enough : (2 * p .count ≤ length states) × (2 * p .count ≤ length states′)
-  pub same : (a : ℕ) → T (live p (a / 2)) → upByLabel states a ≡ upByLabel states′ a
+  pub same : (a : ℕ) → T (links (a / 2)) → upByLabel states a ≡ upByLabel states′ a
 
 -- for every listing s that is read as a plant p, and one of its switches x
 pub record StatesOf (s : List ℕ) (p : Plant) (x : ℕ) : Type 0 where
@@ -463,13 +463,13 @@ pub record StatesOf (s : List ℕ) (p : Plant) (x : ℕ) : Type 0 where
   pub cover-check : (states : List ℕ) → length states < p .count → answer (checking s x (trailOf p) states) ≡ refused 13
   pub cover-probe : (states : List ℕ) (q : Search) → length states < p .count → answer (probing s x (trailOf p) states q) ≡ refused 13
   pub cover-labels : (spare states : List ℕ) → length states < 2 * p .count → answer (roundRunning s x (roundOf p ++ spare) states) ≡ refused 13
-  -- but that of a link out of service is looked at by nobody
-  pub run : (labels states states′ : List ℕ) → SameByLink p states states′ → answer (running s x labels states) ≡ answer (running s x labels states′)
-  pub full-check : (w states states′ : List ℕ) → SameByLink p states states′ → answer (checking s x w states) ≡ answer (checking s x w states′)
-  pub run-probe : (w states states′ : List ℕ) (q : Search) → SameByLink p states states′ → answer (probing s x w states q) ≡ answer (probing s x w states′ q)
-  pub round-run : (w states states′ : List ℕ) → SameByLabel p states states′ → answer (roundRunning s x w states) ≡ answer (roundRunning s x w states′)
+  -- but that of a link out of service is looked at by nobody; nor is that of a link elsewhere by the full check, by probes and by the round run (order 9)
+  pub run : (labels states states′ : List ℕ) → SameByLink p (live p) states states′ → answer (running s x labels states) ≡ answer (running s x labels states′)
+  pub full-check : (w states states′ : List ℕ) → SameByLink p (linkWith p x) states states′ → answer (checking s x w states) ≡ answer (checking s x w states′)
+  pub run-probe : (w states states′ : List ℕ) (q : Search) → SameByLink p (linkWith p x) states states′ → answer (probing s x w states q) ≡ answer (probing s x w states′ q)
+  pub round-run : (w states states′ : List ℕ) → SameByLabel p (linkWith p x) states states′ → answer (roundRunning s x w states) ≡ answer (roundRunning s x w states′)
   -- nor does it matter for what a search says
-  pub says : (states states′ : List ℕ) (q : Search) → SameByLink p states states′ → Says p x states q → Says p x states′ q
+  pub says : (states states′ : List ℕ) (q : Search) → SameByLink p (linkWith p x) states states′ → Says p x states q → Says p x states′ q
 
 -- a plant without a mark: every link of its listing is in service, and what is said of the links in service is said of them all
 pub record AllInService (p : Plant) : Type 0 where
@@ -581,8 +581,8 @@ pub record NoLinks (s : List ℕ) (p : Plant) (x : ℕ) : Type 0 where
 -- "for a connected plant every earlier output remains": its one component is the plant, and every definition that this order changed is what it was, from the start and over all
 -- links in service
 pub record OneComponent (p : Plant) : Type 0 where
-  pub roots : roots p ≡ p .start ∷ []
-  pub used : used p ≡ usedFrom p (p .start)
+  pub one-root : roots p ≡ p .start ∷ []
+  pub in-use : used p ≡ usedFrom p (p .start)
   pub distances : (u v : ℕ) → distanceOf p u v ≡ distanceFrom p (p .start) u v
   pub trail : trailOf p ≡ trailFrom p (p .start)
   pub round : roundOf p ≡ roundFrom p (p .start)
