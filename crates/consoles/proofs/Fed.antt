@@ -11,8 +11,9 @@ use Rattle.plant.specs.declared.Plant.{Plant}
 use Rattle.answers.specs.Answers.{Answer, given, refused}
 use Rattle.answers.specs.Checks.{trying, answer}
 use Rattle.answers.proofs.Checks.{came-from, refuse-given, was-given, given-exactly, result-given}
-use Rattle.walks.specs.Graph.{liveLinks}
-use Rattle.planning.specs.Planning.{planning, planningAt}
+use Rattle.listing.specs.Listing.{reading}
+use Rattle.walks.specs.Components.{linksWith}
+use Rattle.planning.specs.Planning.{planningAt}
 use Rattle.planning.proofs.Plans.{given-at}
 use Rattle.search.specs.declared.Search.{Search}
 use Rattle.search.specs.declared.Outcome.{Outcome}
@@ -27,7 +28,7 @@ use Rattle.desk.specs.declared.Console.{Console}
 use Rattle.desk.specs.declared.Desk.{Desk}
 use Rattle.desk.specs.Console.{setOutOfRange, switchChecks, consoleWith, heldChecks, heldAfter, replacing, starting, telling}
 use Rattle.desk.specs.Desk.{consoleOf}
-use Rattle.consoles.specs.Calls.{consoleOutOfRange, sizing, Request, newSet, start, outcome, asking, calling}
+use Rattle.consoles.specs.Calls.{consoleOutOfRange, sizing, Request, newSet, start, outcome, switchOf, asking, calling}
 use Rattle.consoles.specs.Lists.{DeskCall, answerTo, after, afterAll, Fed, unknown, since, feedWith, feedIf, fedBy}
 use Rattle.consoles.proofs.Isolation.{own-by, others-after}
 
@@ -35,11 +36,12 @@ use Rattle.consoles.proofs.Isolation.{own-by, others-after}
 
 -- its listing has a plant, and the console did what it was asked for
 pub asked-in : (k : ℕ) (s : List ℕ) (r : Request) (c a : Console) → answer (calling k s r c) ≡ given a
-    → (p : Plant) × (answer (planning s) ≡ given p) × (answer (asking (p .switches) (liveLinks p) r c) ≡ given a)
+    → (p : Plant) × (answer (reading s) ≡ given p) × (answer (asking (p .switches) (linksWith p (switchOf r c)) r c) ≡ given a)
 unfolding calling sizing consoleOutOfRange
 asked-in k s r c a e =
-    let z = came-from (sizing k s) (λ y. asking (y .0) (y .1) r c) a e in
-    let w = was-given (planning s) (λ p. (p .switches, liveLinks p)) (z .0) (refuse-given 19 (consoleOutOfRange k) _ (z .0) (z .1) .1) in
+    let x = switchOf r c in
+    let z = came-from (sizing k s x) (λ y. asking (y .0) (y .1) r c) a e in
+    let w = was-given (reading s) (λ p. (p .switches, linksWith p x)) (z .0) (refuse-given 19 (consoleOutOfRange k) _ (z .0) (z .1) .1) in
     (w .0, w .1, ap (λ (y : ℕ × ℕ). answer (asking (y .0) (y .1) r c)) (w .2) ∙ z .2)
 
 module _ (s e : ℕ) (c a : Console) where
@@ -77,22 +79,23 @@ one-more p cs o q e =
 
 abbrev pub FedBy : Console → Fed → Type 0
 FedBy c unknown = Unit
-FedBy c (since s x os) = (p : Plant) × (answer (planningAt s x) ≡ given p) × (c .search ≡ From x (perform (begun (liveLinks p)) os .state))
+FedBy c (since s x os) = (p : Plant) × (answer (planningAt s x) ≡ given p) × (c .search ≡ From x (perform (begun (linksWith p x)) os .state))
 
 module _ (k : ℕ) (s : List ℕ) (c a : Console) where
   feed-keeps : (r : Request) → answer (calling k s r c) ≡ given a → (u : Fed) → FedBy c u → FedBy a (feedWith s r u)
   unfolding begun
   feed-keeps (newSet set) e unknown f = tt
-  feed-keeps (newSet set) e (since t x os) f = let p = asked-in k s (newSet set) c a e in (f .0, f .1, set-search (p .0 .switches) (liveLinks (p .0)) c a set (p .2) ∙ f .2)
+  feed-keeps (newSet set) e (since t x os) f = let p = asked-in k s (newSet set) c a e in (f .0, f .1, set-search (p .0 .switches) (linksWith (p .0) 0) c a set (p .2) ∙ f .2)
   feed-keeps (start x) e u f =
       let p = asked-in k s (start x) c a e in
-      let g = start-search (p .0 .switches) (liveLinks (p .0)) c a x (p .2) in
+      let g = start-search (p .0 .switches) (linksWith (p .0) x) c a x (p .2) in
       (p .0, given-at s x (p .0) (p .1) (g .0), g .1)
   feed-keeps (outcome o) e unknown f = tt
   feed-keeps (outcome o) e (since t x os) f =
       let p = asked-in k s (outcome o) c a e in
-      let g = told-search (p .0 .switches) (liveLinks (p .0)) c a o x (perform (begun (liveLinks (f .0))) os .state) (f .2) (p .2) in
-      (f .0, f .1, g .1 ∙ ap (From x) (sym (one-more (begun (liveLinks (f .0))) os o (next (perform (begun (liveLinks (f .0))) os .state) o) (g .0))))
+      let b = begun (linksWith (f .0) x) in
+      let g = told-search (p .0 .switches) (linksWith (p .0) (switchOf (outcome o) c)) c a o x (perform b os .state) (f .2) (p .2) in
+      (f .0, f .1, g .1 ∙ ap (From x) (sym (one-more b os o (next (perform b os .state) o) (g .0))))
 
 -- ---- a list of calls
 

@@ -11,13 +11,13 @@ use Rattle.plant.specs.declared.Plant.{Plant}
 use Rattle.answers.specs.Answers.{Answer, given, refused}
 use Rattle.answers.specs.Checks.{answer, leaves}
 use Rattle.answers.proofs.Checks.{came-from, refuse-given, goes-on, gives-so}
-use Rattle.walks.specs.Graph.{liveLinks}
-use Rattle.planning.specs.Planning.{planning}
+use Rattle.listing.specs.Listing.{reading}
+use Rattle.walks.specs.Components.{linksWith}
 use Rattle.desk.specs.declared.Console.{Console}
 use Rattle.desk.specs.declared.Desk.{Desk}
 use Rattle.desk.specs.Desk.{consoleOf, deskAfter}
 use Rattle.desk.proofs.Consoles.{put-there, put-beside}
-use Rattle.consoles.specs.Calls.{consoleOutOfRange, sizing, Request, asking, calling, served}
+use Rattle.consoles.specs.Calls.{consoleOutOfRange, sizing, Request, switchOf, asking, calling, served}
 use Rattle.consoles.specs.Lists.{DeskCall, answerTo, after, afterAll, callsOf, answersOf}
 
 -- ---- one call
@@ -34,14 +34,17 @@ nextOf q c = leaves (λ r. r) c (answerOf q c)
 pub among-four : (k : ℕ) (s : List ℕ) (r : Request) (c a : Console) → answer (calling k s r c) ≡ given a → k ≤ 3
 unfolding calling sizing consoleOutOfRange
 among-four k s r c a e =
-    let z = came-from (sizing k s) (λ y. asking (y .0) (y .1) r c) a e in
+    let z = came-from (sizing k s (switchOf r c)) (λ y. asking (y .0) (y .1) r c) a e in
     ltb-false 3 k (refuse-given 19 (ltb 3 k) _ (z .0) (z .1) .0)
 
--- with a listing that has a plant, it goes by that plant's switches and links in service
-pub asks-so : (k : ℕ) (s : List ℕ) (p : Plant) → k ≤ 3 → answer (planning s) ≡ given p → (r : Request) (c : Console) → answer (calling k s r c) ≡ answer (asking (p .switches) (liveLinks p) r c)
+-- with a listing that has a plant, it goes by that plant's switches and by the links in service of the component of its switch
+pub asks-so : (k : ℕ) (s : List ℕ) (p : Plant) → k ≤ 3 → answer (reading s) ≡ given p → (r : Request) (c : Console)
+    → answer (calling k s r c) ≡ answer (asking (p .switches) (linksWith p (switchOf r c)) r c)
 unfolding calling sizing consoleOutOfRange
 asks-so k s p h e r c =
-    goes-on (sizing k s) (λ y. asking (y .0) (y .1) r c) (p .switches, liveLinks p) (rw (le-ltb 3 k h) (gives-so (planning s) (λ p. (p .switches, liveLinks p)) p e))
+    let x = switchOf r c in
+    goes-on (sizing k s x) (λ y. asking (y .0) (y .1) r c) (p .switches, linksWith p x)
+    (rw (le-ltb 3 k h) (gives-so (reading s) (λ p. (p .switches, linksWith p x)) p e))
 
 module _ (d : Desk) (q : DeskCall) where
   -- by what is answered

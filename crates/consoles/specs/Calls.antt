@@ -1,4 +1,4 @@
--- The calls on a desk of four consoles (document 02, order 8): what each tries, in which order, what it answers, and the desk after it. Of the desk a call knows its own
+-- The calls on a desk of four consoles (document 02, orders 8 and 9): what each tries, in which order, what it answers, and the desk after it. Of the desk a call knows its own
 -- console's set and search alone.
 use mathlib.Core.Bool.{Bool}
 use mathlib.Core.List.{List, [], _∷_}
@@ -6,14 +6,12 @@ use Prim.Native.Nat.{ℕ}
 use lib.Dec.{ltb}
 use Rattle.answers.specs.Answers.{Answer, given, refused, numberOf}
 use Rattle.answers.specs.Checks.{Checked, check, answer, _then_, _giving_}
-use Rattle.walks.specs.Components.{linksWith}
 use Rattle.listing.specs.Listing.{reading}
+use Rattle.walks.specs.Components.{linksWith}
 use Rattle.search.specs.declared.Outcome.{Outcome}
-use Rattle.desk.specs.declared.Held.{Held}
-use Rattle.desk.specs.declared.Held.the-variants.{Nothing, From}
 use Rattle.desk.specs.declared.Console.{Console}
 use Rattle.desk.specs.declared.Desk.{Desk}
-use Rattle.desk.specs.Console.{replacing, starting, telling}
+use Rattle.desk.specs.Console.{heldAt, replacing, starting, telling}
 use Rattle.desk.specs.Desk.{consoleOf, deskAfter}
 use Rattle.consoles.specs.declared.Sized.{Sized}
 use Rattle.consoles.specs.declared.Sized.the-variants as sized
@@ -22,7 +20,7 @@ use Rattle.consoles.specs.declared.Sized.the-variants as sized
 unfoldable pub consoleOutOfRange : ℕ → Bool
 consoleOutOfRange k = ltb 3 k
 
--- 19, then 1 to 8, then S of the listing's plant, and E for the switch x: the links in service of its component (document 02, order 9)
+-- 19, then 1 to 8, then S of the listing's plant, and E for the switch x: the links in service of its component
 unfoldable pub sizing : ℕ → List ℕ → ℕ → Checked (ℕ × ℕ)
 sizing k s x = check ((19, consoleOutOfRange k) ∷ []) s then λ t. reading t giving λ p. (p .switches, linksWith p x)
 
@@ -31,11 +29,6 @@ pub data Request : Type 0 where
   newSet : ℕ → Request
   start : ℕ → Request
   outcome : Outcome → Request
-
--- the switch that a search is at; without one it does not matter
-abbrev pub heldAt : Held → ℕ
-heldAt Nothing = 0
-heldAt (From x q) = x
 
 -- the switch that a call goes by: that of a start, or that of the search which an outcome is given to; a new set goes by none
 abbrev pub switchOf : Request → Console → ℕ

@@ -68,10 +68,9 @@ fn give_on(d: Desk, listing: &[u8], console: u8, o: Outcome) -> Served
     ensures { λ r. ⌜ Serves d console (answer (serving d console (now (listing .entry)) (outcome o))) r ⌝ }
 {
     let c = desk::console_of(d, console);
-    match size_of(console, listing, desk::switch_of(c)) {
-        Sized::Of(switches, links) => {
-            desk::kept(d, console, desk::told(c, switches, links, o))
-        }
+    let at = desk::switch_of(c);
+    match size_of(console, listing, at) {
+        Sized::Of(switches, links) => desk::kept(d, console, desk::told(c, switches, links, o)),
         Sized::Refused(k) => desk::kept(d, console, Shown::Refused(k)),
     }
 }

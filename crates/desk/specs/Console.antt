@@ -1,5 +1,6 @@
 -- A console of document 02's order 8: its set of switches and its search, and what each of the three calls of a console tries and does to them, for a listing with s
--- switches and e links in service. A call is given its own console's set and search and nothing else of the desk. Assumes nothing.
+-- switches, where the component of the switch of the start, or of the search, has e links in service (order 9). A call is given its own console's set and search and nothing
+-- else of the desk. Assumes nothing.
 use mathlib.Core.Bool.{Bool, true, not}
 use mathlib.Core.List.{[], _∷_, _++_}
 use Prim.Native.Nat.{ℕ, _/_, _%_, _^_}
@@ -47,6 +48,11 @@ replacing s set c = check ((20, setOutOfRange s set) ∷ []) (consoleWith set (c
 -- "starts a search, which replaces its own": 20 of its set, then 11 and 21. The search that it had is not judged
 unfoldable pub starting : ℕ → ℕ → ℕ → Console → Checked Console
 starting s e x c = check (startChecks s (c .set) x) (consoleWith (c .set) (From x (newSearch e)))
+
+-- the switch that a search is at; without a search it does not matter
+abbrev pub heldAt : Held → ℕ
+heldAt Nothing = 0
+heldAt (From x q) = x
 
 -- what "gives a fate to it" tries of a console's search: with none, 15; else 11 and 21 of the search's own switch, then 14 and 15
 abbrev pub heldChecks : ℕ → ℕ → ℕ → Held → Conditions

@@ -1,5 +1,5 @@
-// The desk of four consoles (document 02, order 8), by value: a console's set and search, what each call does to them for a listing of so many switches and links in
-// service, and the console's place on the desk. Inner: the calls are those of docs/CALLS.md.
+// The desk of four consoles (document 02, orders 8 and 9), by value: a console's set and search, what each call does to them for a listing of so many switches, where the
+// component of the search's switch has so many links in service, and the console's place on the desk. Inner: the calls are those of docs/CALLS.md.
 use answers::Refusal;
 use answers::Verdict;
 use plant::Plant;
@@ -9,9 +9,9 @@ use search::Told;
 ghost use mathlib.Core.Path.{_≡_};
 ghost use Rattle.answers.specs.Checks.{Judges, answer};
 ghost use Rattle.search.specs.Search.{toldOf};
-ghost use Rattle.desk.specs.Console.{has, setOutOfRange, switchChecks, startChecks, consoleWith, replacing, starting, givingTo, feeding, telling};
+ghost use Rattle.desk.specs.Console.{has, setOutOfRange, switchChecks, startChecks, consoleWith, heldAt, replacing, starting, givingTo, feeding, telling};
 ghost use Rattle.desk.specs.declared.Held.the-variants.{From};
-ghost use Rattle.desk.specs.Desk.{consoleOf, withConsole, deskAfter, freshDesk, shownAnswer, Serves};
+ghost use Rattle.desk.specs.Desk.{consoleOf, withConsole, freshDesk, shownAnswer, Serves};
 
 // At most one search, with its injection switch.
 pub enum Held {
@@ -108,7 +108,7 @@ fn searching(c: Console, x: u8, q: Search) -> Console
     Console { set: c.set, search }
 }
 
-// A new search from a switch replaces its own: refusals 20, 11 and 21.
+// A new search from a switch, over so many links in service of the switch's component, replaces its own: refusals 20, 11 and 21.
 pub fn started(c: Console, switches: u8, links: u16, x: u8) -> Shown
     ensures { λ r. ⌜ shownAnswer r ≡ answer (starting switches links x c) ⌝ }
 {
@@ -121,7 +121,7 @@ pub fn started(c: Console, switches: u8, links: u16, x: u8) -> Shown
     }
 }
 
-// Refusal 14 of a search over so many links, then the call that gives an outcome to it, with refusal 15.
+// Refusal 14 of a search over so many links in service of its switch's component, then the call that gives an outcome to it, with refusal 15.
 fn give_to(q: Search, links: u16, o: Outcome) -> Told
     ensures { λ r. ⌜ toldOf r ≡ answer (givingTo links q o) ⌝ }
 {
@@ -141,6 +141,17 @@ fn fed(c: Console, switches: u8, links: u16, x: u8, q: Search, o: Outcome) -> Sh
             Told::Refused(k) => Shown::Refused(k),
         },
         Verdict::Refused(k) => Shown::Refused(k),
+    }
+}
+
+// The switch that its search is at, and 0 where it has none.
+pub fn switch_of(c: Console) -> u8
+    ensures { λ r. ⌜ r ≡ heldAt (c .search) ⌝ }
+{
+    let search = c.search;
+    match search {
+        Held::Nothing => 0,
+        Held::From(x, _) => x,
     }
 }
 

@@ -11,14 +11,14 @@ returns c =
     let n = g .before .before .before in
     let z = n .before .before in
     let a = z .before .before .args in
-    serves-on _ _ _ (start (a .switch)) _ (z .size-of .ensures) _ _ _ (n .switches .given .1) _ (g .before .console-of .ensures) (g .started .result) (g .started .ensures) (c .kept .ensures)
+    serves-on (a .d) _ _ (start (a .switch)) (z .size-of .result) (z .size-of .ensures) _ _ _ (n .switches .given .1) _ (g .before .console-of .ensures) (g .started .result) (g .started .ensures) (c .kept .ensures)
 
 returns-2 : tie.Need-returns-2
 returns-2 c =
     let n = c .before .before in
     let z = n .before .before in
     let a = z .before .before .args in
-    serves-off _ _ _ (start (a .switch)) _ (z .size-of .ensures) _ _ (n .k .given .1) (c .kept2 .ensures)
+    serves-off (a .d) _ _ (start (a .switch)) (z .size-of .result) (z .size-of .ensures) _ _ (n .k .given .1) (c .kept2 .ensures)
 
 pub start-on-spec : {M : Type 1} → statement M
 start-on-spec =
