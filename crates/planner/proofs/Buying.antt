@@ -1,4 +1,4 @@
--- The buying page of a listing in a lent buffer, by the answer of planning, and by its counts. Assumes nothing.
+-- The buying page of a listing in a lent buffer, by the answer of reading, and by its counts. Assumes nothing.
 use mathlib.Core.Path.{_≡_, refl, sym, ap, ap₂, _∙_}
 use mathlib.Core.List.{List, _++_}
 use Prim.Native.Nat.{ℕ, _≤_, _<_}
@@ -9,29 +9,29 @@ use Rattle.answers.specs.Answers.{Answer, given, refused, _>>=_}
 use Rattle.answers.specs.Checks.{answer}
 use Rattle.answers.proofs.Checks.{then-assoc, then-is, goes-on, stops, came-from, result-given}
 use Rattle.codec.specs.Field.{Bytes}
+use Rattle.listing.specs.Listing.{reading}
 use Rattle.sheet.specs.declared.Sheet.{Sheet}
 use Rattle.sheet.specs.Page.{buyingPage, pageLength, writingPage, pageLeft}
 use Rattle.sheet.specs.Shown.{Shown}
-use Rattle.planning.specs.Planning.{planning}
-use Rattle.planning.proofs.Plans.{plan-ready}
+use Rattle.planning.proofs.Plans.{plan-sound}
 use Rattle.quoting.specs.Quotes.{pricing, quoting}
 use Rattle.quoting.proofs.Counts.{priced-shown}
 use Rattle.planner.specs.Calls.{quotingFor, buying, boughtOut}
 
 module _ (s : List ℕ) (spare : ℕ) (b : List ℕ) where
-  module _ (p : Plant) (e : answer (planning s) ≡ given p) where
+  module _ (p : Plant) (e : answer (reading s) ≡ given p) where
     pub page-given : answer (quoting p spare b) ≡ answer (buying s spare b)
     unfolding buying
-    page-given = sym (goes-on (planning s) (λ q. quoting q spare b) p e)
+    page-given = sym (goes-on (reading s) (λ q. quoting q spare b) p e)
 
     pub page-left : pageLeft (pricing p spare .result) b (answer (quoting p spare b)) ≡ boughtOut s spare b
     unfolding quotingFor boughtOut
-    page-left = ap₂ (λ (q : Plant) (a : Answer ℕ). pageLeft (pricing q spare .result) b a) (sym (result-given (planning s) p e)) page-given
+    page-left = ap₂ (λ (q : Plant) (a : Answer ℕ). pageLeft (pricing q spare .result) b a) (sym (result-given (reading s) p e)) page-given
 
-  module _ (n : ℕ) (e : answer (planning s) ≡ refused n) where
+  module _ (n : ℕ) (e : answer (reading s) ≡ refused n) where
     pub page-refused : refused n ≡ answer (buying s spare b)
     unfolding buying
-    page-refused = sym (stops (planning s) (λ q. quoting q spare b) n e)
+    page-refused = sym (stops (reading s) (λ q. quoting q spare b) n e)
 
     pub page-kept : b ≡ boughtOut s spare b
     unfolding boughtOut
@@ -47,24 +47,23 @@ then-same (refused n) f g h = refl
 pub same-spare : (s : List ℕ) (j k : ℕ) → ((p : Plant) → answer (pricing p j) ≡ answer (pricing p k)) → answer (quotingFor s j) ≡ answer (quotingFor s k)
 unfolding quotingFor
 same-spare s j k h =
-    then-is (planning s) (λ p. pricing p j) ∙ then-same (answer (planning s)) (λ p. answer (pricing p j)) (λ p. answer (pricing p k)) h ∙ sym (then-is (planning s) (λ p. pricing p k))
+    then-is (reading s) (λ p. pricing p j) ∙ then-same (answer (reading s)) (λ p. answer (pricing p j)) (λ p. answer (pricing p k)) h ∙ sym (then-is (reading s) (λ p. pricing p k))
 
 -- the counts of a listing are such as a page can hold
 pub quoted-shown : (s : List ℕ) (spare : ℕ) (c : Sheet) → Bytes s → answer (quotingFor s spare) ≡ given c → Shown c
 unfolding quotingFor
 quoted-shown s spare c bytes e =
-    let g = came-from (planning s) (λ p. pricing p spare) c e in
-    let r = plan-ready s (g .0) bytes (g .1) in
-    priced-shown (g .0) (r .0) (r .1) spare c (g .2)
+    let g = came-from (reading s) (λ p. pricing p spare) c e in
+    priced-shown (g .0) (plan-sound s (g .0) bytes (g .1)) spare c (g .2)
 
 module _ (s : List ℕ) (spare : ℕ) (b : List ℕ) where
   buying-is : answer (buying s spare b) ≡ (answer (quotingFor s spare) >>= λ c. answer (writingPage c b))
   unfolding buying quotingFor quoting
   buying-is =
-      then-is (planning s) (λ p. quoting p spare b)
-      ∙ then-same (answer (planning s)) (λ p. answer (quoting p spare b)) (λ p. answer (pricing p spare) >>= λ c. answer (writingPage c b)) (λ p. then-is (pricing p spare) (λ c. writingPage c b))
-      ∙ sym (then-assoc (answer (planning s)) (λ p. answer (pricing p spare)) (λ c. answer (writingPage c b)))
-      ∙ ap (λ (a : Answer Sheet). a >>= λ c. answer (writingPage c b)) (sym (then-is (planning s) (λ p. pricing p spare)))
+      then-is (reading s) (λ p. quoting p spare b)
+      ∙ then-same (answer (reading s)) (λ p. answer (quoting p spare b)) (λ p. answer (pricing p spare) >>= λ c. answer (writingPage c b)) (λ p. then-is (pricing p spare) (λ c. writingPage c b))
+      ∙ sym (then-assoc (answer (reading s)) (λ p. answer (pricing p spare)) (λ c. answer (writingPage c b)))
+      ∙ ap (λ (a : Answer Sheet). a >>= λ c. answer (writingPage c b)) (sym (then-is (reading s) (λ p. pricing p spare)))
 
   -- a refusal of the counts is that of the call
   pub buying-refused : (n : ℕ) → answer (quotingFor s spare) ≡ refused n → answer (buying s spare b) ≡ refused n

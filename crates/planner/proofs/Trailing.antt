@@ -13,7 +13,7 @@ use Rattle.answers.proofs.Checks.{goes-on, stops, result-given}
 use Rattle.limits.specs.Limits.{maxLinks}
 use Rattle.walks.specs.Graph.{bridge}
 use Rattle.arcs.specs.Flags.{Flags}
-use Rattle.planning.specs.Planning.{planning}
+use Rattle.listing.specs.Listing.{reading}
 use Rattle.planner.specs.Calls.{bridgeFlags, placesShort, laying, trailLeft}
 
 pub flags-are : (p : Plant) (fs : List Bool) → Flags maxLinks (bridge p) fs → fs ≡ bridgeFlags p
@@ -32,22 +32,22 @@ module _ (w b : List ℕ) where
   unfolding laying placesShort
   lay-enough h n e = rw (le-ltb (length b) (length w) h, e) refl
 
--- ---- the trail that f tells of a plant, by the answer of planning
+-- ---- the trail that f tells of a plant, by the answer of reading
 
 module _ (f : Plant → List ℕ) (s b : List ℕ) where
   abbrev whole : Checked ℕ
-  whole = planning s then λ p. laying (f p) b
+  whole = reading s then λ p. laying (f p) b
 
-  module _ (p : Plant) (e : answer (planning s) ≡ given p) where
+  module _ (p : Plant) (e : answer (reading s) ≡ given p) where
     pub trail-given : answer (laying (f p) b) ≡ answer whole
-    trail-given = sym (goes-on (planning s) (λ q. laying (f q) b) p e)
+    trail-given = sym (goes-on (reading s) (λ q. laying (f q) b) p e)
 
-    pub left-given : trailLeft (f p) b (answer (laying (f p) b)) ≡ trailLeft (f (planning s .result)) b (answer whole)
-    left-given = ap₂ (λ (q : Plant) (a : Answer ℕ). trailLeft (f q) b a) (sym (result-given (planning s) p e)) trail-given
+    pub left-given : trailLeft (f p) b (answer (laying (f p) b)) ≡ trailLeft (f (reading s .result)) b (answer whole)
+    left-given = ap₂ (λ (q : Plant) (a : Answer ℕ). trailLeft (f q) b a) (sym (result-given (reading s) p e)) trail-given
 
-  module _ (n : ℕ) (e : answer (planning s) ≡ refused n) where
+  module _ (n : ℕ) (e : answer (reading s) ≡ refused n) where
     pub trail-refused : refused n ≡ answer whole
-    trail-refused = sym (stops (planning s) (λ q. laying (f q) b) n e)
+    trail-refused = sym (stops (reading s) (λ q. laying (f q) b) n e)
 
-    pub left-refused : b ≡ trailLeft (f (planning s .result)) b (answer whole)
-    left-refused = ap (trailLeft (f (planning s .result)) b) trail-refused
+    pub left-refused : b ≡ trailLeft (f (reading s .result)) b (answer whole)
+    left-refused = ap (trailLeft (f (reading s .result)) b) trail-refused

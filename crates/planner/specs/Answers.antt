@@ -42,8 +42,8 @@ abbrev pub Bridges : Answer (List Bool) → Bridged → Type 0
 Bridges a r = Beside (replicate maxLinks false) a (r .verdict) (r .flags)
 
 -- the components; at a refusal there is none
-abbrev pub Parts : Answer Components → Parted → Type 0
-Parts a r = Beside (componentsWith []) a (r .verdict) (r .components)
+abbrev pub Splits : Answer Components → Parted → Type 0
+Splits a r = Beside (componentsWith []) a (r .verdict) (r .components)
 
 abbrev pub summaryAnswer : Summary → Answer Numbers
 summaryAnswer (summary-is.Plant n) = given n

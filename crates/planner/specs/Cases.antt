@@ -1,7 +1,7 @@
 -- The starred cases of document 01 and those beside them: each row has what the definitions answer, and what documents 01 and 02 say. One computed test over all rows. Assumes nothing.
 -- Bytes are in decimal; the most switches are hexadecimal 40.
 use mathlib.Core.Path.{_≡_, refl}
-use mathlib.Core.List.{List, [], _∷_, _++_, map}
+use mathlib.Core.List.{List, [], _∷_, _++_, map, flatten}
 use Prim.Native.Nat.{ℕ, _+_}
 use lib.ListN.{take, replicate}
 use Rattle.plant.specs.declared.Link.{Link}
@@ -15,15 +15,17 @@ use Rattle.limits.specs.Limits.{maxSwitches, maxLinks}
 use Rattle.lists.specs.Arrays.{at}
 use Rattle.lists.specs.Count.{bit, count}
 use Rattle.lists.specs.Least.{leastFrom}
-use Rattle.lists.specs.Numbers.{every}
+use Rattle.lists.specs.Numbers.{range}
 use Rattle.lists.specs.Padded.{padded}
 use Rattle.lists.specs.Sum.{sum}
 use Rattle.walks.specs.Visit.{scan, visit}
 use Rattle.walks.specs.Arcs.{opposite, tail, head}
-use Rattle.walks.specs.Graph.{arcs, others, visitFrom, bridge, liveLinks, bridges, linksAt, usedFrom, arcsUsedFrom}
+use Rattle.walks.specs.Graph.{arcs, others, visitFrom, bridge, liveLinks, bridges, linksAt, usedFrom}
+use Rattle.walks.specs.Components.{rootOf, begunAt, roots, used, arcsUsed}
 use Rattle.walks.specs.Round.{walkAt, tour, roundFrom}
 use Rattle.routes.specs.Distance.{sources, within, dist, hop, hops, route}
 use Rattle.routes.specs.Trail.{near, nearest, legs, trail}
+use Rattle.plan.specs.Plan.{trailsOf, roundsOf}
 use Rattle.table.specs.Rules.{tableWith, rulesIn}
 use Rattle.senders.specs.Senders.{sentBy, bySwitch}
 use Rattle.allowance.specs.Allowance.{allowance, clipped}
@@ -34,9 +36,10 @@ use Rattle.quantity.specs.Quantity.{orderQuantity}
 use Rattle.quantity.specs.Cases.{rows as quantities}
 use Rattle.sheet.specs.Page.{writingPage}
 use Rattle.planning.specs.Numbers.{numbersOf}
-use Rattle.planning.specs.Planning.{notConnected, planning}
+use Rattle.planning.specs.declared.Component.{Component}
+use Rattle.planning.specs.Components.{componentsWith, componentAt, componentsOf}
 use Rattle.quoting.specs.Quotes.{pricing, quoting}
-use Rattle.planner.specs.Calls.{tabling, summing, counting, placesShort, laying, laidOut, trailing, roundLaidOut, roundTrailing, quotingFor, buying}
+use Rattle.planner.specs.Calls.{tabling, summing, parting, counting, placesShort, laying, laidOut, trailing, roundLaidOut, roundTrailing, quotingFor, buying}
 
 pub record Row : Type 0 where
   pub got : Answer (List ℕ)
@@ -106,7 +109,7 @@ markedReadings =
     ∷ readsMarks (3 ∷ 2 ∷ 1 ∷ 0 ∷ 8 ∷ []) (refused 7)
     ∷ []
 
--- ---- planning: 9, the number of rules, and the trail in a buffer of so many places
+-- ---- planning: the number of rules, and the trails in a buffer of so many places
 
 abbrev tables : List ℕ → Answer (List ℕ) → Row
 tables s a = record { got = answer (tabling s) >>= λ t. given (t .count ∷ []); said = a }
@@ -114,9 +117,26 @@ tables s a = record { got = answer (tabling s) >>= λ t. given (t .count ∷ [])
 abbrev trails : List ℕ → ℕ → Answer (List ℕ) → Row
 trails s places a = record { got = answer (trailing s (replicate places 0)) >>= λ n. given (take n (laidOut s (replicate places 0))); said = a }
 
+-- document 02's order 9: as many switches as there can be, and no links
+abbrev noLinks : List ℕ
+noLinks = 1 ∷ maxSwitches ∷ []
+
+-- two switches, and the link between them out of service
+abbrev apart : List ℕ
+apart = 3 ∷ 2 ∷ 1 ∷ 0 ∷ 10 ∷ 1 ∷ []
+
+-- three switches and a link between the first two; the start is the third
+abbrev pairBeside : List ℕ
+pairBeside = 7 ∷ 3 ∷ 1 ∷ 0 ∷ 2 ∷ 2 ∷ 1 ∷ []
+
+-- two triangles and a switch without links; the start is in the triangle that has the highest switches, and is not its lowest
+abbrev triangles : List ℕ
+triangles = 7 ∷ 7 ∷ 6 ∷ 0 ∷ 5 ∷ 3 ∷ 4 ∷ 5 ∷ 3 ∷ 0 ∷ 2 ∷ 3 ∷ 5 ∷ 6 ∷ 3 ∷ 2 ∷ 3 ∷ 3 ∷ 6 ∷ 4 ∷ 3 ∷ 3 ∷ 0 ∷ []
+
 abbrev planned : List Row
 planned =
-    tables (1 ∷ maxSwitches ∷ []) (refused 9)
+    tables noLinks (given (0 ∷ []))
+    ∷ trails noLinks 0 (given [])
     ∷ tables (0 ∷ []) (given (0 ∷ []))
     ∷ trails (0 ∷ []) 0 (given [])
     ∷ tables twoSwitches (given (2 ∷ []))
@@ -131,7 +151,14 @@ planned =
     ∷ trails openTriangle 6 (given (0 ∷ 1 ∷ 0 ∷ 2 ∷ 3 ∷ 1 ∷ []))
     ∷ tables oneOfTwo (given (2 ∷ []))
     ∷ trails oneOfTwo 2 (given (2 ∷ 3 ∷ []))
-    ∷ tables (3 ∷ 2 ∷ 1 ∷ 0 ∷ 10 ∷ 1 ∷ []) (refused 9)
+    ∷ tables apart (given (0 ∷ []))
+    ∷ trails apart 0 (given [])
+    ∷ tables pairBeside (given (2 ∷ []))
+    ∷ trails pairBeside 1 (refused 10)
+    ∷ trails pairBeside 2 (given (0 ∷ 1 ∷ []))
+    ∷ tables triangles (given (6 ∷ []))
+    ∷ trails triangles 5 (refused 10)
+    ∷ trails triangles 6 (given (1 ∷ 9 ∷ 5 ∷ 2 ∷ 6 ∷ 10 ∷ []))
     ∷ []
 
 -- the numbers of the first line that the program `rules` prints: switches, links, bridges, rules, hops
@@ -140,7 +167,35 @@ abbrev sums : List ℕ → Answer (List ℕ) → Row
 sums s a = record { got = answer (summing s) >>= λ n. given (n .switches ∷ n .links ∷ n .bridges ∷ n .rules ∷ n .hops ∷ []); said = a }
 
 abbrev summed : List Row
-summed = sums triangle (given (3 ∷ 3 ∷ 0 ∷ 3 ∷ 3 ∷ [])) ∷ sums openTriangle (given (3 ∷ 2 ∷ 2 ∷ 4 ∷ 6 ∷ [])) ∷ sums oneOfTwo (given (2 ∷ 1 ∷ 1 ∷ 2 ∷ 2 ∷ [])) ∷ []
+summed =
+    sums triangle (given (3 ∷ 3 ∷ 0 ∷ 3 ∷ 3 ∷ []))
+    ∷ sums openTriangle (given (3 ∷ 2 ∷ 2 ∷ 4 ∷ 6 ∷ []))
+    ∷ sums oneOfTwo (given (2 ∷ 1 ∷ 1 ∷ 2 ∷ 2 ∷ []))
+    ∷ sums noLinks (given (maxSwitches ∷ 0 ∷ 0 ∷ 0 ∷ 0 ∷ []))
+    ∷ sums apart (given (2 ∷ 0 ∷ 0 ∷ 0 ∷ 0 ∷ []))
+    ∷ sums pairBeside (given (3 ∷ 1 ∷ 1 ∷ 2 ∷ 2 ∷ []))
+    ∷ sums triangles (given (7 ∷ 6 ∷ 0 ∷ 6 ∷ 6 ∷ []))
+    ∷ []
+
+-- ---- the components: how many, and five numbers of each: its root, where its trail begins and its hops, where its round trail begins and its hops
+
+abbrev fiveOf : List Component → List ℕ
+fiveOf [] = []
+fiveOf (c ∷ cs) = c .first ∷ c .begin ∷ c .hops ∷ c .«round_begin» ∷ c .«round_hops» ∷ fiveOf cs
+
+abbrev parts : List ℕ → Answer (List ℕ) → Row
+parts s a = record { got = answer (parting s) >>= λ c. given (c .count ∷ fiveOf (take (c .count) (c .list))); said = a }
+
+abbrev parted : List Row
+parted =
+    parts (8 ∷ []) (refused 2)
+    ∷ parts (0 ∷ []) (given (1 ∷ 0 ∷ 0 ∷ 0 ∷ 0 ∷ 0 ∷ []))
+    ∷ parts noLinks (given (maxSwitches ∷ flatten (map (λ x. x ∷ 0 ∷ 0 ∷ 0 ∷ 0 ∷ []) (range 0 maxSwitches))))
+    ∷ parts openTriangle (given (1 ∷ 0 ∷ 0 ∷ 6 ∷ 0 ∷ 4 ∷ []))
+    ∷ parts apart (given (2 ∷ 0 ∷ 0 ∷ 0 ∷ 0 ∷ 0 ∷ 1 ∷ 0 ∷ 0 ∷ 0 ∷ 0 ∷ []))
+    ∷ parts pairBeside (given (2 ∷ 2 ∷ 0 ∷ 0 ∷ 0 ∷ 0 ∷ 0 ∷ 0 ∷ 2 ∷ 0 ∷ 2 ∷ []))
+    ∷ parts triangles (given (3 ∷ 5 ∷ 0 ∷ 3 ∷ 0 ∷ 6 ∷ 0 ∷ 3 ∷ 3 ∷ 6 ∷ 6 ∷ 1 ∷ 6 ∷ 0 ∷ 12 ∷ 0 ∷ []))
+    ∷ []
 
 -- ---- the rules for each switch: a number for each switch place, then the total; and the order quantity laid on the total, then the sum of those laid on each switch
 
@@ -162,25 +217,27 @@ ringAndTail = 3 ∷ 4 ∷ 4 ∷ 0 ∷ 2 ∷ 1 ∷ 3 ∷ 1 ∷ 2 ∷ 3 ∷ 2 ∷ 
 abbrev bySwitches : List Row
 bySwitches =
     counts (8 ∷ []) (refused 2)
-    ∷ counts (1 ∷ maxSwitches ∷ []) (refused 9)
+    ∷ counts noLinks (sending [] 0)
     ∷ counts (0 ∷ []) (sending [] 0)
     ∷ counts twoSwitches (sending (1 ∷ 1 ∷ []) 2)
     ∷ counts triangle (sending (1 ∷ 1 ∷ 1 ∷ []) 3)
     ∷ counts threeParallel (sending (1 ∷ 2 ∷ []) 3)
     ∷ counts ringAndTail (sending (2 ∷ 1 ∷ 1 ∷ 1 ∷ []) 5)
     ∷ counts openTriangle (sending (1 ∷ 2 ∷ 1 ∷ []) 4)
+    ∷ counts pairBeside (sending (1 ∷ 1 ∷ []) 2)
+    ∷ counts triangles (sending (1 ∷ 0 ∷ 1 ∷ 1 ∷ 1 ∷ 1 ∷ 1 ∷ []) 6)
     ∷ orders twoSwitches 0 (given (2 ∷ 2 ∷ []))
     ∷ orders twoSwitches 10 (given (3 ∷ 4 ∷ []))
     ∷ []
 
--- ---- the round trail: its hops, and what stands in a buffer of so many places that held 7
+-- ---- the round trails: their hops, and what stands in a buffer of so many places that held 7
 
 abbrev rounds : List ℕ → ℕ → Answer (List ℕ) → Row
 rounds s places a = record { got = answer (roundTrailing s (replicate places 7)) >>= λ n. given (n ∷ roundLaidOut s (replicate places 7)); said = a }
 
 abbrev roundTrails : List Row
 roundTrails =
-    rounds (1 ∷ maxSwitches ∷ []) 0 (refused 9)
+    rounds noLinks 0 (given (0 ∷ []))
     ∷ rounds (0 ∷ []) 1 (given (0 ∷ 7 ∷ []))
     ∷ rounds twoSwitches 2 (given (2 ∷ 0 ∷ 1 ∷ []))
     ∷ rounds triangle 6 (given (6 ∷ 0 ∷ 2 ∷ 4 ∷ 5 ∷ 3 ∷ 1 ∷ []))
@@ -189,6 +246,9 @@ roundTrails =
     ∷ rounds ringAndTail 10 (given (8 ∷ 0 ∷ 2 ∷ 4 ∷ 5 ∷ 3 ∷ 1 ∷ 6 ∷ 7 ∷ 7 ∷ 7 ∷ []))
     ∷ rounds openTriangle 3 (refused 10)
     ∷ rounds openTriangle 5 (given (4 ∷ 0 ∷ 2 ∷ 3 ∷ 1 ∷ 7 ∷ []))
+    ∷ rounds pairBeside 3 (given (2 ∷ 0 ∷ 1 ∷ 7 ∷ []))
+    ∷ rounds triangles 11 (refused 10)
+    ∷ rounds triangles 12 (given (12 ∷ 1 ∷ 9 ∷ 5 ∷ 4 ∷ 8 ∷ 0 ∷ 2 ∷ 6 ∷ 10 ∷ 11 ∷ 7 ∷ 3 ∷ []))
     ∷ []
 
 -- ---- the buying page: its counts (the rules of the switches, the links at them, all rules, the quantity), and its length in a buffer of so many places
@@ -206,8 +266,9 @@ boughtPages =
     ∷ quotes threeParallel 100 (given (1 ∷ 2 ∷ 3 ∷ 3 ∷ 3 ∷ 6 ∷ []))
     ∷ quotes ringAndTail 10 (given (2 ∷ 1 ∷ 1 ∷ 1 ∷ 3 ∷ 2 ∷ 2 ∷ 1 ∷ 5 ∷ 6 ∷ []))
     ∷ quotes openTriangle 10 (given (1 ∷ 2 ∷ 1 ∷ 1 ∷ 2 ∷ 1 ∷ 4 ∷ 5 ∷ []))
+    ∷ quotes pairBeside 10 (given (1 ∷ 1 ∷ 0 ∷ 1 ∷ 1 ∷ 0 ∷ 2 ∷ 3 ∷ []))
     ∷ quotes ringAndTail 101 (refused 17)
-    ∷ buys (1 ∷ maxSwitches ∷ []) 101 0 (refused 9)
+    ∷ buys noLinks 101 0 (refused 17)
     ∷ buys ringAndTail 101 0 (refused 17)
     ∷ buys ringAndTail 10 159 (refused 18)
     ∷ buys ringAndTail 10 160 (given (160 ∷ []))
@@ -230,8 +291,8 @@ as-row r = record { got = r .0; said = r .1 }
 -- ---- the table, and the test
 
 abbrev table : List Row
-table = readings ++ markedReadings ++ planned ++ summed ++ bySwitches ++ roundTrails ++ boughtPages ++ allowances ++ map as-row searches ++ map as-row quantities
+table = readings ++ markedReadings ++ planned ++ summed ++ parted ++ bySwitches ++ roundTrails ++ boughtPages ++ allowances ++ map as-row searches ++ map as-row quantities
 
 as-said : map (λ r. r .got) table ≡ map (λ r. r .said) table
-unfolding plantWith taken valueOf redundant mapMissing mapUndefined fieldMissing fieldRedundant fieldValues afterPart part valueOutOfRange endOutOfRange selfLink bytesRemain soundLink header link links withLinks linked ended reading trail legs nearest near route hops hop dist within sources leastFrom count usedFrom bridge visitFrom arcs others visit scan roundFrom tour walkAt opposite tail head live every notConnected planning rulesIn tableWith tabling liveLinks bridges arcsUsedFrom numbersOf summing sentBy sum bySwitch counting placesShort laying laidOut trailing roundLaidOut roundTrailing linksAt pricing quoting quotingFor writingPage buying allowance begun newSearch ask give orderQuantity
+unfolding plantWith taken valueOf redundant mapMissing mapUndefined fieldMissing fieldRedundant fieldValues afterPart part valueOutOfRange endOutOfRange selfLink bytesRemain soundLink header link links withLinks linked ended reading trail legs nearest near route hops hop dist within sources leastFrom count usedFrom bridge visitFrom arcs others visit scan roundFrom tour walkAt opposite tail head live rootOf begunAt roots used arcsUsed flatten trailsOf roundsOf rulesIn tableWith tabling liveLinks bridges numbersOf summing componentsWith componentAt componentsOf parting sentBy sum bySwitch counting placesShort laying laidOut trailing roundLaidOut roundTrailing linksAt pricing quoting quotingFor writingPage buying allowance begun newSearch ask give orderQuantity
 as-said = agreed (λ r. r .got) (λ r. r .said) table refl

@@ -23,7 +23,7 @@ ghost use Rattle.quantity.specs.Quantity.{orderQuantity, quantityOf};
 ghost use Rattle.allowance.specs.Allowance.{allowance, clipped};
 ghost use Rattle.sheet.specs.Form.{readingPage, ReadsPage};
 ghost use Rattle.planner.specs.Calls.{rewriting, rewritten, rereading, tabling, counting, bridging, parting, summing, laying, trailLeft, trailing, laidOut, roundTrailing, roundLaidOut, buying, boughtOut};
-ghost use Rattle.planner.specs.Answers.{Tables, Counts, AddsUp, Bridges, Parts, summaryAnswer, trailAnswer};
+ghost use Rattle.planner.specs.Answers.{Tables, Counts, AddsUp, Bridges, Splits, summaryAnswer, trailAnswer};
 
 // The forwarding table of a listing. At a refusal it has no rule.
 pub struct Tabled {
@@ -181,7 +181,7 @@ pub fn find_bridges(listing: &[u8]) -> Bridged
 
 // The components of a listing: how many, and of each its root, where its trail begins among the trails of all and its hops, and the same of its round trail: refusals 1 to 8.
 pub fn find_components(listing: &[u8]) -> Parted
-    ensures { λ r. ⌜ Parts (answer (parting (now (listing .entry)))) r ⌝ }
+    ensures { λ r. ⌜ Splits (answer (parting (now (listing .entry)))) r ⌝ }
 {
     let mut t = planning::blank();
     let d = planning::plan(listing, &mut t);
@@ -254,8 +254,8 @@ fn put_round(x: Parts, buffer: &mut [u16]) -> Trailed
     ensures { λ _. ⌜ now (buffer .exit) ≡ trailLeft (roundOf (x .plant)) (now (buffer .entry)) (answer (laying (roundOf (x .plant)) (now (buffer .entry)))) ⌝ }
 {
     let hops = 2 * arcs::links_in_service(x.plant);
-    let n = hops as usize;
-    if buffer.len() < n {
+    let places = hops as usize;
+    if buffer.len() < places {
         return Trailed::Refused(Refusal::TrailBufferShort);
     }
     planning::lay_round(x, buffer);

@@ -5,11 +5,11 @@ use Prim.Native.Nat.{ℕ, _<_}
 use native.Mathlib.Omega.{arith}
 use lib.ListN.{take}
 use Rattle.listing.proofs.Longest.{longestListing}
-use Rattle.planning.proofs.Front.{planning-front}
+use Rattle.listing.proofs.Front.{decode-front}
 use Rattle.printing.specs.Output.{outputOf, printed}
 
 pub printed-front : (n : ℕ) (s : List ℕ) → longestListing < n → printed (take n s) ≡ printed s
-printed-front n s h = ap outputOf (planning-front n s h)
+printed-front n s h = ap outputOf (decode-front n s h)
 
 -- so does as much of it as fills the buffer of `io`
 pub printed-buffer : (s : List ℕ) → printed (take 4096 s) ≡ printed s

@@ -4,14 +4,14 @@ use Prim.Native.Nat.{ℕ, _+_, _*_}
 use lib.ListN.{length}
 use Rattle.plant.specs.declared.Plant.{Plant}
 use Rattle.answers.specs.Answers.{Answer, given, refused}
-use Rattle.limits.specs.Limits.{maxRules}
+use Rattle.limits.specs.Limits.{maxSwitches, maxRules}
 use Rattle.walks.specs.Graph.{liveLinks, bridges}
 use Rattle.walks.specs.Components.{roots, arcsUsed}
 use Rattle.routes.specs.Plants.{trailFrom}
 use Rattle.plan.specs.Plan.{trailOf, rulesOf}
 use Rattle.table.specs.declared.Rule.{Rule}
 use Rattle.text.specs.Lines.{pageOf, refusalOf}
-use Rattle.text.specs.Sizes.{summaryMost, ruleMost, trailMost}
+use Rattle.text.specs.Sizes.{summaryMost, ruleMost, trailsMost}
 use Rattle.answers.specs.Checks.{answer}
 use Rattle.listing.specs.Listing.{reading}
 
@@ -32,6 +32,6 @@ outputOf (refused n) = refusalOf n
 abbrev pub printed : List ℕ → List ℕ
 printed s = outputOf (answer (reading s))
 
--- the most bytes of a page with so many hops: a line of numbers, as many rules as there can be, and the trail
+-- the most bytes of a page with so many hops: a line of numbers, and as many rules and trails as there can be
 abbrev pub pageRoom : ℕ → ℕ
-pageRoom hops = summaryMost + maxRules * ruleMost + trailMost hops
+pageRoom hops = summaryMost + maxRules * ruleMost + trailsMost maxSwitches hops

@@ -1,8 +1,10 @@
-// The plan of a listing as text: a line of numbers, the forwarding table and the trail; or its refusal. The whole text is made as bytes in a lent buffer,
+// The plan of a listing as text: a line of numbers, the forwarding table and a trail line for each component; or its refusal. The whole text is made as bytes in a lent buffer,
 // and one function writes it to standard output. Inner: what the programs `rules` and `samples` share.
 use answers::Refusal;
 use answers::Verdict;
 use libc::STDOUT_FILENO;
+use planning::Component;
+use planning::Components;
 use planning::Numbers;
 use planning::Parts;
 use plant::Plant;
@@ -10,29 +12,30 @@ use table::Rule;
 use table::Table;
 ghost use mathlib.Core.Path.{_≡_};
 ghost use mathlib.Core.List.{map};
-ghost use Prim.Native.Nat.{_*_, _≤_};
+ghost use Prim.Native.Nat.{_+_, _*_, _≤_};
 ghost use lib.ListN.{length, take};
 ghost use Rattle.answers.specs.Answers.{numberOf};
 ghost use Rattle.limits.specs.Limits.{maxLinks, maxRules};
 ghost use Rattle.plan.specs.Plan.{trailOf};
 ghost use Rattle.planning.specs.Plans.{Plan};
-ghost use Rattle.text.specs.Lines.{summaryLine, ruleLine, ruleLines, refusalOf};
+ghost use Rattle.text.specs.Lines.{summaryLine, ruleLine, ruleLines, trailLine, trailLines, refusalOf};
 ghost use Rattle.text.specs.Sizes.{summaryMost};
 ghost use Rattle.text.specs.Laid.{Room, Laid};
 ghost use Rattle.printing.specs.Output.{triple, plantOutput, printed, pageRoom};
+ghost use Rattle.printing.specs.Stretches.{stretchOf, Stretches};
 
 // The most bytes of a page: `pageRoom maxHops` of specs/Output.antt.
 const PAGE: usize = text::SUMMARY
     + Plant::MAX_RULES * text::RULE
-    + text::TRAIL
+    + Plant::PLACES * text::TRAIL
     + Plant::MAX_HOPS * text::LABEL;
 
-// A trail of at most so many hops is short, and the most bytes of its page: most plants have one.
+// Trails of at most so many hops together are short, and the most bytes of their page: those of most plants are.
 const SHORT: usize = Plant::LABELS;
 
 const SHORT_PAGE: usize = text::SUMMARY
     + Plant::MAX_RULES * text::RULE
-    + text::TRAIL
+    + Plant::PLACES * text::TRAIL
     + SHORT * text::LABEL;
 
 // The line of numbers, at the front of the buffer.
@@ -75,7 +78,33 @@ fn put_table(t: Table, buf: &mut [u8], at: usize) -> usize
     next
 }
 
-// The page of a plan at the front of a buffer that has room for as many hops as its trail has. The trail is laid into the lent labels first.
+// The trail line of a component, by its stretch of the labels.
+fn put_stretch(c: Component, labels: &[u16], buf: &mut [u8], at: usize) -> usize
+    requires { ⌜ c .begin + c .hops ≤ length (now labels) ⌝ }
+    requires { ⌜ Room (now buf) at (trailLine (stretchOf (now labels) c)) ⌝ }
+    ensures { λ r. ⌜ Laid (now (buf .entry)) at (trailLine (stretchOf (now (labels .entry)) c)) (now (buf .exit)) r ⌝ }
+{
+    let begin = c.begin as usize;
+    text::put_trail(buf, at, &labels[begin..], c.hops as usize)
+}
+
+// A trail line for each component, by its stretch of the labels.
+fn put_trails(cs: Components, labels: &[u16], buf: &mut [u8], at: usize) -> usize
+    requires { ⌜ Stretches cs (now labels) ⌝ }
+    requires { ⌜ Room (now buf) at (trailLines (map (stretchOf (now labels)) (take (cs .count) (cs .list)))) ⌝ }
+    ensures { λ r. ⌜ Laid (now (buf .entry)) at (trailLines (map (stretchOf (now (labels .entry))) (take (cs .count) (cs .list)))) (now (buf .exit)) r ⌝ }
+{
+    let n = cs.count as usize;
+    let mut next = at;
+    let mut i: usize = 0;
+    while i < n {
+        next = put_stretch(cs.list[i], labels, buf, next);
+        i += 1;
+    }
+    next
+}
+
+// The page of a plan at the front of a buffer that has room for as many hops as its trails have. The trails are laid into the lent labels first.
 fn put_plan(
     x: Parts,
     t: &[[u8; Plant::PLACES]; Plant::PLACES],
@@ -90,7 +119,7 @@ fn put_plan(
     planning::lay(x, t, labels);
     let rules = put_numbers(planning::numbers_of(x), buf);
     let end = put_table(planning::table_of(x), buf, rules);
-    text::put_trail(buf, end, labels, x.legs.hops as usize)
+    put_trails(x.components, labels, buf, end)
 }
 
 // Writes the output for a listing to standard output. The listing is handed over for the contract alone, which says what the bytes are.
@@ -100,7 +129,7 @@ fn write_output(bytes: &[u8], listing: &[u8])
     io::write_all(STDOUT_FILENO, bytes);
 }
 
-// The page of a plan with a short trail, so that a short buffer does.
+// The page of a plan with short trails, so that a short buffer does.
 fn print_short(x: Parts, t: &[[u8; Plant::PLACES]; Plant::PLACES], listing: &[u8])
     requires { ⌜ Plan x (now t) ⌝ }
     requires { ⌜ length (trailOf (x .plant)) ≤ 2 * maxLinks ⌝ }
@@ -139,7 +168,7 @@ pub fn print_listing(listing: &[u8]) {
     let v = d.verdict;
     match v {
         Verdict::Accepted => {
-            let hops = d.parts.legs.hops as usize;
+            let hops = d.parts.hops as usize;
             if hops <= SHORT {
                 print_short(d.parts, &t, listing);
             } else {

@@ -1,4 +1,4 @@
--- The counts of a plant that can be planned are such as a buying page can hold: three digits suffice for each of them, and the rules add up to the total. Assumes nothing.
+-- The counts of a sound plant are such as a buying page can hold: three digits suffice for each of them, and the rules add up to the total. Assumes nothing.
 use mathlib.Core.Path.{_≡_, sym, _∙_, subst}
 use mathlib.Core.Logic.{_⊎_, inl, inr}
 use mathlib.Core.List.{map}
@@ -21,13 +21,13 @@ use Rattle.limits.specs.Sound.{Sound}
 use Rattle.plant.specs.declared.Plant.{Plant}
 use Rattle.plant.specs.Links.{live}
 use Rattle.walks.specs.Graph.{liveLinks, linksAt}
+use Rattle.walks.proofs.Limits.{few-used}
 use Rattle.walks.proofs.LinksAt.{links-most, links-none}
 use Rattle.senders.specs.Senders.{rulesHeld, sentBy, bySwitch}
 use Rattle.quantity.specs.Quantity.{maxSpare, orderQuantity}
 use Rattle.quantity.proofs.Spare.{product-most}
-use Rattle.plan.specs.Plan.{Connected, tableOf}
+use Rattle.plan.specs.Plan.{tableOf}
 use Rattle.plan.specs.Totals.{Totals}
-use Rattle.plan.proofs.Plan.{few-arcs}
 use Rattle.plan.proofs.Totals.{totals}
 use Rattle.sheet.specs.declared.Sheet.{Sheet}
 use Rattle.sheet.specs.Shown.{ThreeDigits, Shown}
@@ -44,13 +44,13 @@ quantity-most a spare n e =
     let g = given-exactly (orderQuantity a spare .checks) (orderQuantity a spare .result) n .0 e in
     omega (arith, g .1, product-most a spare (ltb-false maxSpare spare (g .0 .0)))
 
-module _ (p : Plant) (ok : Sound p) (con : Connected p) where
+module _ (p : Plant) (ok : Sound p) where
   t : Totals p (bySwitch (tableOf p))
-  t = totals p ok con
+  t = totals p ok
 
   -- at most as many rules as a plant can have, and links at a switch as it can have links
   few-rules : bySwitch (tableOf p) .total ≤ maxRules
-  few-rules = omega (arith, t .over-labels, few-arcs p ok)
+  few-rules = omega (arith, t .over-labels, few-used p ok)
 
   rules-few : (x : ℕ) → x < p .switches → at (bySwitch (tableOf p) .counts) x ≤ maxRules
   rules-few x h = omega (arith, t .over-switches, term-most (at (bySwitch (tableOf p) .counts)) (p .switches) x h, few-rules)

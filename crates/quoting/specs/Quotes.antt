@@ -1,4 +1,4 @@
--- The buying page of a plant that can be planned (document 02, order 3): its counts, and the page of these in a lent buffer.
+-- The buying page of a plant (document 02, order 3): its counts, and the page of these in a lent buffer.
 use mathlib.Core.List.{List, map}
 use Prim.Native.Nat.{ℕ}
 use Rattle.lists.specs.Numbers.{range}

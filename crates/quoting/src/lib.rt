@@ -14,7 +14,7 @@ ghost use Rattle.answers.specs.Checks.{answer};
 ghost use Rattle.limits.specs.Sound.{Sound};
 ghost use Rattle.listing.specs.Answers.{writeAnswer};
 ghost use Rattle.sheet.specs.Page.{pageLeft};
-ghost use Rattle.planning.specs.Plans.{FromStart};
+ghost use Rattle.planning.specs.Plans.{Charted};
 ghost use Rattle.quoting.specs.Quotes.{sheetWith, pricing, quoting, Prices};
 
 // The counts of a plan. At a refusal every number is zero.
@@ -41,7 +41,7 @@ fn sheet_of(p: Plant, rules: BySwitch, quantity: u32) -> Sheet
 
 // The counts of a plan with a spare in percent: refusal 17.
 pub fn price(x: Parts, spare: u8) -> Priced
-    requires { ⌜ FromStart x ⌝ }
+    requires { ⌜ Charted x ⌝ }
     ensures { λ r. ⌜ Prices (answer (pricing (x .plant) spare)) r ⌝ }
 {
     let table = planning::table_of(x);
@@ -66,7 +66,7 @@ pub fn price(x: Parts, spare: u8) -> Priced
 
 // The buying page of a plan into the front of the lent buffer, and its length: refusals 17 and 18.
 pub fn put_page(x: Parts, spare: u8, buffer: &mut [u8]) -> Written
-    requires { ⌜ FromStart x ⌝ }
+    requires { ⌜ Charted x ⌝ }
     ensures { λ r. ⌜ writeAnswer r ≡ answer (quoting (x .plant) spare (now (buffer .entry))) ⌝ }
     ensures { λ _. ⌜ now (buffer .exit) ≡ pageLeft (pricing (x .plant) spare .result) (now (buffer .entry)) (answer (quoting (x .plant) spare (now (buffer .entry)))) ⌝ }
 {

@@ -1,13 +1,13 @@
 -- The most bytes of a line, by the digits of its numbers. Assumes nothing.
-use mathlib.Core.List.{List, [], _∷_}
+use mathlib.Core.List.{List, [], _∷_, flatten}
 use Prim.Native.Nat.{ℕ, _+_, _*_, _^_, _≤_, _<_}
 use native.Mathlib.Omega.{arith}
 use mir.Syntax.{w16}
 use mir.Val.{Fits}
 use lib.ListN.{length, length-append}
 use Rattle.lists.specs.Members.{Each}
-use Rattle.text.specs.Lines.{plantWord, each, spaced, line, summaryLine}
-use Rattle.text.specs.Sizes.{digits16, lineMost, summaryMost}
+use Rattle.text.specs.Lines.{plantWord, trailWord, each, spaced, line, summaryLine, trailLine, trailLines}
+use Rattle.text.specs.Sizes.{digitsShort, digits16, lineMost, summaryMost, trailsMost}
 use Rattle.text.proofs.DecimalLaws.{decimal-most}
 use Rattle.text.proofs.PutLaws.{line-size}
 
@@ -32,3 +32,16 @@ module _ (digits : ℕ) (some : 1 ≤ digits) where
 pub summary-most : (a b c d e : ℕ) → Fits w16 a → Fits w16 b → Fits w16 c → Fits w16 d → Fits w16 e → length (summaryLine a b c d e) ≤ summaryMost
 summary-most a b c d e f g h i j =
     line-most digits16 (omega arith) plantWord (a ∷ b ∷ c ∷ d ∷ e ∷ []) (omega (arith, f), (omega (arith, g), (omega (arith, h), (omega (arith, i), (omega (arith, j), tt)))))
+
+-- labels below 1000
+pub trails-most : (ws : List (List ℕ)) → Each (Below digitsShort) ws → length (trailLines ws) ≤ trailsMost (length ws) (length (flatten ws))
+unfolding flatten
+trails-most [] h = omega arith
+trails-most (w ∷ ws) h =
+    omega (
+      arith,
+      length-append (trailLine w) (trailLines ws),
+      length-append w (flatten ws),
+      line-most digitsShort (omega arith) trailWord w (h .0),
+      trails-most ws (h .1),
+    )

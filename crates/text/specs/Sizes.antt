@@ -24,9 +24,9 @@ summaryMost = lineMost 5 5 digits16
 abbrev pub ruleMost : ℕ
 ruleMost = lineMost 4 3 digitsShort
 
--- with so many labels
-abbrev pub trailMost : ℕ → ℕ
-trailMost labels = lineMost 5 labels digitsShort
+-- so many trail lines, with so many labels in all
+abbrev pub trailsMost : ℕ → ℕ → ℕ
+trailsMost lines labels = lines * lineMost 5 0 digitsShort + spacedMost labels digitsShort
 
 abbrev pub refusalMost : ℕ
 refusalMost = lineMost 7 1 digitsShort

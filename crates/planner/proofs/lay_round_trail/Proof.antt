@@ -9,7 +9,7 @@ use Rattle.planner.proofs.lay_round_trail.Statement.{statement}
 use Rattle.planner.proofs.lay_round_trail.Tie as tie
 
 put-round-requires : tie.Need-put-round-requires
-put-round-requires c κs = c .before .before .before .plan .ensures .1 (c .before .enum-told .given .1) .from-start
+put-round-requires c κs = c .before .before .before .plan .ensures .1 (c .before .enum-told .given .1) .laying .charted
 
 returns : tie.Need-returns
 unfolding roundTrailing roundLaidOut

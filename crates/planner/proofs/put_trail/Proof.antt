@@ -4,7 +4,6 @@ use Prim.Native.Nat.{_≤_, _<_}
 use native.Mathlib.Omega.{arith}
 use lib.ListN.{length}
 use Rattle.plan.specs.Plan.{trailOf}
-use Rattle.planning.proofs.Counted.{hops-are}
 use Rattle.planner.specs.Calls.{trailLeft}
 use Rattle.planner.proofs.Trailing.{lay-short, lay-enough}
 use borrow.Author.Needs.{needs}
@@ -16,14 +15,14 @@ returns c =
     let s = c .before .before in
     let p = s .args .x .plant in
     let b = s .args .buffer .now in
-    let h : length b < length (trailOf p) = omega (arith, c .if1 .taken, hops-are _ (s .pre .from-start)) in
+    let h : length b < length (trailOf p) = omega (arith, c .if1 .taken, s .pre .measured .hops-are) in
     let r = lay-short (trailOf p) b h in
     (r, ap (trailLeft (trailOf p) b) r)
 
 lay-requires : tie.Need-lay-requires
 lay-requires c κs =
     let s = c .before .before .before in
-    (s .pre, omega (arith, c .before .if1 .left, hops-are _ (s .pre .from-start)))
+    (s .pre, omega (arith, c .before .if1 .left, s .pre .measured .hops-are))
 
 returns-2 : tie.Need-returns-2
 returns-2 c =
@@ -32,8 +31,8 @@ returns-2 c =
     let s = i .before .before in
     let p = s .args .x .plant in
     let b = s .args .buffer .now in
-    let h : length (trailOf p) ≤ length b = omega (arith, i .if1 .left, hops-are _ (s .pre .from-start)) in
-    let r = lay-enough (trailOf p) b h _ (hops-are _ (s .pre .from-start)) in
+    let h : length (trailOf p) ≤ length b = omega (arith, i .if1 .left, s .pre .measured .hops-are) in
+    let r = lay-enough (trailOf p) b h _ (s .pre .measured .hops-are) in
     (r, l .lay .ensures ∙ ap (trailLeft (trailOf p) b) r)
 
 pub put-trail-spec : {M : Type 1} → statement M

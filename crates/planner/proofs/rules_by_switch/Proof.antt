@@ -15,24 +15,24 @@ use Rattle.plan.specs.Plan.{tableOf}
 use Rattle.plan.specs.Totals.{Totals}
 use Rattle.plan.proofs.Totals.{placed, totals}
 use Rattle.planning.specs.declared.Parts.{Parts}
-use Rattle.planning.specs.Plans.{FromStart}
-use Rattle.planning.specs.Planning.{planning}
+use Rattle.planning.specs.Plans.{Charted}
+use Rattle.listing.specs.Listing.{reading}
 use Rattle.planner.specs.Calls.{tabling, counting}
 use Rattle.planner.proofs.rules_by_switch.Statement.{statement}
 use Rattle.planner.proofs.rules_by_switch.Tie as tie
 
 -- what is found of the plant that was planned adds up
-adds-up : (s : List ℕ) (x : Parts) (b : BySwitch) → answer (planning s) ≡ given (x .plant) → FromStart x → b ≡ bySwitch (tableOf (x .plant)) → Totals (planning s .result) b
+adds-up : (s : List ℕ) (x : Parts) (b : BySwitch) → answer (reading s) ≡ given (x .plant) → Charted x → b ≡ bySwitch (tableOf (x .plant)) → Totals (reading s .result) b
 adds-up s x b e f q =
-    subst (λ (p : Plant). Totals p b) (sym (result-given (planning s) (x .plant) e)) (subst (Totals (x .plant)) (sym q) (totals (x .plant) (f .sound) (f .connected)))
+    subst (λ (p : Plant). Totals p b) (sym (result-given (reading s) (x .plant) e)) (subst (Totals (x .plant)) (sym q) (totals (x .plant) (f .sound)))
 
 table-of-requires : tie.Need-table-of-requires
-table-of-requires c κs = c .before .before .plan .ensures .1 (c .enum-told .given .1) .from-start
+table-of-requires c κs = c .before .before .plan .ensures .1 (c .enum-told .given .1) .laying .charted
 
 by-switch-requires : tie.Need-by-switch-requires
 by-switch-requires c κs =
     let m = c .before in
-    subst Placed (sym (c .table-of .ensures)) (placed _ (m .before .before .plan .ensures .1 (m .enum-told .given .1) .from-start .sound))
+    subst Placed (sym (c .table-of .ensures)) (placed _ (m .before .before .plan .ensures .1 (m .enum-told .given .1) .laying .charted .sound))
 
 returns : tie.Need-returns
 unfolding tabling counting
@@ -41,15 +41,15 @@ returns c =
     let r = m .before .before .plan .ensures in
     let e = m .enum-told .given .1 in
     let q = c .by-switch .ensures ∙ ap bySwitch (c .before .table-of .ensures) in (
-      beside-given _ _ _ _ refl (sym (on-giving _ (planning _) _ _ (r .0) (λ p. bySwitch (tableOf p)) _ e q)),
-      λ _. adds-up _ _ _ (accepted _ _ _ _ (r .0) e) (r .1 e .from-start) q,
+      beside-given _ _ _ _ refl (sym (on-giving _ (reading _) _ _ (r .0) (λ p. bySwitch (tableOf p)) _ e q)),
+      λ _. adds-up _ _ _ (accepted _ _ _ _ (r .0) e) (r .1 e .laying .charted) q,
     )
 
 returns-2 : tie.Need-returns-2
 unfolding tabling counting
 returns-2 c =
     let m = c .before .before in
-    let b = beside-refused _ _ _ _ _ refl (c .none .ensures) (sym (off-giving _ (planning _) _ _ (m .before .before .plan .ensures .0) (λ p. bySwitch (tableOf p)) _ (m .v .given .1))) in
+    let b = beside-refused _ _ _ _ _ refl (c .none .ensures) (sym (off-giving _ (reading _) _ _ (m .before .before .plan .ensures .0) (λ p. bySwitch (tableOf p)) _ (m .v .given .1))) in
     (b, λ e. absurd (given-refused _ _ (sym (accepted _ _ _ _ b e) ∙ was-refused _ _ _ _ b _ refl)))
 
 pub rules-by-switch-spec : {M : Type 1} → statement M

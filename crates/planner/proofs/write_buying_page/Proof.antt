@@ -9,7 +9,7 @@ use Rattle.planner.proofs.write_buying_page.Tie as tie
 put-page-requires : tie.Need-put-page-requires
 put-page-requires c κs =
     let m = c .before in
-    m .before .before .plan .ensures .1 (m .enum-told .given .1) .from-start
+    m .before .before .plan .ensures .1 (m .enum-told .given .1) .laying .charted
 
 returns : tie.Need-returns
 returns c =

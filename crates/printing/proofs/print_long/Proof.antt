@@ -11,7 +11,7 @@ use Rattle.printing.proofs.print_long.Tie as tie
 put-plan-requires : tie.Need-put-plan-requires
 put-plan-requires c κs =
     let k = c .before .before .before in
-    (k .pre .0, (simp length-replicate (omega (arith, hops-limit _ (k .pre .0 .from-start .sound))), simp length-replicate (omega (arith, hops-limit _ (k .pre .0 .from-start .sound)))))
+    (k .pre .0, (simp length-replicate (omega (arith, hops-limit _ (k .pre .0 .laying .charted .sound))), simp length-replicate (omega (arith, hops-limit _ (k .pre .0 .laying .charted .sound)))))
 
 write-output-requires : tie.Need-write-output-requires
 write-output-requires c κs =

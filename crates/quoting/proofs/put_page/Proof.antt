@@ -16,7 +16,7 @@ put-page-requires c κs =
     let s = q .before .before in
     let a = t .enum-told .given .1 in
     let e = priced (s .args .x .plant) (s .args .spare) (s .args .buffer .now) _ _ _ _ _ (q .price .ensures) (n .page-length .ensures) (j .judge-room .ensures) (f .first-of .ensures) a in
-    let w = priced-shown (s .args .x .plant) (s .pre .sound) (s .pre .connected) (s .args .spare) _ e in
+    let w = priced-shown (s .args .x .plant) (s .pre .sound) (s .args .spare) _ e in
     (w .digits, (w .few, room-enough (s .args .x .plant) (s .args .spare) (s .args .buffer .now) _ _ _ _ _ (q .price .ensures) (n .page-length .ensures) (j .judge-room .ensures) (f .first-of .ensures) a))
 
 returns : tie.Need-returns
