@@ -11,13 +11,12 @@ use lib.ListN.{length}
 use Rattle.lists.specs.Members.{In, memb}
 use Rattle.lists.proofs.Members.{memb→in, in→memb}
 use Rattle.lists.proofs.Count.{count-le, count-all, distinct-count}
-use Rattle.lists.proofs.Tests.{and-left}
 use Rattle.plant.specs.declared.Plant.{Plant}
 use Rattle.plant.specs.Links.{first, second, live}
 use Rattle.limits.specs.Limits.{maxLinks}
 use Rattle.limits.specs.Sound.{Sound}
 use Rattle.walks.specs.Walk.{Walk}
-use Rattle.walks.specs.Arcs.{tail, head, Arc, Valid}
+use Rattle.walks.specs.Arcs.{tail, head, Valid}
 use Rattle.walks.specs.Graph.{reachedFrom}
 use Rattle.walks.specs.Components.{rootOf, roots, linkWith, linksWith, used}
 use Rattle.walks.proofs.Valid.{sound-valid}
