@@ -79,8 +79,8 @@ fn round_run(listing: &[u8], switch: u8, round: &[u16], s: &[u8], at: usize) -> 
 // Which of the two lent trails was chosen, and its hops.
 fn show_choice<'a>(trail: &'a [u16], round: &'a [u16], choice: Choice) {
     match choice {
-        Choice::Trail(_) => show::word(b"trail "),
-        Choice::Round(_) => show::word(b"round "),
+        Choice::Trail(_, _) => show::word(b"trail "),
+        Choice::Round(_, _) => show::word(b"round "),
     }
     let hops = probing::chosen(trail, round, choice);
     show::list(hops.len() as u64, checksum::with_labels(0, hops));

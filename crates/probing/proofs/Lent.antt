@@ -1,6 +1,6 @@
 -- Lent trails that are the plant's, the part of them that is the component's of a switch, and what the code asks for it. Assumes a sound plant, and of a component one of its
 -- switches.
-use mathlib.Core.Path.{_≡_, refl, sym, ap, ap₂, _∙_, subst}
+use mathlib.Core.Path.{_≡_, refl, sym, ap, _∙_, subst}
 use mathlib.Core.Bool.{Bool, false}
 use mathlib.Core.List.{List, [], _∷_, _++_}
 use Prim.Native.Nat.{ℕ, zero, suc, _+_, _*_, _≤_, _<_}
@@ -10,7 +10,7 @@ use Rattle.lists.proofs.Tests.{true-T}
 use Rattle.plant.specs.declared.Plant.{Plant}
 use Rattle.limits.specs.Limits.{maxLinks}
 use Rattle.limits.specs.Sound.{Sound}
-use Rattle.walks.specs.Components.{rootOf, roots, componentOf, used}
+use Rattle.walks.specs.Components.{rootOf, roots, componentOf, linksWith, used}
 use Rattle.walks.specs.Round.{roundFrom}
 use Rattle.walks.proofs.Components.{component-root}
 use Rattle.walks.proofs.Valid.{sound-valid}
@@ -26,11 +26,24 @@ use Rattle.order.specs.Labels.{OverArcs}
 use Rattle.packet.specs.Asked.{CanRun, CanProbe, CanRound}
 use Rattle.answers.specs.declared.Verdict.{Verdict}
 use Rattle.answers.specs.declared.Verdict.the-variants as verdict
-use Rattle.answers.specs.Checks.{Judges}
+use Rattle.answers.specs.Checks.{Judges, answer}
 use Rattle.answers.proofs.Checks.{none-judged}
-use Rattle.judging.specs.Conditions.{hopsDiffer, lentChecks, roundChecks}
+use Rattle.answers.proofs.Beside.{accepted}
+use Rattle.search.specs.declared.Search.{Search}
+use Rattle.search.specs.declared.Said.{Said}
+use Rattle.search.specs.declared.Said.the-variants as said
+use Rattle.search.specs.Search.{says}
+use Rattle.search.specs.Sound.{SaysIn}
+use Rattle.search.proofs.Sound.{says-in}
+use Rattle.planning.specs.declared.Parts.{Parts}
+use Rattle.planning.specs.declared.Planned.{Planned}
+use Rattle.planning.specs.Plans.{OfPlant, Plan}
+use Rattle.planning.specs.Planning.{planningAt, Plots}
+use Rattle.planning.proofs.Plans.{at-given}
+use Rattle.judging.specs.Conditions.{hopsDiffer, searchUnsound, lentChecks, roundChecks}
 use Rattle.judging.proofs.Lent.{states-enough, trail-same, hops-begin}
-use Rattle.probing.proofs.Injection.{root-among, trail-used}
+use Rattle.judging.proofs.Searching.{good-here}
+use Rattle.probing.proofs.Injection.{root-among, trail-used, links-few}
 
 -- a part of the front of a list
 part-front : (w rest : List ℕ) (b h : ℕ) → b + h ≤ length w → take h (drop b (w ++ rest)) ≡ take h (drop b w)
@@ -102,6 +115,27 @@ module _ (p : Plant) (ok : Sound p) where
       bytes = enough;
       trail = subst (OverArcs p) (sym e) (λ a h. rounds.round-from p ok (rootOf p x) (root-among p ok x x-in) .each a .0 h .1);
     }
+
+    -- ---- what a sound search over its links says
+
+    pub says-few : (q : Search) → searchUnsound (linksWith p x) q ≡ false → SaysIn maxLinks (says q)
+    says-few q e = go (says q) (says-in (linksWith p x) q (good-here (linksWith p x) q e))
+      where
+        go : (d : Said) → SaysIn (linksWith p x) d → SaysIn maxLinks d
+        go said.Open g = tt
+        go said.AllUp g = tt
+        go (said.Down k) g = (g .0, omega (arith, g .1, links-few p ok x x-in))
+
+-- ---- a plan
+
+pub of-plan : (x : Parts) (t : List (List ℕ)) → Plan x t → OfPlant x
+of-plan x t plan = record { charted = plan .laying .charted; measured = plan .measured }
+
+-- a plan at a switch, if it is not refused, has that switch
+pub planned-in : (s : List ℕ) (x : ℕ) (r : Planned) → Plots (answer (planningAt s x)) r → r .verdict ≡ verdict.Accepted → x < r .parts .plant .switches
+planned-in s x r q e = at-given s x (r .parts .plant) (accepted _ _ _ _ q e) .1
+
+-- ---- what refusals 12 and 13 let pass
 
 module _ (p : Plant) (w states : List ℕ) (v : Verdict) (e : v ≡ verdict.Accepted) where
   module _ (j : Judges (lentChecks p w states) v) where

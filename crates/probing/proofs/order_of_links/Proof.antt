@@ -3,12 +3,16 @@ use mathlib.Core.Path.{refl}
 use Rattle.probing.specs.Calls.{orderIn, ordering}
 use Rattle.answers.proofs.Beside.{beside-as, on-then, off-then}
 use Rattle.planning.specs.Planning.{planningAt}
+use Rattle.probing.proofs.Lent.{planned-in}
 use borrow.Author.Needs.{needs}
 use Rattle.probing.proofs.order_of_links.Statement.{statement}
 use Rattle.probing.proofs.order_of_links.Tie as tie
 
 order-in-requires : tie.Need-order-in-requires
-order-in-requires c κs = c .before .before .before .plan-at .ensures .1 (c .before .enum-told .given .1)
+order-in-requires c κs =
+    let a = c .before .before .before .plan-at in
+    let e = c .before .enum-told .given .1 in
+    (a .ensures .1 e, planned-in _ _ (a .result) (a .ensures .0) e)
 
 returns : tie.Need-returns
 unfolding ordering

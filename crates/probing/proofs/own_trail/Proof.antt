@@ -1,31 +1,14 @@
+-- The trail of the component of a switch is a part of the lent trails of all components. Assumes nothing.
+use Rattle.probing.proofs.Lent.{trail-part}
 use borrow.Author.Needs.{needs}
 use Rattle.probing.proofs.own_trail.Statement.{statement}
 use Rattle.probing.proofs.own_trail.Tie as tie
-use Rattle.probing.proofs.own_trail.Reads as reads
-use Rattle.probing.proofs.own_trail.Lts as lts
-use Rattle.order.proofs.part.Reads as part-reads
-use Rattle.planning.proofs.component_with.Reads as component-with-reads
 
--- src/lib.rt:106:9
-component-with-requires : tie.Need-component-with-requires
-component-with-requires c κs = search needs
-
--- src/lib.rt:107:24
-cast-part : tie.Need-cast-part
-cast-part c = search needs
-
--- src/lib.rt:107:42
-cast-part-2 : tie.Need-cast-part-2
-cast-part-2 c = search needs
-
--- src/lib.rt:107:5
-part-requires : tie.Need-part-requires
-part-requires c κs = search needs
-
--- src/lib.rt:100:1
 returns : tie.Need-returns
-returns c = ?
+returns c =
+    let m = c .before .before .before in
+    let s = m .before .before in
+    trail-part (s .args .x .plant) (s .pre .0 .charted .sound) (s .args .switch) (s .pre .1 .0) (s .args .trail .now) _ (m .component-with .result) (s .pre .1 .1) (m .component-with .ensures) (c .part .ensures)
 
 pub own-trail-spec : {M : Type 1} → statement M
-own-trail-spec =
-    tie.close (tie.spec component-with-requires cast-part cast-part-2 part-requires returns)
+own-trail-spec = tie.close (tie.spec (λ c κs. search needs) (λ c. search needs) (λ c. search needs) (λ c κs. search needs) returns)

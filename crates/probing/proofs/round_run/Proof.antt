@@ -2,12 +2,16 @@
 use Rattle.probing.specs.Calls.{roundIn, roundRunning}
 use Rattle.answers.proofs.Beside.{on-then, off-then}
 use Rattle.planning.specs.Planning.{planningAt}
+use Rattle.probing.proofs.Lent.{of-plan, planned-in}
 use borrow.Author.Needs.{needs}
 use Rattle.probing.proofs.round_run.Statement.{statement}
 use Rattle.probing.proofs.round_run.Tie as tie
 
 round-in-requires : tie.Need-round-in-requires
-round-in-requires c κs = c .before .before .plan-at .ensures .1 (c .enum-told .given .1) .from-start
+round-in-requires c κs =
+    let a = c .before .before .plan-at in
+    let e = c .enum-told .given .1 in
+    (of-plan _ _ (a .ensures .1 e), planned-in _ _ (a .result) (a .ensures .0) e)
 
 returns : tie.Need-returns
 unfolding roundRunning

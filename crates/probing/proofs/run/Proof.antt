@@ -7,7 +7,7 @@ use Rattle.probing.proofs.run.Statement.{statement}
 use Rattle.probing.proofs.run.Tie as tie
 
 run-in-requires : tie.Need-run-in-requires
-run-in-requires c κs = c .before .before .plan-at .ensures .1 (c .enum-told .given .1) .from-start
+run-in-requires c κs = c .before .before .plan-at .ensures .1 (c .enum-told .given .1) .laying .charted
 
 returns : tie.Need-returns
 unfolding running

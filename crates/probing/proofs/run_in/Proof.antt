@@ -21,7 +21,7 @@ run-on-requires : tie.Need-run-on-requires
 run-on-requires c κs =
     let b = c .before .before in
     let s = b .before .before .before .before in (
-      can-run (s .args .x .plant) (s .pre .sound) _ _ (s .pre .parts .used-are) (states-enough _ _ (sym (b .before .too-few .ensures) ∙ b .if1 .left)),
+      can-run (s .args .x .plant) (s .pre .sound) _ _ (s .pre .used-are) (states-enough _ _ (sym (b .before .too-few .ensures) ∙ b .if1 .left)),
       omega (arith, injected-hops _ _ (c .injected .ensures)),
     )
 
@@ -32,7 +32,7 @@ returns-2 c =
     let b = i .before .before in
     let s = b .before .before .before .before in
     fails 13 _ _ _ (sym (b .before .too-few .ensures) ∙ b .if1 .left)
-    (ran-as _ _ _ _ _ (flags-same (s .pre .parts .used-are)) (endOf (i .injected .result)) (endOf (c .run-on .result)) (i .injected .ensures) (c .run-on .ensures))
+    (ran-as _ _ _ _ _ (flags-same (s .pre .used-are)) (endOf (i .injected .result)) (endOf (c .run-on .result)) (i .injected .ensures) (c .run-on .ensures))
 
 pub run-in-spec : {M : Type 1} → statement M
 run-in-spec =

@@ -2,12 +2,16 @@
 use Rattle.probing.specs.Calls.{probeIn, probing}
 use Rattle.answers.proofs.Beside.{on-then, off-then}
 use Rattle.planning.specs.Planning.{planningAt}
+use Rattle.probing.proofs.Lent.{planned-in}
 use borrow.Author.Needs.{needs}
 use Rattle.probing.proofs.run_probe.Statement.{statement}
 use Rattle.probing.proofs.run_probe.Tie as tie
 
 probe-in-requires : tie.Need-probe-in-requires
-probe-in-requires c κs = c .before .before .before .plan-at .ensures .1 (c .before .enum-told .given .1)
+probe-in-requires c κs =
+    let a = c .before .before .before .plan-at in
+    let e = c .before .enum-told .given .1 in
+    (a .ensures .1 e, planned-in _ _ (a .result) (a .ensures .0) e)
 
 returns : tie.Need-returns
 unfolding probing
