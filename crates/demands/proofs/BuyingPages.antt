@@ -28,14 +28,14 @@ use Rattle.sheet.specs.Form.{formed, countsIn, readingPage}
 use Rattle.sheet.specs.Shown.{Shown}
 use Rattle.sheet.proofs.Page.{switch-size, total-size, page-size}
 use Rattle.sheet.proofs.RoundTrip.{written-formed, read-of-written, read-shown, written-again, accepted-shown, written-of-read}
-use Rattle.planning.specs.Planning.{planning}
-use Rattle.planning.proofs.Plans.{plan-ready}
+use Rattle.listing.specs.Listing.{reading}
+use Rattle.listing.proofs.RoundTrip.{decode-sound}
 use Rattle.quoting.specs.Quotes.{sheetWith, pricing}
 use Rattle.planner.specs.Calls.{quotingFor}
 use Rattle.planner.proofs.Buying.{quoted-shown, buying-short, buying-given, buying-left}
 use Rattle.demands.specs.Demands.{PageWritten, PageForm}
 
-module _ (s : List ℕ) (bytes : Bytes s) (p : Plant) (e : answer (planning s) ≡ given p) (spare : ℕ) (c : Sheet) (q : answer (quotingFor s spare) ≡ given c) where
+module _ (s : List ℕ) (bytes : Bytes s) (p : Plant) (e : answer (reading s) ≡ given p) (spare : ℕ) (c : Sheet) (q : answer (quotingFor s spare) ≡ given c) where
   shown : Shown c
   shown = quoted-shown s spare c bytes q
 
@@ -43,22 +43,22 @@ module _ (s : List ℕ) (bytes : Bytes s) (p : Plant) (e : answer (planning s) �
   counts-are : c ≡ sheetWith p (bySwitch (tableOf p)) (orderQuantity (bySwitch (tableOf p) .total) spare .result)
   unfolding quotingFor pricing
   counts-are =
-      let g = was-given (orderQuantity (bySwitch (tableOf p) .total) spare) (sheetWith p (bySwitch (tableOf p))) c (sym (goes-on (planning s) (λ r. pricing r spare) p e) ∙ q) in
+      let g = was-given (orderQuantity (bySwitch (tableOf p) .total) spare) (sheetWith p (bySwitch (tableOf p))) c (sym (goes-on (reading s) (λ r. pricing r spare) p e) ∙ q) in
       sym (g .2) ∙ ap (sheetWith p (bySwitch (tableOf p))) (sym (result-given (orderQuantity (bySwitch (tableOf p) .total) spare) (g .0) (g .1)))
 
   pub page-written : PageWritten s p spare c
   page-written =
-      let r = plan-ready s p bytes e in
-      let t = totals p (r .0) (r .1) in
+      let ok = decode-sound s p bytes e in
+      let t = totals p ok in
       let n : c .switches ≡ p .switches = ap (λ (d : Sheet). d .switches) counts-are in
       let k = page-size c (shown .digits) (shown .few) in
       let l : pageLength c ≡ length (buyingPage c) = sym k in
-      let at-switch : (x : ℕ) → x < p .switches → at (c .links) x ≡ linksAt p x = λ x h. ap (λ (d : Sheet). at (d .links) x) counts-are ∙ values-at (linksAt p) 0 maxSwitches x (omega (arith, r .0 .few-switches)) in
+      let at-switch : (x : ℕ) → x < p .switches → at (c .links) x ≡ linksAt p x = λ x h. ap (λ (d : Sheet). at (d .links) x) counts-are ∙ values-at (linksAt p) 0 maxSwitches x (omega (arith, ok .few-switches)) in
       record {
         switches = n;
         rules = λ x h. ap (λ (d : Sheet). at (d .rules) x) counts-are ∙ t .each x h;
         links = at-switch;
-        links-twice = sum-same (p .switches) (at (c .links)) (linksAt p) at-switch ∙ links-twice p (r .0);
+        links-twice = sum-same (p .switches) (at (c .links)) (linksAt p) at-switch ∙ links-twice p ok;
         total = ap (λ (d : Sheet). d .total) counts-are ∙ t .number;
         quantity = ap (λ (d : Sheet). d .quantity) counts-are ∙ ap (λ (a : ℕ). orderQuantity a spare .result) (t .number);
         digits = shown .digits;

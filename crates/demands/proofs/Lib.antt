@@ -1,4 +1,5 @@
 pub mod RulePages
+pub mod Components
 pub mod Reached
 pub mod Packets
 pub mod GotTo

@@ -1,17 +1,19 @@
 -- What demand 2 says of packets, rules and injection. Assumes a sound plant and one of its switches where it speaks of a trail.
 use mathlib.Core.Path.{_≡_, refl, _∙_}
-use mathlib.Core.Logic.{_↔_}
+use mathlib.Core.Logic.{inl, inr, _↔_}
 use mathlib.Core.Bool.{Bool, true, false}
-use mathlib.Core.List.{List, _++_}
-use Prim.Native.Nat.{ℕ, _<_}
+use mathlib.Core.List.{List, [], _∷_, _++_}
+use Prim.Native.Nat.{ℕ, _/_, _≤_, _<_}
 use native.Mathlib.Omega.{arith}
 use borrow.Author.Tests.{eqb-true, eq-eqb, ne-eqb}
 use lib.Dec.{T, eqb}
+use lib.ListN.{length}
+use Rattle.lists.specs.Members.{In}
 use Rattle.lists.proofs.Tests.{and-comm, and-true, true-T, T-true}
 use Rattle.plant.specs.declared.Plant.{Plant}
 use Rattle.limits.specs.Sound.{Sound}
 use Rattle.walks.specs.Arcs.{tail, head}
-use Rattle.walks.specs.Components.{linksWith, used}
+use Rattle.walks.specs.Components.{linkWith, linksWith, used}
 use Rattle.walks.proofs.Components.{links-with}
 use Rattle.walks.proofs.Valid.{sound-valid}
 use Rattle.plan.specs.Plan.{trailWith}
@@ -24,11 +26,17 @@ use Rattle.rings.specs.Probe.{upTo, back, outward, probe}
 use Rattle.rings.specs.Injection.{ringOf, orderOf, probeRules, probeOf, probeRun}
 use Rattle.rings.proofs.Packet.{run-none, run-label}
 use Rattle.rings.proofs.Ring as rings
+use Rattle.rings.proofs.Ring.{ring-empty}
 use Rattle.rings.proofs.Probe as probes
 use Rattle.rings.proofs.Rules.{all-rules}
 use Rattle.rings.proofs.Injection.{has-place, order-once, full-run}
-use Rattle.probing.proofs.Injection.{ring-at, order-links, order-length}
+use Rattle.probing.proofs.Injection.{ring-at, trail-links, order-links, order-length}
 use Rattle.demands.specs.Demands.{RunIs, RulesAre, InjectionIs}
+
+-- a list with a member is not empty
+in-long : (a : ℕ) (l : List ℕ) → In a l → 1 ≤ length l
+in-long a [] z = absurd z
+in-long a (b ∷ l) i = omega arith
 
 pub run-is : (rule : ℕ → ℕ → Bool) (up : ℕ → Bool) (hd : ℕ → ℕ) → RunIs rule up hd
 run-is rule up hd = record {

@@ -1,48 +1,51 @@
 -- What document 02's order 7 promises of links out of service holds: in a listing, of the plan, of packets and of searches. Assumes nothing of a listing and of the definitions
--- that go by `live`, else a sound connected plant, and one of its switches where it speaks of one.
+-- that go by `live`, else a sound plant, and one of its switches where it speaks of one.
 use mathlib.Core.Path.{_≡_, refl, sym, _∙_}
 use mathlib.Core.Logic.{inl, inr}
-use mathlib.Core.Bool.{true, false}
+use mathlib.Core.Bool.{Bool, true, false}
 use mathlib.Core.List.{List, _++_}
 use Prim.Native.Nat.{ℕ, _-_, _*_, _/_, _≤_, _<_}
 use native.Mathlib.Omega.{arith}
 use borrow.Author.Tests.{lt-ltb, le-ltb}
-use lib.Dec.{T}
+use lib.Dec.{T, eqb}
 use lib.ListN.{length}
 use Rattle.lists.specs.Members.{In}
 use Rattle.lists.proofs.Members.{getD-in}
-use Rattle.lists.proofs.Tests.{false-T, not-true-false}
+use Rattle.lists.proofs.Tests.{false-T, not-true-false, and-left}
 use Rattle.plant.specs.declared.Plant.{Plant}
-use Rattle.plant.specs.Links.{outOfService, live}
+use Rattle.plant.specs.Links.{first, outOfService, live}
 use Rattle.limits.specs.Sound.{Sound}
 use Rattle.answers.specs.Answers.{given}
 use Rattle.answers.specs.Checks.{answer}
 use Rattle.answers.proofs.Checks.{given-given, goes-on, came-from}
 use Rattle.codec.specs.Field.{Bytes}
+use Rattle.listing.specs.Listing.{reading}
 use Rattle.listing.specs.Listing as listing
+use Rattle.listing.proofs.RoundTrip.{decode-sound}
 use Rattle.listing.proofs.Marks.{bit-three, without, plain-read, plain-written, link-undefined, header-undefined, mark-past}
 use Rattle.listing.proofs.Longest.{longest}
 use Rattle.walks.specs.Arcs.{Arc}
-use Rattle.walks.specs.Graph.{Crosses, bridge, liveLinks}
+use Rattle.walks.specs.Graph.{Crosses, bridge}
+use Rattle.walks.specs.Components.{rootOf, linkWith, linksWith}
 use Rattle.walks.proofs.Live.{dead-marked, live-all, links-all}
 use Rattle.walks.proofs.Labels.{even-half, odd-half}
-use Rattle.plan.specs.Plan.{Connected, trailOf, roundOf}
+use Rattle.plan.specs.Plan.{trailOf, trailWith, roundOf}
 use Rattle.plan.proofs.Plan.{used-arc}
-use Rattle.plan.proofs.Rounds.{round-is}
-use Rattle.plan.proofs.Trails.{trail-is}
+use Rattle.plan.proofs.Rounds.{rounds-are}
+use Rattle.plan.proofs.Trails.{trails-are}
 use Rattle.rings.specs.Order.{nth}
 use Rattle.rings.specs.FirstDown.{FirstDown}
 use Rattle.rings.specs.Rules.{upBy}
 use Rattle.rings.specs.Injection.{orderOf, probeOf}
 use Rattle.rings.proofs.Injection.{probe-arcs}
-use Rattle.planning.specs.Planning.{planning, planningAt}
-use Rattle.planning.proofs.Plans.{plan-ready, given-at, at-given}
+use Rattle.planning.specs.Planning.{planningAt}
+use Rattle.planning.proofs.Plans.{given-at, at-given}
 use Rattle.judging.specs.Conditions.{statesShort}
 use Rattle.judging.proofs.Lent.{trail-own, hops-own}
 use Rattle.probing.specs.Calls.{runIn, running, checkIn, checking, roundIn, roundRunning, probeIn, probing, link, nameIn, naming}
 use Rattle.probing.specs.Searches.{NoneBroken}
 use Rattle.probing.proofs.Injection.{ring-at, order-links}
-use Rattle.probing.proofs.NamedLinks.{named-live}
+use Rattle.probing.proofs.NamedLinks.{named-within}
 use Rattle.probing.proofs.StateBytes.{ByLinkAlike, ByLabelAlike, running-bytes, checking-bytes, probing-bytes, rounding-bytes}
 use Rattle.demands.specs.Demands.{Marks, OutOfService, SameByLink, SameByLabel, StatesOf, AllInService}
 use Rattle.demands.proofs.Packets.{rules-are}
@@ -69,6 +72,10 @@ marks = record {
 pub all-in-service : (p : Plant) → ((l : ℕ) → l < p .count → outOfService p l ≡ false) → AllInService p
 all-in-service p none = record { links = live-all p none; number = links-all p none }
 
+-- a link of a component is in service
+of-live : (p : Plant) (x l : ℕ) → T (linkWith p x l) → T (live p l)
+of-live p x l t = and-left (live p l) (eqb (rootOf p (first p l)) (rootOf p x)) t
+
 -- ---- a link out of service
 
 module _ (p : Plant) (l : ℕ) (out : outOfService p l ≡ true) where
@@ -83,49 +90,49 @@ module _ (p : Plant) (l : ℕ) (out : outOfService p l ≡ true) where
   no-crossing w arcs (inl h) = no-arc (2 * l) (even-half l) (arcs (2 * l) h)
   no-crossing w arcs (inr h) = no-arc _ (odd-half l) (arcs _ h)
 
-  module _ (s : List ℕ) (b : Bytes s) (g : answer (planning s) ≡ given p) where
+  module _ (s : List ℕ) (b : Bytes s) (g : answer (reading s) ≡ given p) where
     ok : Sound p
-    ok = plan-ready s p b g .0
-
-    con : Connected p
-    con = plan-ready s p b g .1
+    ok = decode-sound s p b g
 
     pub out-of-service : OutOfService s p l
     unfolding bridge naming
     out-of-service = record {
       no-bridge = rw (dead-marked p l out) refl;
       no-trail = no-crossing (trailOf p) trail-arc;
-      no-round = no-crossing (roundOf p) (λ a. round-is p ok con .each a .0);
+      no-round = no-crossing (roundOf p) (λ a. rounds-are p ok .each a .0);
       no-closed-walk = λ w c. no-crossing w (c .arcs-alone);
-      no-probe = λ x h m. no-crossing (probeOf p (trailOf p) x (liveLinks p) m) (probe-arcs p (trailOf p) x (ring-at p ok con x h) (liveLinks p) m);
+      no-probe = λ x h m. no-crossing (probeOf p (trailWith p x) x (linksWith p x) m) (probe-arcs p (trailWith p x) x (ring-at p ok x h) (linksWith p x) m);
       no-rule = λ a at e. (
-        λ h. no-arc a e (trail-arc a (rule-page p ok con .crossed a .0 h)),
+        λ h. no-arc a e (trail-arc a (rule-page p ok .crossed a .0 h)),
         not-true-false _ (λ t. no-arc a e (used-arc p a (rules-are p .table at a .0 t .0))),
         not-true-false _ (λ t. no-arc a e (rules-are p .all at a .0 t .0)),
       );
-      no-order = λ x h i. dead (order-links p ok con x h l .0 i);
+      no-order = λ x h i. dead (of-live p x l (order-links p ok x h l .0 i));
       not-named = λ x w q e.
           let r = came-from (planningAt s x) (nameIn x w q) (link l) e in
           let at = at-given s x (r .0) (r .1) in
           let same : r .0 ≡ p = given-given (r .0) p (sym (at .0) ∙ g) in
-          dead (named-live p ok con x (rw same at (at .1)) w q (link l) (rw same at (r .2)));
+          dead (of-live p x l (named-within p ok x (rw same at (at .1)) w q (link l) (rw same at (r .2))));
     }
       where
         trail-arc : (a : ℕ) → In a (trailOf p) → Arc p a
-        trail-arc a h = used-arc p a (trail-is p ok .exactly a .0 h)
+        trail-arc a h = used-arc p a (trails-are p ok .exactly a .0 h)
 
 -- ---- the state bytes
 
-module _ (s : List ℕ) (b : Bytes s) (p : Plant) (g : answer (planning s) ≡ given p) (x : ℕ) (x-in : x < p .switches) where
+module _ (s : List ℕ) (b : Bytes s) (p : Plant) (g : answer (reading s) ≡ given p) (x : ℕ) (x-in : x < p .switches) where
   planned : (r : Plant) → answer (planningAt s x) ≡ given r → p ≡ r
   planned r e = given-given p r (sym (given-at s x p g x-in) ∙ e)
 
-  by-link : (states states′ : List ℕ) → SameByLink p states states′ → (r : Plant) → answer (planningAt s x) ≡ given r → ByLinkAlike r states states′
+  ready : (r : Plant) → answer (planningAt s x) ≡ given r → Sound r × (x < r .switches)
+  ready r e = rw (sym (planned r e)) (decode-sound s p b g, x-in)
+
+  by-link : (links : Plant → ℕ → Bool) (states states′ : List ℕ) → SameByLink p (links p) states states′ → (r : Plant) → answer (planningAt s x) ≡ given r → ByLinkAlike r (links r) states states′
   unfolding statesShort
-  by-link states states′ h r e =
+  by-link links states states′ h r e =
       rw (sym (planned r e)) (record { short = le-ltb (length states) (p .count) (h .enough .0) ∙ sym (le-ltb (length states′) (p .count) (h .enough .1)); same = h .same })
 
-  by-label : (states states′ : List ℕ) → SameByLabel p states states′ → (r : Plant) → answer (planningAt s x) ≡ given r → ByLabelAlike r states states′
+  by-label : (states states′ : List ℕ) → SameByLabel p (linkWith p x) states states′ → (r : Plant) → answer (planningAt s x) ≡ given r → ByLabelAlike r (linkWith r x) states states′
   unfolding statesShort
   by-label states states′ h r e =
       rw (sym (planned r e)) (record { short = le-ltb (length states) (2 * p .count) (h .enough .0) ∙ sym (le-ltb (length states′) (2 * p .count) (h .enough .1)); same = h .same })
@@ -138,10 +145,10 @@ module _ (s : List ℕ) (b : Bytes s) (p : Plant) (g : answer (planning s) ≡ g
     cover-probe = λ states q h. goes-on (planningAt s x) (probeIn x (trailOf p) states q) p (given-at s x p g x-in) ∙ rw (trail-own p, lt-ltb (length states) (p .count) h) refl;
     cover-labels = λ spare states h.
         goes-on (planningAt s x) (roundIn x (roundOf p ++ spare) states) p (given-at s x p g x-in) ∙ rw (hops-own (roundOf p) spare, lt-ltb (length states) (2 * p .count) h) refl;
-    run = λ labels states states′ h. running-bytes s x states states′ (by-link states states′ h) labels;
-    full-check = λ w states states′ h. checking-bytes s x states states′ (by-link states states′ h) w;
-    run-probe = λ w states states′ q h. probing-bytes s x states states′ (by-link states states′ h) w q;
-    round-run = λ w states states′ h. rounding-bytes s x states states′ (by-label states states′ h) w;
+    run = λ labels states states′ h. running-bytes s x states states′ (by-link live states states′ h) labels;
+    full-check = λ w states states′ h. checking-bytes s x states states′ ready (by-link (λ r. linkWith r x) states states′ h) w;
+    run-probe = λ w states states′ q h. probing-bytes s x states states′ ready (by-link (λ r. linkWith r x) states states′ h) w q;
+    round-run = λ w states states′ h. rounding-bytes s x states states′ ready (by-label states states′ h) w;
     says = λ states states′ q h t. record {
       all-up = (λ e. none states states′ h (t .all-up .0 e), λ n. t .all-up .1 (none states′ states (turned states states′ h) n));
       first-broken = λ n.
@@ -150,13 +157,13 @@ module _ (s : List ℕ) (b : Bytes s) (p : Plant) (g : answer (planning s) ≡ g
     };
   }
     where
-      turned : (states states′ : List ℕ) → SameByLink p states states′ → SameByLink p states′ states
+      turned : (states states′ : List ℕ) → SameByLink p (linkWith p x) states states′ → SameByLink p (linkWith p x) states′ states
       turned states states′ h = record { enough = (h .enough .1, h .enough .0); same = λ l t. sym (h .same l t) }
 
-      none : (states states′ : List ℕ) → SameByLink p states states′ → NoneBroken p states → NoneBroken p states′
+      none : (states states′ : List ℕ) → SameByLink p (linkWith p x) states states′ → NoneBroken p x states → NoneBroken p x states′
       none states states′ h n l t e = n l t (h .same l t ∙ e)
 
-      first : (states states′ : List ℕ) → SameByLink p states states′ → (k : ℕ) → FirstDown (upBy states) (orderOf p (trailOf p) x) k → FirstDown (upBy states′) (orderOf p (trailOf p) x) k
+      first : (states states′ : List ℕ) → SameByLink p (linkWith p x) states states′ → (k : ℕ) → FirstDown (upBy states) (orderOf p (trailWith p x) x) k → FirstDown (upBy states′) (orderOf p (trailWith p x) x) k
       first states states′ h k f = record {
         from-one = f .from-one;
         to-last = f .to-last;
@@ -164,6 +171,6 @@ module _ (s : List ℕ) (b : Bytes s) (p : Plant) (g : answer (planning s) ≡ g
         before = λ j i m. sym (same-at j i (omega (arith, f .to-last))) ∙ f .before j i m;
       }
         where
-          same-at : (j : ℕ) → 1 ≤ j → j ≤ length (orderOf p (trailOf p) x) → upBy states (nth (orderOf p (trailOf p) x) j) ≡ upBy states′ (nth (orderOf p (trailOf p) x) j)
+          same-at : (j : ℕ) → 1 ≤ j → j ≤ length (orderOf p (trailWith p x) x) → upBy states (nth (orderOf p (trailWith p x) x) j) ≡ upBy states′ (nth (orderOf p (trailWith p x) x) j)
           same-at j i m =
-              h .same _ (order-links p (plan-ready s p b g .0) (plan-ready s p b g .1) x x-in _ .0 (getD-in (orderOf p (trailOf p) x) (j - 1) (omega arith)))
+              h .same _ (order-links p (decode-sound s p b g) x x-in _ .0 (getD-in (orderOf p (trailWith p x) x) (j - 1) (omega arith)))

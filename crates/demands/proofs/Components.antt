@@ -1,0 +1,201 @@
+-- The promises of document 02's order 9: what the components of a plant are, how a call answers them, links elsewhere, components without links, and a plant of one component.
+-- Assumes a sound plant.
+use mathlib.Core.Path.{_≡_, refl, sym, ap, _∙_, subst}
+use mathlib.Core.Logic.{_⊎_, inl, inr, ⊎-elim, _↔_}
+use mathlib.Core.Bool.{_&&_}
+use mathlib.Core.List.{List, [], _∷_, _++_, map}
+use Prim.Native.Nat.{ℕ, zero, suc, _+_, _*_, _/_, _≤_, _<_}
+use native.Mathlib.Omega.{arith}
+use borrow.Author.Tests.{le-ltb}
+use lib.Dec.{T, eqb}
+use lib.ListN.{length, getD, List·getD-eq-default}
+use Rattle.lists.specs.Members.{In}
+use Rattle.lists.specs.Numbers.{range, keep}
+use Rattle.lists.proofs.Members.{getD-in}
+use Rattle.lists.proofs.Numbers.{range-in, keep-in, values-at, values-length}
+use Rattle.lists.proofs.Padded.{padded-at}
+use Rattle.lists.proofs.Rising.{keep-rises}
+use Rattle.lists.proofs.Tests.{T-same, below?, and-left, and-both, eq→eqb}
+use Rattle.plant.specs.declared.Plant.{Plant}
+use Rattle.plant.specs.Links.{first, live}
+use Rattle.limits.specs.Limits.{maxSwitches}
+use Rattle.limits.specs.Sound.{Sound}
+use Rattle.answers.specs.declared.Refusal.{Refusal}
+use Rattle.answers.specs.declared.Refusal.the-variants as is
+use Rattle.answers.specs.Answers.{given, numberOf}
+use Rattle.answers.specs.Checks.{answer}
+use Rattle.answers.proofs.Checks.{gives-so, given-given, goes-on, came-from}
+use Rattle.codec.specs.Field.{Bytes}
+use Rattle.listing.specs.Listing.{reading}
+use Rattle.listing.proofs.RoundTrip.{decode-sound}
+use Rattle.walks.specs.Arcs.{Arc, Valid}
+use Rattle.walks.specs.Graph.{To, Crosses, reachedFrom}
+use Rattle.walks.specs.Components.{rootOf, begunAt, roots, componentOf, linkWith, linksWith}
+use Rattle.walks.proofs.Labels.{even-half, odd-half}
+use Rattle.walks.proofs.Components as components
+use Rattle.walks.proofs.Valid.{sound-valid}
+use Rattle.walks.proofs.Visited.{visited-finds}
+use Rattle.plan.specs.Plan.{Connected, trailOf, trailWith, roundOf, roundWith}
+use Rattle.plan.proofs.Connected as connected
+use Rattle.plan.proofs.Trails as trails
+use Rattle.plan.proofs.Rounds as rounds
+use Rattle.rings.specs.Packet.{End}
+use Rattle.rings.specs.Injection.{ringOf}
+use Rattle.rings.proofs.Injection.{ring-labels}
+use Rattle.planning.specs.Components.{zeroComponent, componentsWith, componentAt, componentsOf}
+use Rattle.planning.specs.Planning.{planningAt}
+use Rattle.planning.proofs.Plans.{given-at, at-given}
+use Rattle.planner.specs.Calls.{parting}
+use Rattle.search.specs.Search.{newSearch}
+use Rattle.probing.specs.Calls.{link, nameIn, naming, beginning}
+use Rattle.probing.proofs.Injection.{trail-links, order-links, round-links}
+use Rattle.probing.proofs.NamedLinks.{named-within}
+use Rattle.demands.specs.Demands.{ComponentsAre, NeverNine, Parted, Elsewhere, OneComponent}
+
+-- ---- the number 9
+
+pub never-nine : NeverNine
+never-nine is.MapMissing e = omega arith
+never-nine is.MapUndefined e = omega arith
+never-nine is.FieldMissing e = omega arith
+never-nine is.FieldRedundant e = omega arith
+never-nine is.ValueOutOfRange e = omega arith
+never-nine is.EndOutOfRange e = omega arith
+never-nine is.SelfLink e = omega arith
+never-nine is.BytesRemain e = omega arith
+never-nine is.TrailBufferShort e = omega arith
+never-nine is.SwitchOutOfRange e = omega arith
+never-nine is.TrailDiffers e = omega arith
+never-nine is.StatesShort e = omega arith
+never-nine is.SearchUnsound e = omega arith
+never-nine is.SearchEnded e = omega arith
+never-nine is.ListingBufferShort e = omega arith
+never-nine is.SpareTooLarge e = omega arith
+never-nine is.BuyingPageUnfit e = omega arith
+never-nine is.ConsoleOutOfRange e = omega arith
+never-nine is.SetOutOfRange e = omega arith
+never-nine is.SwitchOutsideSet e = omega arith
+
+-- ---- what they are
+
+module _ (p : Plant) (ok : Sound p) where
+  valid : Valid p
+  valid = sound-valid p ok
+
+  reach : (x y : ℕ) → x < p .switches → T (reachedFrom p x y) ↔ To p (Arc p) x y
+  reach x y h = visited-finds p valid x h y
+
+  -- the later ones by rising number
+  rising : (i j : ℕ) → 1 ≤ i → i < j → j < length (roots p) → getD (roots p) i 0 < getD (roots p) j 0
+  unfolding roots
+  rising zero j h k l = absurd (omega arith)
+  rising (suc i) zero h k l = absurd (omega arith)
+  rising (suc i) (suc j) h k l = keep-rises (begunAt p) 0 (p .switches) i j (omega arith) (omega arith)
+
+  lowest : (i x : ℕ) → 1 ≤ i → i < length (roots p) → x < p .switches → To p (Arc p) (getD (roots p) i 0) x → getD (roots p) i 0 ≤ x
+  unfolding roots
+  lowest zero x h k l t = absurd (omega arith)
+  lowest (suc i) x h k l t =
+      let r = getD (keep (begunAt p) (range 0 (p .switches))) i 0 in
+      let q = keep-in (begunAt p) r (range 0 (p .switches)) (getD-in (keep (begunAt p) (range 0 (p .switches))) i (omega arith)) in
+      let r-in : r < p .switches = omega (arith, range-in r 0 (p .switches) (q .0)) in
+      let new = components.begun-is p valid (ok .start-in) r r-in .0 (q .1) .1 in
+      ⊎-elim (λ less. absurd (new x less (components.joined-back p valid (ok .start-in) r x r-in (reach r x r-in .1 t)))) (λ le. le) (below? x r)
+
+  pub components-are : ComponentsAre p
+  components-are = record {
+    joined = λ x y h i. (
+      λ e. reach x y h .0 (components.joined-on p valid (ok .start-in) x (rootOf p x) y h (components.joined-back p valid (ok .start-in) (rootOf p x) x (components.root-in p valid (ok .start-in) x h) (components.root-reaches p valid (ok .start-in) x h))
+          (subst (λ (r : ℕ). T (reachedFrom p r y)) (sym e) (components.root-reaches p valid (ok .start-in) y i))),
+      λ t. components.root-same p valid (ok .start-in) x y h (reach x y h .1 t),
+    );
+    own = λ x h. (
+      components.root-listed p valid (ok .start-in) x h,
+      reach (rootOf p x) x (components.root-in p valid (ok .start-in) x h) .0 (components.root-reaches p valid (ok .start-in) x h),
+    );
+    once = components.roots-distinct p valid (ok .start-in);
+    few = omega (arith, components.roots-few p valid (ok .start-in), ok .few-switches);
+    first = begins;
+    lowest = lowest;
+    rising = rising;
+  }
+    where
+      begins : getD (roots p) 0 0 ≡ p .start
+      begins = first-root p
+
+-- ---- a plant of one component
+
+module _ (p : Plant) (ok : Sound p) (con : Connected p) where
+  pub one-component : OneComponent p
+  one-component = record {
+    one-root = components.roots-one p (sound-valid p ok) (ok .start-in) con;
+    in-use = connected.used-one p ok con;
+    distances = connected.distance-one p ok con;
+    trail = connected.trail-one p ok con;
+    round = connected.round-one p ok con;
+    trail-with = λ x h. (connected.trail-with p ok con x h, connected.trail-begin p ok con x h);
+    round-with = λ x h. (connected.round-with p ok con x h, connected.round-begin p ok con x h);
+    links = λ x h. (connected.links-with p ok con x h, same x h);
+  }
+    where
+      same : (x : ℕ) → x < p .switches → (l : ℕ) → linkWith p x l ≡ live p l
+      same x h l =
+          T-same (linkWith p x l) (live p l) (and-left (live p l) (eqb (rootOf p (first p l)) (rootOf p x)))
+          (λ t. and-both (live p l) (eqb (rootOf p (first p l)) (rootOf p x)) t (eq→eqb (components.root-one p (sound-valid p ok) (ok .start-in) con (first p l) (sound-valid p ok .first-in l t)
+          ∙ sym (components.root-one p (sound-valid p ok) (ok .start-in) con x h))))
+
+-- ---- the calls
+
+module _ (s : List ℕ) (b : Bytes s) (p : Plant) (g : answer (reading s) ≡ given p) where
+  ok : Sound p
+  ok = decode-sound s p b g
+
+  each : (i : ℕ) → i < length (roots p) → getD (componentsOf p .list) i zeroComponent ≡ componentAt p i
+  unfolding componentsOf componentsWith
+  each i h =
+      padded-at maxSwitches zeroComponent (map (componentAt p) (range 0 (length (roots p)))) i ∙ values-at (componentAt p) zeroComponent (length (roots p)) i h
+
+  zeros : (i : ℕ) → length (roots p) ≤ i → getD (componentsOf p .list) i zeroComponent ≡ zeroComponent
+  unfolding componentsOf componentsWith
+  zeros i h =
+      padded-at maxSwitches zeroComponent (map (componentAt p) (range 0 (length (roots p)))) i
+      ∙ List·getD-eq-default (map (componentAt p) (range 0 (length (roots p)))) zeroComponent {n = i} (omega (arith, values-length (componentAt p) 0 (length (roots p))))
+
+  number : componentsOf p .count ≡ length (roots p)
+  unfolding componentsOf componentsWith
+  number = values-length (componentAt p) 0 (length (roots p))
+
+  pub parted : Parted s p
+  unfolding parting componentAt
+  parted =
+      let v = sound-valid p ok in
+      record {
+        answers = gives-so (reading s) componentsOf p g;
+        number = number;
+        each = each;
+        zeros = zeros;
+        begin-first = (trails.begin-first p, rounds.begin-first p);
+        begin-next = λ i h. (trails.begin-next p i h, rounds.begin-next p i h);
+        component = λ x h. (components.component-in p v (ok .start-in) x h, components.component-root p v (ok .start-in) x h);
+        sums = (components.links-sum p v (ok .start-in), components.bridges-sum p v (ok .start-in), components.arcs-sum p v (ok .start-in), components.switches-sum p v (ok .start-in));
+      }
+
+  module _ (x : ℕ) (x-in : x < p .switches) where
+    -- a link elsewhere
+    module _ (l : ℕ) (away : T (linkWith p x l) → ⊥) where
+      no-crossing : (w : List ℕ) → ((a : ℕ) → In a w → T (linkWith p x (a / 2))) → Crosses l w → ⊥
+      no-crossing w f (inl i) = away (subst (λ (k : ℕ). T (linkWith p x k)) (even-half l) (f (2 * l) i))
+      no-crossing w f (inr i) = away (subst (λ (k : ℕ). T (linkWith p x k)) (odd-half l) (f (2 * l + 1) i))
+
+      pub elsewhere : Elsewhere s p x l
+      unfolding naming
+      elsewhere = record {
+        not-named = λ w q e.
+            let r = came-from (planningAt s x) (nameIn x w q) (link l) e in
+            let at = at-given s x (r .0) (r .1) in
+            let same : r .0 ≡ p = given-given (r .0) p (sym (at .0) ∙ g) in
+            away (named-within p ok x x-in w q (link l) (rw same at (r .2)));
+        no-order = λ i. away (order-links p ok x x-in l .0 i);
+        no-ring = no-crossing (ringOf p (trailWith p x) x) (λ a i. trail-links p ok x x-in a (ring-labels p (trailWith p x) x a .0 i));
+        no-round = no-crossing (ringOf p (roundWith p x) x) (λ a i. round-links p ok x x-in a (ring-labels p (roundWith p x) x a .0 i));
+      }
