@@ -28,29 +28,35 @@ use Rattle.answers.proofs.Checks.{gives-so, given-given, goes-on, came-from}
 use Rattle.codec.specs.Field.{Bytes}
 use Rattle.listing.specs.Listing.{reading}
 use Rattle.listing.proofs.RoundTrip.{decode-sound}
-use Rattle.walks.specs.Arcs.{Arc, Valid}
+use Rattle.walks.specs.Arcs.{head, Arc, Valid}
 use Rattle.walks.specs.Graph.{To, Crosses, reachedFrom}
 use Rattle.walks.specs.Components.{rootOf, begunAt, roots, componentOf, linkWith, linksWith}
 use Rattle.walks.proofs.Labels.{even-half, odd-half}
 use Rattle.walks.proofs.Components as components
 use Rattle.walks.proofs.Valid.{sound-valid}
 use Rattle.walks.proofs.Visited.{visited-finds}
-use Rattle.plan.specs.Plan.{Connected, trailOf, trailWith, roundOf, roundWith}
+use Rattle.plan.specs.Plan.{Connected, trailOf, trailWith, roundWith, inTable}
 use Rattle.plan.proofs.Connected as connected
 use Rattle.plan.proofs.Trails as trails
 use Rattle.plan.proofs.Rounds as rounds
-use Rattle.rings.specs.Packet.{End}
-use Rattle.rings.specs.Injection.{ringOf}
+use Rattle.rings.specs.Rules.{upByLink, inAll}
+use Rattle.rings.specs.Round.{upByLabel, roundRun}
+use Rattle.rings.specs.Injection.{ringOf, orderOf}
+use Rattle.rings.proofs.Packet.{run-none}
 use Rattle.rings.proofs.Injection.{ring-labels}
 use Rattle.planning.specs.Components.{zeroComponent, componentsWith, componentAt, componentsOf}
 use Rattle.planning.specs.Planning.{planningAt}
 use Rattle.planning.proofs.Plans.{given-at, at-given}
+use Rattle.judging.specs.Conditions.{statesShort}
+use Rattle.judging.proofs.Lent.{trail-own}
 use Rattle.planner.specs.Calls.{parting}
 use Rattle.search.specs.Search.{newSearch}
-use Rattle.probing.specs.Calls.{link, nameIn, naming, beginning}
-use Rattle.probing.proofs.Injection.{trail-links, order-links, round-links}
+use Rattle.probing.specs.Calls.{checkIn, checking, link, nameIn, naming, beginning}
+use Rattle.probing.proofs.Injection.{trail-links, order-links, order-length, round-links}
 use Rattle.probing.proofs.NamedLinks.{named-within}
-use Rattle.demands.specs.Demands.{ComponentsAre, NeverNine, Parted, Elsewhere, OneComponent}
+use Rattle.demands.specs.Demands.{ComponentsAre, NeverNine, Parted, Elsewhere, NoLinks, OneComponent}
+use Rattle.demands.proofs.Packets.{in-long, injection-is}
+use Rattle.demands.proofs.Rounds.{taken-run}
 
 -- ---- the number 9
 
@@ -84,6 +90,10 @@ module _ (p : Plant) (ok : Sound p) where
 
   reach : (x y : ℕ) → x < p .switches → T (reachedFrom p x y) ↔ To p (Arc p) x y
   reach x y h = visited-finds p valid x h y
+
+  begins : getD (roots p) 0 0 ≡ p .start
+  unfolding roots
+  begins = refl
 
   -- the later ones by rising number
   rising : (i j : ℕ) → 1 ≤ i → i < j → j < length (roots p) → getD (roots p) i 0 < getD (roots p) j 0
@@ -119,9 +129,6 @@ module _ (p : Plant) (ok : Sound p) where
     lowest = lowest;
     rising = rising;
   }
-    where
-      begins : getD (roots p) 0 0 ≡ p .start
-      begins = first-root p
 
 -- ---- a plant of one component
 
@@ -198,4 +205,26 @@ module _ (s : List ℕ) (b : Bytes s) (p : Plant) (g : answer (reading s) ≡ gi
         no-order = λ i. away (order-links p ok x x-in l .0 i);
         no-ring = no-crossing (ringOf p (trailWith p x) x) (λ a i. trail-links p ok x x-in a (ring-labels p (trailWith p x) x a .0 i));
         no-round = no-crossing (ringOf p (roundWith p x) x) (λ a i. round-links p ok x x-in a (ring-labels p (roundWith p x) x a .0 i));
+      }
+
+    -- a component without links
+    module _ (none : linksWith p x ≡ 0) where
+      empty : ringOf p (trailWith p x) x ≡ []
+      empty = injection-is p ok x x-in .no-links none .0
+
+      -- its round trail has no hop either
+      empty-round : ringOf p (roundWith p x) x ≡ []
+      empty-round = go (ringOf p (roundWith p x) x) (λ a i. order-links p ok x x-in (a / 2) .1 (round-links p ok x x-in a (ring-labels p (roundWith p x) x a .0 i)))
+        where
+          go : (v : List ℕ) → ((a : ℕ) → In a v → In (a / 2) (orderOf p (trailWith p x) x)) → v ≡ []
+          go [] f = refl
+          go (a ∷ v) f = absurd (omega (arith, order-length p ok x x-in, none, in-long (a / 2) (orderOf p (trailWith p x) x) (f a (inl refl))))
+
+      pub no-links : NoLinks s p x
+      unfolding beginning checking checkIn statesShort roundRun
+      no-links = record {
+        all-up = gives-so (planningAt s x) (λ q. newSearch (linksWith q x)) p (given-at s x p g x-in) ∙ ap given (injection-is p ok x x-in .no-links none .1);
+        full-check = λ states h.
+            goes-on (planningAt s x) (checkIn x (trailOf p) states) p (given-at s x p g x-in) ∙ rw (trail-own p, le-ltb (length states) (p .count) h, empty) (ap given (run-none (inTable p) (upByLink states) (head p) x 0));
+        round-run = λ spare states h. taken-run s b p g x x-in spare states h ∙ rw empty-round (ap given (run-none (inAll p) (upByLabel states) (head p) x 0));
       }

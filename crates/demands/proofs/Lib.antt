@@ -1,9 +1,9 @@
 pub mod RulePages
-pub mod Components
 pub mod Reached
 pub mod Packets
 pub mod GotTo
 pub mod Demand1
+pub mod Components
 pub mod Demand2
 pub mod Demand3
 pub mod BySwitches

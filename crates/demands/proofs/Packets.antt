@@ -30,11 +30,12 @@ use Rattle.rings.proofs.Ring.{ring-empty}
 use Rattle.rings.proofs.Probe as probes
 use Rattle.rings.proofs.Rules.{all-rules}
 use Rattle.rings.proofs.Injection.{has-place, order-once, full-run}
+use Rattle.search.specs.Search.{newSearch}
 use Rattle.probing.proofs.Injection.{ring-at, trail-links, order-links, order-length}
 use Rattle.demands.specs.Demands.{RunIs, RulesAre, InjectionIs}
 
 -- a list with a member is not empty
-in-long : (a : ℕ) (l : List ℕ) → In a l → 1 ≤ length l
+pub in-long : (a : ℕ) (l : List ℕ) → In a l → 1 ≤ length l
 in-long a [] z = absurd z
 in-long a (b ∷ l) i = omega arith
 
@@ -77,7 +78,7 @@ module _ (p : Plant) (ok : Sound p) (x : ℕ) (x-in : x < p .switches) where
       go (a ∷ v) f = absurd (omega (arith, order-length p ok x x-in, e, in-long (a / 2) (orderOf p w x) (order-links p ok x x-in (a / 2) .1 (f a (inl refl)))))
 
   pub injection-is : InjectionIs p x
-  unfolding ringOf ring readFrom orderOf order outward
+  unfolding ringOf ring readFrom orderOf order outward newSearch
   injection-is = record {
     stretch = trails.stretch p ok x x-in;
     place = λ h. has-place p w x (ring-at p ok x x-in) (omega (arith, order-length p ok x x-in));

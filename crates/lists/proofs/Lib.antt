@@ -2,6 +2,7 @@ pub mod Tests
 pub mod Members
 pub mod Count
 pub mod Numbers
+pub mod Rising
 pub mod Least
 pub mod Kept
 pub mod Arrays
