@@ -15,7 +15,9 @@ use Rattle.answers.specs.Checks.{Checked, answer}
 use Rattle.answers.proofs.Checks.{given-given, given-refused, refused-refused, then-is}
 use Rattle.codec.specs.Field.{Bytes}
 use Rattle.limits.specs.Limits.{maxSwitches}
+use Rattle.listing.specs.Listing.{reading}
 use Rattle.listing.proofs.Longest.{longestListing}
+use Rattle.listing.proofs.Front.{decode-front}
 use Rattle.text.specs.Decimal.{readDecimal}
 use Rattle.text.specs.Lines.{refusalOf}
 use Rattle.quantity.specs.Quantity.{maxSpare, orderQuantity}
@@ -23,8 +25,6 @@ use Rattle.sheet.specs.declared.Sheet.{Sheet}
 use Rattle.sheet.specs.Columns.{lineColumns}
 use Rattle.sheet.specs.Page.{buyingPage, pageLength}
 use Rattle.sheet.proofs.Page.{page-size}
-use Rattle.planning.specs.Planning.{planning}
-use Rattle.planning.proofs.Front.{planning-front}
 use Rattle.quoting.specs.Quotes.{pricing}
 use Rattle.planner.specs.Calls.{quotingFor, buying, boughtOut}
 use Rattle.planner.proofs.Buying.{same-spare, quoted-shown, buying-refused, buying-given, buying-left}
@@ -79,7 +79,7 @@ pub printed-front : (n : ℕ) (argument s : List ℕ) → longestListing < n →
 unfolding quotingFor
 printed-front n argument s h =
     let f : Plant → Checked Sheet = λ p. pricing p (readDecimal argument) in
-    ap outputOf (then-is (planning (take n s)) f ∙ ap (λ (a : Answer Plant). a >>= λ p. answer (f p)) (planning-front n s h) ∙ sym (then-is (planning s) f))
+    ap outputOf (then-is (reading (take n s)) f ∙ ap (λ (a : Answer Plant). a >>= λ p. answer (f p)) (decode-front n s h) ∙ sym (then-is (reading s) f))
 
 -- as much of it as fills the buffer of `io` decides
 pub printed-buffer : (argument s : List ℕ) → printed argument (take 4096 s) ≡ printed argument s

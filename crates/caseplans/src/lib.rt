@@ -1,4 +1,4 @@
-// Calls 1 to 6, 18, 19, 22 to 25, 28 and 29 of the program `cases`: reading and writing a listing, its plan, and its buying page. Its main file has the table of cases.
+// Calls 1 to 6, 18, 19, 22 to 25, 28, 29 and 33 of the program `cases`: reading and writing a listing, its plan, and its buying page. Its main file has the table of cases.
 use answers::Verdict;
 use caseform::checksum;
 use caseform::input;
@@ -7,6 +7,8 @@ use listing::Decoded;
 use listing::Written;
 use planner::Summary;
 use planner::Trailed;
+use planning::Component;
+use planning::Components;
 use planning::Numbers;
 use plant::Plant;
 use senders::BySwitch;
@@ -137,6 +139,45 @@ fn by_switch(listing: &[u8]) {
     }
 }
 
+// The checksum with the five numbers of a component.
+fn with_component(h: u32, c: Component) -> u32 {
+    let trail = checksum::with(
+        checksum::with(checksum::with(h, c.first as u16), c.begin),
+        c.hops,
+    );
+    checksum::with(checksum::with(trail, c.round_begin), c.round_hops)
+}
+
+// The numbers of each component.
+fn of_components(cs: Components) -> u32 {
+    let n = cs.count as usize;
+    let mut h: u32 = 0;
+    let mut i: usize = 0;
+    while i < Plant::PLACES {
+        if i < n {
+            h = with_component(h, cs.list[i]);
+        }
+        i += 1;
+    }
+    h
+}
+
+fn show_components(cs: Components) {
+    show::list(5 * (cs.count as u64), of_components(cs));
+}
+
+fn components(listing: &[u8]) {
+    let p = planner::find_components(listing);
+    let v = p.verdict;
+    match v {
+        Verdict::Accepted => {
+            let found = p.components;
+            show_components(found);
+        }
+        Verdict::Refused(k) => show::refusal(k),
+    }
+}
+
 fn show_trailed(t: Trailed) {
     match t {
         Trailed::Hops(hops) => show::number(hops as u64),
@@ -219,6 +260,7 @@ pub fn answer(call: u8, s: &[u8], at: usize) -> usize {
         5 => rules(listing),
         22 => by_switch(listing),
         24 => page_read(listing),
+        33 => components(listing),
         _ => return s.len(),
     }
     input::past_string(s, at)

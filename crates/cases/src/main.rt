@@ -38,6 +38,8 @@
 // 30 new set         listing, desk, console, set              set, search
 // 31 start           listing, desk, console, switch           set, search
 // 32 outcome         listing, desk, console, outcome          set, search
+// 33 components      listing                                  five numbers for each component: its first switch, begin
+//                                                             and hops of its trail, begin and hops of its round trail
 //
 // A plant is its switches, links (two bytes) and start, a two-byte number of link places, and first end, second end and tag (two bytes) of each; the other link
 // places are zero. Marks are a byte string, a byte for each link place from the first on: it is out of service if its byte is not 0, and in service where there
@@ -57,7 +59,7 @@ ghost use Prim.Native.Nat.{_≤_};
 ghost use lib.ListN.{length};
 
 // The most bytes of input that are read.
-const INPUT: usize = 2250000;
+const INPUT: usize = 2450000;
 
 // Prints the answer of the case at a place; the place after it. A byte that is no call ends the input.
 fn answer(s: &[u8], at: usize) -> usize {
@@ -69,7 +71,7 @@ fn answer(s: &[u8], at: usize) -> usize {
     if call < 13 || call == 21 || call == 26 || call == 27 {
         return casepackets::answer(call, s, from);
     }
-    if 30 <= call {
+    if 30 <= call && call < 33 {
         return casedesks::answer(call, s, from);
     }
     if call == 18 || call == 19 || 22 <= call {

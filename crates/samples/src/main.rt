@@ -16,4 +16,5 @@ fn main() {
     print_sample(b"two-rings.listing");
     print_sample(b"limits.listing");
     print_sample(b"out-of-service.listing");
+    print_sample(b"components.listing");
 }
