@@ -547,12 +547,12 @@ pub record Parted (s : List ℕ) (p : Plant) : Type 0 where
   -- how many, and for each its root, where its trail begins among the trails of all and its hops, and the same of its round trail; the places past them are zero
   pub number : componentsOf p .count ≡ length (roots p)
   pub each : (i : ℕ) → i < length (roots p) → getD (componentsOf p .list) i zeroComponent ≡ record {
-      first = getD (roots p) i 0;
-      begin = trailBegin p i;
-      hops = length (trailFrom p (getD (roots p) i 0));
-      «round_begin» = roundBegin p i;
-      «round_hops» = length (roundFrom p (getD (roots p) i 0));
-    }
+    first = getD (roots p) i 0;
+    begin = trailBegin p i;
+    hops = length (trailFrom p (getD (roots p) i 0));
+    «round_begin» = roundBegin p i;
+    «round_hops» = length (roundFrom p (getD (roots p) i 0));
+  }
   pub zeros : (i : ℕ) → length (roots p) ≤ i → getD (componentsOf p .list) i zeroComponent ≡ zeroComponent
   -- each begins where those before it end, the first at 0
   pub begin-first : (trailBegin p 0 ≡ 0) × (roundBegin p 0 ≡ 0)

@@ -362,7 +362,7 @@ module _ (p : Plant) (ok : Valid p) (start-in : p .start < p .switches) where
   pub link-with : (x l : ℕ) → x < S → T (linkWith p x l) ↔ (T (live p l) × T (reachedFrom p (rootOf p x) (first p l)))
   link-with x l h = (
     λ t. let a = and-left (live p l) (eqb (rootOf p (first p l)) (rootOf p x)) t in
-    (a, reached-root (rootOf p x) (first p l) (root-in x h) (root-own x h) .1 (ok .first-in l a, eqb→eq (rootOf p (first p l)) (rootOf p x) (and-right (live p l) (eqb (rootOf p (first p l)) (rootOf p x)) t))),
+        (a, reached-root (rootOf p x) (first p l) (root-in x h) (root-own x h) .1 (ok .first-in l a, eqb→eq (rootOf p (first p l)) (rootOf p x) (and-right (live p l) (eqb (rootOf p (first p l)) (rootOf p x)) t))),
     λ q. and-both (live p l) (eqb (rootOf p (first p l)) (rootOf p x)) (q .0) (eq→eqb (reached-root (rootOf p x) (first p l) (root-in x h) (root-own x h) .0 (q .1) .1)),
   )
 
@@ -375,8 +375,8 @@ module _ (p : Plant) (ok : Valid p) (start-in : p .start < p .switches) where
   arc-with x a h = (
     λ q. and-both (live p (a / 2)) (eqb (rootOf p (first p (a / 2))) (rootOf p x)) (q .1) (eq→eqb (sym (tail-root a (q .1)) ∙ reaches-root (rootOf p x) (tail p a) (root-listed x h) (q .0))),
     λ t. let alive = and-left (live p (a / 2)) (eqb (rootOf p (first p (a / 2))) (rootOf p x)) t in
-    let same = eqb→eq (rootOf p (first p (a / 2))) (rootOf p x) (and-right (live p (a / 2)) (eqb (rootOf p (first p (a / 2))) (rootOf p x)) t) in
-    (reached-root (rootOf p x) (tail p a) (root-in x h) (root-own x h) .1 (tail-in p ok a alive, tail-root a alive ∙ same), alive),
+        let same = eqb→eq (rootOf p (first p (a / 2))) (rootOf p x) (and-right (live p (a / 2)) (eqb (rootOf p (first p (a / 2))) (rootOf p x)) t) in
+        (reached-root (rootOf p x) (tail p a) (root-in x h) (root-own x h) .1 (tail-in p ok a alive, tail-root a alive ∙ same), alive),
   )
 
   pub links-with : (x : ℕ) → x < S → linksWith p x ≡ count (p .count) (linkWith p x)
