@@ -6,6 +6,7 @@ use Rattle.lists.specs.Count.{count}
 use Rattle.lists.specs.Least.{leastFrom}
 use Rattle.lists.specs.Numbers.{range, keep}
 use Rattle.plant.specs.declared.Plant.{Plant}
+use Rattle.limits.specs.Limits.{maxSwitches}
 use Rattle.plant.specs.Links.{live}
 use Rattle.walks.specs.Visit.{scan, visit}
 use Rattle.walks.specs.Arcs.{opposite, tail, head}
@@ -101,12 +102,12 @@ parallel = record {
 -- document 02's `01 40`: "64 empty trails and 0 rules"
 abbrev pub noLinks : Row
 noLinks = record {
-  plant = plantOf 64 [];
-  begun = range 0 64;
+  plant = plantOf maxSwitches [];
+  begun = range 0 maxSwitches;
   trails = [];
   rounds = [];
   in-use = [];
-  links-of = map (λ x. 0) (range 0 64);
+  links-of = map (λ x. 0) (range 0 maxSwitches);
 }
 
 abbrev pub table : List Row

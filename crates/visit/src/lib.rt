@@ -1,11 +1,9 @@
-// The depth-first visit of a plant from a root, and whether it reached all switches. Inner: the calls are those of docs/CALLS.md.
+// The depth-first visit of a plant from a root. Inner: the calls are those of docs/CALLS.md.
 ghost use mathlib.Core.Path.{_≡_};
 ghost use Prim.Native.Nat.{_*_, _≤_, _<_};
 ghost use Rattle.lists.specs.Arrays.{at};
-ghost use Rattle.lists.specs.Numbers.{every};
 ghost use Rattle.limits.specs.Limits.{maxSwitches, maxLinks};
 ghost use Rattle.limits.specs.Sound.{Sound};
-ghost use Rattle.walks.specs.Graph.{reachedFrom};
 ghost use Rattle.arcs.specs.Net.{Ends};
 ghost use Rattle.arcs.specs.Shows.{Visits};
 ghost use Rattle.visit.specs.Inner.{SomeArcs, enterOf, beginOf, At, Went};
@@ -93,21 +91,4 @@ pub fn visit(
     let first = c.first;
     let after = c.after;
     visit_from(heads, &first, &after, n, begin(root), root)
-}
-
-// Did the visit reach every switch?
-pub fn reaches_all(p: Plant, v: Visited) -> bool
-    requires { ⌜ Sound p ⌝ }
-    requires { ⌜ Visits p (v .root) v ⌝ }
-    ensures { λ r. ⌜ r ≡ every (p .switches) (reachedFrom p (v .root)) ⌝ }
-{
-    let e = p.switches as usize;
-    let mut i: usize = 0;
-    while i < e {
-        if !v.seen[i] {
-            return false;
-        }
-        i += 1;
-    }
-    true
 }

@@ -18,7 +18,7 @@ abbrev μ-loop : tie.MeasureT-loop
 μ-loop p tails heads f₀ x₀ f x = p .switches - x
 
 with-component-requires : tie.Need-with-component-requires Inv-loop μ-loop
-with-component-requires c κs = let h = c .before .pre in (h .0, (h .1, (h .0 .start-in, (omega (arith, c .nothing .ensures (c .before .args .p) .count-is), ([], c .nothing .ensures (c .before .args .p))))))
+with-component-requires c κs = let h = c .before .pre in (h .0, (h .1, (omega (arith, h .0 .start-in), (omega (arith, c .nothing .ensures (c .before .args .p) .count-is), ([], c .nothing .ensures (c .before .args .p))))))
 
 loop-holds : tie.Need-loop-holds Inv-loop μ-loop
 loop-holds c =
