@@ -13,7 +13,7 @@ maxSwitches = switches.answer tt tt
 abbrev pub maxLinks : ℕ
 maxLinks = links.answer tt tt
 
--- the most rules that a connected plant can have: its links and its bridges, of which there are fewer than switches; `Plant::MAX_RULES`
+-- the most rules that a plant can have: its links and its bridges, of which there are fewer than switches; `Plant::MAX_RULES`
 abbrev pub maxRules : ℕ
 maxRules = maxLinks + maxSwitches - 1
 

@@ -54,7 +54,7 @@ pub enum Summary {
     Refused(Refusal),
 }
 
-// The hops of a trail that was laid into a buffer.
+// The hops of the trails that were laid into a buffer.
 pub enum Trailed {
     Hops(u16),
     Refused(Refusal),

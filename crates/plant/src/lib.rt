@@ -47,7 +47,7 @@ impl Plant {
 
     pub const LABELS: usize = 2 * Plant::MAX_LINKS;
 
-    // The most rules that a connected plant can have: one for each link, and one more for each bridge, of which there are fewer than switches.
+    // The most rules that a plant can have: one for each link, and one more for each bridge, of which there are fewer than switches.
     pub const MAX_RULES: usize = Plant::MAX_LINKS + Plant::PLACES - 1;
 
     // The most hops that a trail can have.
