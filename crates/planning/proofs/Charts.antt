@@ -30,7 +30,7 @@ use Rattle.arcs.specs.declared.Net.{Net}
 use Rattle.planning.specs.declared.Parts.{Parts}
 use Rattle.planning.specs.declared.Component.{Component}
 use Rattle.planning.specs.Components.{zeroComponent, componentsWith, componentAt, componentWith, componentsOf}
-use Rattle.planning.specs.Plans.{netOf, Charted, Measured, LinksBy}
+use Rattle.planning.specs.Plans.{netOf, rooted, Charted, Measured, LinksBy}
 
 module _ (x : Parts) (chart : Charted x) where
   abbrev p : Plant
@@ -51,7 +51,7 @@ module _ (x : Parts) (chart : Charted x) where
     pub root-below : getD (roots p) i 0 < p .switches
     root-below = listed-in p ok (chart .sound .start-in) (getD (roots p) i 0) listed
 
-    pub net-is : (n : Net) → n ≡ record { switches = x .net .switches; labels = x .net .labels; root = at (x .roots) i } → n ≡ netOf p (getD (roots p) i 0)
+    pub net-is : (n : Net) → n ≡ rooted (x .net) (at (x .roots) i) → n ≡ netOf p (getD (roots p) i 0)
     net-is n e = e ∙ rw (chart .net-is, chart .roots-are i i-in) refl
 
   -- ---- the links of each component
