@@ -5,8 +5,6 @@ ghost use Prim.Native.Nat.{_+_, _*_, _<_};
 ghost use Rattle.lists.specs.Arrays.{at, flag};
 ghost use Rattle.limits.specs.Limits.{maxSwitches, maxLinks};
 ghost use Rattle.limits.specs.Sound.{Sound};
-ghost use Rattle.plant.specs.Links.{live};
-ghost use Rattle.walks.specs.Arcs.{tail};
 ghost use Rattle.walks.specs.Graph.{bridgeFrom};
 ghost use Rattle.arcs.specs.Net.{Ends};
 ghost use Rattle.arcs.specs.Shows.{Visits};
