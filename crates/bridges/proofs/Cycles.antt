@@ -31,7 +31,7 @@ use Rattle.walks.proofs.Valid.{sound-valid}
 use Rattle.arcs.specs.Net.{Ends}
 use Rattle.arcs.specs.declared.Visited.{Visited}
 use Rattle.arcs.specs.Shows.{Shows, Visits}
-use Rattle.bridges.specs.Inner.{acrossOf, EntryLinks, closes, Covered}
+use Rattle.bridges.specs.Inner.{acrossOf, EntryLinks, closesBy, closes, Covered}
 
 across-is : {p : Plant} {tails heads : List ℕ} → Ends p tails heads → (l x : ℕ) → acrossOf (at tails) (at heads) l x ≡ acrossOf (tail p) (head p) l x
 across-is e l x = ap₂ (λ (f g : ℕ → ℕ). acrossOf f g l x) (e .tails-are) (e .heads-are)
@@ -136,14 +136,10 @@ module _ {p : Plant} {r : ℕ} {v : Visited} (sound : Sound p) (visits : Visits 
     unfolding closes
     closes-dead e = rw e
 
-    module _ (part : live p l ≡ true) where
-      pub closes-entered : getD (v .entered) l false ≡ true → closes p r l ≡ false
-      unfolding closes
-      closes-entered e = rw (part, sym (shows .enters l), e)
-
-      pub closes-seen : {x : ℕ} → x ≡ first p l → getD (v .entered) l false ≡ false → getD (v .seen) x false ≡ closes p r l
-      unfolding closes
-      closes-seen {x} x-is e = rw (part, sym (shows .enters l), e, sym x-is) (shows .sees x)
+    -- where it is in service
+    pub closes-live : live p l ≡ true → {x : ℕ} → x ≡ first p l → {b : Bool} → b ≡ closesBy (getD (v .entered) l false) (getD (v .seen) x false) → b ≡ closes p r l
+    unfolding closes closesBy
+    closes-live part {x} x-is e = e ∙ rw (part, sym (shows .enters l), sym x-is) (ap (λ (s : Bool). not (getD (v .entered) l false) && s) (shows .sees x))
 
   closing : (k : ℕ) → closes p r k ≡ true → T (live p k) × (T (enteredFrom p r k) → ⊥) × Seen p r (first p k)
   unfolding closes

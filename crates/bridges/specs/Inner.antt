@@ -20,6 +20,10 @@ use Rattle.walks.specs.Graph.{visitedFrom, reachedFrom, enteredFrom, bridge}
 unfoldable pub acrossOf : (ℕ → ℕ) → (ℕ → ℕ) → ℕ → ℕ → ℕ
 acrossOf tl hd l from = choose (eqb (tl (2 * l)) from) (hd (2 * l)) (tl (2 * l))
 
+-- a link in service closes a cycle: it is not entered, and its first end is seen
+unfoldable pub closesBy : Bool → Bool → Bool
+closesBy entered seen = not entered && seen
+
 module _ (p : Plant) (r : ℕ) where
   -- there is a place for each switch, and that of a switch which was entered by a link below n has the number of that link
   pub record EntryLinks (n : ℕ) (up : List ℕ) : Type 0 where

@@ -2,16 +2,14 @@
 ghost use mathlib.Core.Path.{_≡_};
 ghost use mathlib.Core.Bool.{true};
 ghost use Prim.Native.Nat.{_+_, _*_, _<_};
-ghost use Rattle.lists.specs.Arrays.{at};
-ghost use Rattle.limits.specs.Limits.{maxLinks};
+ghost use Rattle.lists.specs.Arrays.{at, flag};
+ghost use Rattle.limits.specs.Limits.{maxSwitches, maxLinks};
 ghost use Rattle.limits.specs.Sound.{Sound};
-ghost use Rattle.plant.specs.Links.{live};
-ghost use Rattle.walks.specs.Arcs.{tail};
 ghost use Rattle.walks.specs.Graph.{bridgeFrom};
 ghost use Rattle.arcs.specs.Net.{Ends};
 ghost use Rattle.arcs.specs.Shows.{Visits};
 ghost use Rattle.arcs.specs.Flags.{Flags};
-ghost use Rattle.bridges.specs.Inner.{EntryLinks, closes, Covered, acrossOf};
+ghost use Rattle.bridges.specs.Inner.{EntryLinks, closesBy, closes, Covered, acrossOf};
 use arcs::Visited;
 use plant::Plant;
 use plant::in_service;
@@ -45,20 +43,22 @@ fn entry_links(
     up
 }
 
-// Does link l, which is in service, close a cycle with the links that the visit entered?
-fn closes_cycle(p: Plant, tails: &[u8; Plant::LABELS], v: Visited, l: usize) -> bool
-    requires { ⌜ Sound p ⌝ }
-    requires { ⌜ at (now tails) ≡ tail p ⌝ }
-    requires { ⌜ Visits p (v .root) v ⌝ }
+// Does link l, which is in service, close a cycle with the links that the visit entered? It is not entered, and its first end is seen.
+fn closes_cycle(
+    tails: &[u8; Plant::LABELS],
+    seen: &[bool; Plant::PLACES],
+    entered: bool,
+    l: usize,
+) -> bool
     requires { ⌜ l < maxLinks ⌝ }
-    requires { ⌜ live p l ≡ true ⌝ }
-    ensures { λ r. ⌜ r ≡ closes p (v .root) l ⌝ }
+    requires { ⌜ at (now tails) (2 * l) < maxSwitches ⌝ }
+    ensures { λ r. ⌜ r ≡ closesBy entered (flag (now (seen .entry)) (at (now (tails .entry)) (2 * l))) ⌝ }
 {
-    if v.entered[l] {
+    if entered {
         return false;
     }
     let x = tails[2 * l] as usize;
-    v.seen[x]
+    seen[x]
 }
 
 // The end of link l away from the switch `from`, which is one of its two.
@@ -129,7 +129,8 @@ fn covered_links(
     let mut k: usize = 0;
     while k < n {
         if in_service(p.links[k]) {
-            if closes_cycle(p, tails, v, k) {
+            let entered = v.entered[k];
+            if closes_cycle(tails, &v.seen, entered, k) {
                 climb(p, tails, heads, v, up, &mut c, k);
             }
         }

@@ -11,9 +11,8 @@ use lib.Seq.{getD-set-same, getD-set-other}
 use Rattle.lists.specs.Arrays.{flag, at}
 use Rattle.lists.specs.Members.{In}
 use Rattle.lists.proofs.Members.{memb→in, getD-in, in-append, in-append-left, in-append-right}
-use Rattle.lists.proofs.Tests.{eq?, below?, T-or, T-true, not-true-false, and-right, true-T}
+use Rattle.lists.proofs.Tests.{below?, T-true, not-true-false, true-T}
 use Rattle.plant.specs.declared.Plant.{Plant}
-use Rattle.plant.specs.Links.{first}
 use Rattle.limits.specs.Limits.{maxSwitches, maxLinks}
 use Rattle.limits.specs.Sound.{Sound}
 use Rattle.walks.specs.Graph.{visitedFrom, reachedFrom, bridgeFrom, usedFrom}

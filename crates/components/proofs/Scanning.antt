@@ -1,6 +1,6 @@
 -- The roots below a switch, as the switches are gone through: which switch begins a component, that it is apart from those before it, and that all roots tell the components of
 -- the plant. Assumes a sound plant.
-use mathlib.Core.Path.{_≡_, refl, sym, ap, _∙_, subst}
+use mathlib.Core.Path.{_≡_, refl, sym, ap, subst}
 use mathlib.Core.Logic.{_⊎_, inl, inr, ⊎-elim, _↔_}
 use mathlib.Core.Bool.{Bool}
 use mathlib.Core.List.{List, [], _∷_, _++_}

@@ -1,5 +1,5 @@
 -- Laws of the loops: flags of either of two lists, and numbers of switches that are seen, place by place. Assumes what each says.
-use mathlib.Core.Path.{_≡_, refl, sym, _∙_}
+use mathlib.Core.Path.{_≡_, refl, _∙_}
 use mathlib.Core.Logic.{_⊎_, inl, inr}
 use mathlib.Core.Bool.{Bool, true, false, _||_}
 use mathlib.Core.List.{List}
@@ -8,7 +8,7 @@ use native.Mathlib.Omega.{arith}
 use lib.ListN.{length, set, length-set}
 use lib.Seq.{getD-set-same, getD-set-other}
 use Rattle.lists.specs.Arrays.{flag, at}
-use Rattle.lists.proofs.Tests.{eq?, or-no, not-both}
+use Rattle.lists.proofs.Tests.{eq?, not-both}
 use Rattle.limits.specs.Limits.{maxSwitches}
 use Rattle.components.specs.Inner.{Either, Settled}
 

@@ -2,13 +2,13 @@
 // calls are those of docs/CALLS.md.
 use arcs::Visited;
 use plant::Plant;
-ghost use mathlib.Core.Path.{_≡_};
 ghost use mathlib.Core.List.{List, [], _∷_, _++_};
 ghost use Prim.Native.Nat.{ℕ, _≤_, _<_};
 ghost use lib.ListN.{length};
 ghost use Rattle.limits.specs.Limits.{maxSwitches};
 ghost use Rattle.limits.specs.Sound.{Sound};
 ghost use Rattle.arcs.specs.Net.{Ends};
+ghost use Rattle.visit.specs.Inner.{AllChained};
 ghost use Rattle.components.specs.Found.{Finds};
 ghost use Rattle.components.specs.Inner.{Either, Settled, Apart, Covers};
 
@@ -73,17 +73,20 @@ fn with_component(
     p: Plant,
     tails: &[u8; Plant::LABELS],
     heads: &[u8; Plant::LABELS],
+    first: &[u16; Plant::PLACES],
+    after: &[u16; Plant::LABELS],
     f: Found,
     root: u8,
 ) -> Found
     requires { ⌜ Sound p ⌝ }
     requires { ⌜ Ends p (now tails) (now heads) ⌝ }
+    requires { ⌜ AllChained p (now first) (now after) ⌝ }
     requires { ⌜ root < p .switches ⌝ }
     requires { ⌜ f .count < maxSwitches ⌝ }
     requires { ⌜ ((rs : List ℕ) × Covers p rs f) ⌝ }
     ensures { λ r. ⌜ ((rs : List ℕ) → Covers p rs f → Apart p rs root → Covers p (rs ++ (root ∷ [])) r) ⌝ }
 {
-    let v = visit::visit(p, tails, heads, root);
+    let v = visit::visit_by(p, heads, first, after, root);
     let b = bridges::bridges_of(p, tails, heads, v);
     let u = uses::arcs_in_use(p, tails, heads, v, &b);
     let n = p.count as usize;
@@ -111,12 +114,15 @@ pub fn find(p: Plant, tails: &[u8; Plant::LABELS], heads: &[u8; Plant::LABELS]) 
     requires { ⌜ Ends p (now tails) (now heads) ⌝ }
     ensures { λ r. ⌜ Finds p r ⌝ }
 {
-    let mut f = with_component(p, tails, heads, nothing(), p.start);
+    let c = visit::all_chains(p, tails);
+    let first = c.first;
+    let after = c.after;
+    let mut f = with_component(p, tails, heads, &first, &after, nothing(), p.start);
     let mut x: u8 = 0;
     while x < p.switches {
         let i = x as usize;
         if f.home[i] == NONE {
-            f = with_component(p, tails, heads, f, x);
+            f = with_component(p, tails, heads, &first, &after, f, x);
         }
         x += 1;
     }

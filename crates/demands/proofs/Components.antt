@@ -2,8 +2,7 @@
 -- Assumes a sound plant.
 use mathlib.Core.Path.{_≡_, refl, sym, ap, _∙_, subst}
 use mathlib.Core.Logic.{_⊎_, inl, inr, ⊎-elim, _↔_}
-use mathlib.Core.Bool.{_&&_}
-use mathlib.Core.List.{List, [], _∷_, _++_, map}
+use mathlib.Core.List.{List, [], _∷_, map}
 use Prim.Native.Nat.{ℕ, zero, suc, _+_, _*_, _/_, _≤_, _<_}
 use native.Mathlib.Omega.{arith}
 use borrow.Author.Tests.{le-ltb}
@@ -20,9 +19,8 @@ use Rattle.plant.specs.declared.Plant.{Plant}
 use Rattle.plant.specs.Links.{first, live}
 use Rattle.limits.specs.Limits.{maxSwitches}
 use Rattle.limits.specs.Sound.{Sound}
-use Rattle.answers.specs.declared.Refusal.{Refusal}
 use Rattle.answers.specs.declared.Refusal.the-variants as is
-use Rattle.answers.specs.Answers.{given, numberOf}
+use Rattle.answers.specs.Answers.{given}
 use Rattle.answers.specs.Checks.{answer}
 use Rattle.answers.proofs.Checks.{gives-so, given-given, goes-on, came-from}
 use Rattle.codec.specs.Field.{Bytes}
@@ -30,7 +28,7 @@ use Rattle.listing.specs.Listing.{reading}
 use Rattle.listing.proofs.RoundTrip.{decode-sound}
 use Rattle.walks.specs.Arcs.{head, Arc, Valid}
 use Rattle.walks.specs.Graph.{To, Crosses, reachedFrom}
-use Rattle.walks.specs.Components.{rootOf, begunAt, roots, componentOf, linkWith, linksWith}
+use Rattle.walks.specs.Components.{rootOf, begunAt, roots, linkWith, linksWith}
 use Rattle.walks.proofs.Labels.{even-half, odd-half}
 use Rattle.walks.proofs.Components as components
 use Rattle.walks.proofs.Valid.{sound-valid}

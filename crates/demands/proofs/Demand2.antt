@@ -11,7 +11,6 @@ use Rattle.answers.specs.Answers.{given}
 use Rattle.answers.specs.Checks.{check, answer, leaves}
 use Rattle.answers.proofs.Checks.{goes-on, gives-so}
 use Rattle.limits.specs.Sound.{Sound}
-use Rattle.codec.specs.Field.{Bytes}
 use Rattle.listing.specs.Listing.{encode, reading}
 use Rattle.listing.specs.Writing.{writing}
 use Rattle.listing.proofs.RoundTrip.{read-write, write-read, decode-sound}

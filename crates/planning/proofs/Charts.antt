@@ -1,24 +1,24 @@
 -- What the parts of a plan tell of the components: the root and the network of each, the links in service of each, and the component of a switch. Assumes charted parts.
-use mathlib.Core.Path.{_≡_, refl, sym, ap, _∙_, subst}
-use mathlib.Core.Logic.{_⊎_, inl, inr, _↔_}
-use mathlib.Core.Bool.{Bool, true, false, _&&_}
+use mathlib.Core.Path.{_≡_, refl, sym, ap, _∙_}
+use mathlib.Core.Logic.{_↔_}
+use mathlib.Core.Bool.{Bool, _&&_}
 use mathlib.Core.List.{List, map}
-use Prim.Native.Nat.{ℕ, _+_, _*_, _/_, _≤_, _<_}
+use Prim.Native.Nat.{ℕ, _/_, _≤_, _<_}
 use native.Mathlib.Omega.{arith}
 use lib.Dec.{T, eqb, eqb→eq}
 use lib.ListN.{length, getD}
 use Rattle.lists.specs.Arrays.{at}
 use Rattle.lists.specs.Members.{In}
 use Rattle.lists.specs.Numbers.{range}
-use Rattle.lists.specs.Count.{count, bit}
+use Rattle.lists.specs.Count.{count}
 use Rattle.lists.proofs.Members.{getD-in}
 use Rattle.lists.proofs.Count.{count-both}
-use Rattle.lists.proofs.Numbers.{values-at, values-length}
+use Rattle.lists.proofs.Numbers.{values-at}
 use Rattle.lists.proofs.Padded.{padded-at}
 use Rattle.lists.proofs.Tests.{and-left, and-right, and-both, eq→eqb}
 use Rattle.plant.specs.declared.Plant.{Plant}
 use Rattle.plant.specs.Links.{first, live}
-use Rattle.limits.specs.Limits.{maxSwitches, maxLinks}
+use Rattle.limits.specs.Limits.{maxSwitches}
 use Rattle.walks.specs.Arcs.{Valid}
 use Rattle.walks.specs.Graph.{reachedFrom, linksFrom}
 use Rattle.walks.specs.Components.{rootOf, roots, componentOf, linksWith}
@@ -28,9 +28,8 @@ use Rattle.walks.proofs.Round.{round-length}
 use Rattle.walks.proofs.Valid.{sound-valid}
 use Rattle.arcs.specs.declared.Net.{Net}
 use Rattle.planning.specs.declared.Parts.{Parts}
-use Rattle.planning.specs.declared.Component.{Component}
 use Rattle.planning.specs.Components.{zeroComponent, componentsWith, componentAt, componentWith, componentsOf}
-use Rattle.planning.specs.Plans.{netOf, Charted, Measured, LinksBy}
+use Rattle.planning.specs.Plans.{netOf, rooted, Charted, Measured, LinksBy}
 
 module _ (x : Parts) (chart : Charted x) where
   abbrev p : Plant
@@ -51,7 +50,7 @@ module _ (x : Parts) (chart : Charted x) where
     pub root-below : getD (roots p) i 0 < p .switches
     root-below = listed-in p ok (chart .sound .start-in) (getD (roots p) i 0) listed
 
-    pub net-is : (n : Net) → n ≡ record { switches = x .net .switches; labels = x .net .labels; root = at (x .roots) i } → n ≡ netOf p (getD (roots p) i 0)
+    pub net-is : (n : Net) → n ≡ rooted (x .net) (at (x .roots) i) → n ≡ netOf p (getD (roots p) i 0)
     net-is n e = e ∙ rw (chart .net-is, chart .roots-are i i-in) refl
 
   -- ---- the links of each component

@@ -1,5 +1,5 @@
 -- The numbers of a plan: by the flags of its bridges and of its arcs in use, and the hops of its trails. Assumes charted parts, and of the numbers that they are measured.
-use mathlib.Core.Path.{_≡_, ap, _∙_}
+use mathlib.Core.Path.{_≡_, _∙_}
 use mathlib.Core.Bool.{Bool}
 use mathlib.Core.List.{List}
 use Prim.Native.Nat.{ℕ, _*_, _≤_}

@@ -1,6 +1,5 @@
 -- The parts that trails are laid by, from the components that were found: what each step asks, and the parts as a whole. Assumes a sound plant.
-use mathlib.Core.Path.{_≡_, refl, sym, subst}
-use mathlib.Core.Bool.{Bool}
+use mathlib.Core.Path.{_≡_, sym, subst}
 use mathlib.Core.List.{List}
 use Prim.Native.Nat.{ℕ, _*_, _≤_}
 use Rattle.lists.specs.Arrays.{flag, at}

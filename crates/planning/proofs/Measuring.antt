@@ -1,5 +1,5 @@
 -- The components measured one after another: where the trail and the round trail of each begins, and their hops. Assumes parts that trails are laid by.
-use mathlib.Core.Path.{_≡_, refl, sym, ap, _∙_, subst}
+use mathlib.Core.Path.{_≡_, refl, sym, ap, _∙_}
 use mathlib.Core.Logic.{_⊎_, inl, inr}
 use mathlib.Core.List.{List, [], map}
 use Prim.Native.Nat.{ℕ, suc, _+_, _-_, _*_, _≤_, _<_}
@@ -20,7 +20,7 @@ use Rattle.walks.proofs.Round.{round-length}
 use Rattle.walks.proofs.Valid.{sound-valid}
 use Rattle.routes.specs.Plants.{trailFrom}
 use Rattle.arcs.specs.declared.Legs.{Legs}
-use Rattle.plan.specs.Plan.{trailOf, trailBegin, roundOf, roundBegin}
+use Rattle.plan.specs.Plan.{trailOf, trailBegin, roundBegin}
 use Rattle.plan.proofs.Trails as trails
 use Rattle.plan.proofs.Rounds as rounds
 use Rattle.planning.specs.declared.Parts.{Parts}

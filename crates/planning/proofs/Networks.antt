@@ -7,29 +7,28 @@ use mathlib.Core.List.{List, map}
 use Prim.Native.Nat.{ℕ, suc, _*_, _≤_, _<_}
 use native.Mathlib.Omega.{arith}
 use lib.Dec.{T}
-use lib.ListN.{length, getD, List·getD-eq-default}
+use lib.ListN.{List·getD-eq-default}
 use Rattle.lists.specs.Arrays.{flag, at}
 use Rattle.lists.specs.Members.{In}
 use Rattle.lists.specs.Numbers.{range}
 use Rattle.lists.specs.Count.{count}
 use Rattle.lists.proofs.Numbers.{values-at, values-length}
-use Rattle.lists.proofs.Tests.{below?, not-true-false, true-T, T-true}
+use Rattle.lists.proofs.Tests.{below?, not-true-false, true-T}
 use Rattle.plant.specs.declared.Plant.{Plant}
-use Rattle.limits.specs.Limits.{maxLinks, maxRules, maxSwitches}
+use Rattle.limits.specs.Limits.{maxLinks, maxRules}
 use Rattle.limits.specs.Sound.{Sound}
 use Rattle.walks.specs.Arcs.{tail, head, Valid}
 use Rattle.walks.specs.Graph.{reachedFrom, usedFrom, arcsUsedFrom}
 use Rattle.walks.specs.Components.{roots, used}
 use Rattle.walks.proofs.Labels.{tail-in, head-in}
 use Rattle.walks.proofs.Orientation.{from-arc}
-use Rattle.walks.proofs.Components.{used-arc, used-in, used-reached, in-roots}
+use Rattle.walks.proofs.Components.{used-arc, used-in, in-roots}
 use Rattle.walks.proofs.Limits.{few-arcs}
 use Rattle.walks.proofs.Valid.{sound-valid}
 use Rattle.routes.specs.Meaning.{Strong}
 use Rattle.routes.specs.Plants.{trailFrom}
 use Rattle.routes.specs.Trail.{trail}
 use Rattle.routes.proofs.Plants.{used-below, part-strong}
-use Rattle.arcs.specs.declared.Net.{Net}
 use Rattle.arcs.specs.Net.{Ends, Within}
 use Rattle.arcs.specs.Chains.{TailsIn, Chained, following}
 use Rattle.arcs.specs.Table.{cell, distanceIn, distancesIn, trailIn}

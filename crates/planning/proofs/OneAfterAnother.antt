@@ -27,8 +27,6 @@ use Rattle.arcs.specs.declared.Legs.{Legs}
 use Rattle.arcs.specs.declared.Visited.{Visited}
 use Rattle.arcs.specs.Shows.{Visits}
 use Rattle.arcs.specs.Table.{trailIn}
-use Rattle.arcs.specs.Parts as network
-use Rattle.arcs.specs.Legs.{LegsOf}
 use Rattle.trail.specs.declared.Compared.{Compared}
 use Rattle.trail.specs.declared.Compared.the-variants.{Same, Other}
 use Rattle.trail.specs.Filled.{filledWith, Tells}
@@ -38,8 +36,9 @@ use Rattle.round.specs.declared.Round.{Round}
 use Rattle.round.specs.Round.{labelsOf, Labels}
 use Rattle.round.proofs.Follow.{left-length}
 use Rattle.planning.specs.declared.Parts.{Parts}
-use Rattle.planning.specs.Plans.{netOf, usedFlags, LegsFrom, Charted, Laying}
+use Rattle.planning.specs.Plans.{netOf, rooted, usedFlags, LegsBy, Charted, Laying}
 use Rattle.planning.proofs.Networks.{net-trail}
+use Rattle.planning.proofs.Laid.{own-net, net-parts, net-legs, own-legs}
 
 -- ---- lists that follow one another
 
@@ -137,28 +136,24 @@ unfolding trailsOf
 trails-chained p = refl
 
 -- by the sizes of the network and the legs of component i
-module _ {x : Parts} {t : List (List ℕ)} (laying : Laying x t) {i : ℕ} (h : i < length (roots (x .plant))) {net : Net} (e : net ≡ netOf (x .plant) (getD (roots (x .plant)) i 0))
-    {legs : Legs} (legs-are : LegsFrom x (getD (roots (x .plant)) i 0) legs)
+module _ {x : Parts} {t : List (List ℕ)} (laying : Laying x t) {i : ℕ} (h : i < length (roots (x .plant))) {net : Net} (e : net ≡ rooted (x .net) (at (x .roots) i))
+    {legs : Legs} (by : LegsBy net (x .tails) (x .heads) (x .first) (x .after) t i (x .legs) legs)
   where
     abbrev r : ℕ
     r = getD (roots (x .plant)) i 0
 
     pub trailing : Trailing net (x .tails) (x .heads) (x .first) (x .after) t legs
-    trailing = record {
-      used = usedFlags (x .plant) r;
-      parts = subst (λ (n : Net). network.Parts n (x .tails) (x .heads) (usedFlags (x .plant) r) (x .first) (x .after) t) (sym e) (laying .tables r (getD-in (roots (x .plant)) i h));
-      legs-are = subst (λ (n : Net). LegsOf n (x .tails) (x .heads) (usedFlags (x .plant) r) legs) (sym e) legs-are;
-    }
+    trailing = record { used = usedFlags (x .plant) r; parts = net-parts x t laying i h net e; legs-are = net-legs x t laying i h net e legs by }
 
     own : trailIn (netOf (x .plant) r) (x .tails) (x .heads) (usedFlags (x .plant) r) ≡ trailFrom (x .plant) r
     own = net-trail (x .plant) (laying .charted .sound) (x .tails) (x .heads) (laying .charted .ends) r
 
     pub trail-is : trailBy trailing ≡ trailFrom (x .plant) r
     unfolding trailing
-    trail-is = ap (λ (n : Net). trailIn n (x .tails) (x .heads) (usedFlags (x .plant) r)) e ∙ own
+    trail-is = ap (λ (n : Net). trailIn n (x .tails) (x .heads) (usedFlags (x .plant) r)) (own-net x t laying i h net e) ∙ own
 
     pub trail-hops : legs .hops ≡ length (trailFrom (x .plant) r)
-    trail-hops = legs-are .hops ∙ ap length own
+    trail-hops = own-legs x t laying i h net e legs by .hops ∙ ap length own
 
 -- ---- round trails
 

@@ -6,18 +6,16 @@ use mathlib.Core.Bool.{Bool, true, false, _&&_}
 use mathlib.Core.List.{List, [], _∷_}
 use Prim.Native.Nat.{ℕ, _-_, _≤_, _<_}
 use native.Mathlib.Omega.{arith}
-use borrow.Author.Tests.{eq-eqb, ne-eqb}
-use lib.Dec.{T, eqb}
-use lib.ListN.{length}
+use borrow.Author.Tests.{ne-eqb}
+use lib.Dec.{T}
 use Rattle.lists.specs.Members.{In}
-use Rattle.lists.specs.Count.{count}
 use Rattle.lists.specs.Least.{leastFrom}
 use Rattle.lists.proofs.Tests.{eq?}
 use Rattle.lists.proofs.Count.{count-all}
 use Rattle.walks.specs.Walk.{Walk}
 use Rattle.walks.proofs.Walk.{keeps}
 use Rattle.routes.specs.Distance.{dist}
-use Rattle.routes.specs.Meaning.{InUse, Way, Reached, Strong}
+use Rattle.routes.specs.Meaning.{InUse, Strong}
 use Rattle.routes.proofs.Fewest.{dist-fewest}
 use Rattle.routes.proofs.Trails.{dist-lt}
 use Rattle.arcs.specs.Chains.{leaving, following}

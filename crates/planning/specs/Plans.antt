@@ -29,6 +29,15 @@ netOf p r = record { switches = p .switches; labels = 2 * p .count; root = r }
 unfoldable pub usedFlags : Plant → ℕ → List Bool
 usedFlags p r = map (usedFrom p r) (range 0 (2 * maxLinks))
 
+-- a network from another root
+abbrev pub rooted : Net → ℕ → Net
+rooted net r = record { switches = net .switches; labels = net .labels; root = r }
+
+-- where `own` are the legs of a network that is the first, the legs are those of its trail
+abbrev pub LegsBy : Net → (tails heads first after : List ℕ) → List (List ℕ) → ℕ → (own legs : Legs) → Type 0
+LegsBy net tails heads first after t i own legs =
+    (w : network.SomeParts net tails heads first after t) → (i ≡ 0 → LegsOf net tails heads (w .used) own) → LegsOf net tails heads (w .used) legs
+
 -- the links in service of each component, by its number
 abbrev pub LinksBy : Plant → List ℕ → Type 0
 LinksBy p links = (i : ℕ) → i < length (roots p) → at links i ≡ linksFrom p (getD (roots p) i 0)

@@ -21,8 +21,9 @@ ghost use Rattle.walks.specs.Round.{roundFrom};
 ghost use Rattle.plan.specs.Plan.{trailOf, roundOf, tableOf};
 ghost use Rattle.trail.specs.Filled.{filledWith, Tells};
 ghost use Rattle.round.specs.Round.{labelsOf};
+ghost use Rattle.arcs.specs.Parts.{SomeParts};
 ghost use Rattle.planning.specs.Components.{componentsWith, componentWith};
-ghost use Rattle.planning.specs.Plans.{netOf, LegsFrom, Charted, OfPlant, LinksBy, Laying, Plan};
+ghost use Rattle.planning.specs.Plans.{netOf, rooted, LegsBy, Charted, OfPlant, LinksBy, Laying, Plan};
 ghost use Rattle.planning.specs.Planning.{planningAt, Plots, Ready};
 ghost use Rattle.planning.specs.Numbers.{numbersOf};
 
@@ -182,33 +183,35 @@ fn drawn(p: Plant, t: &mut [[u8; Plant::PLACES]; Plant::PLACES]) -> Parts
     }
 }
 
-// The sizes of the network from the root of component i.
-fn net_at(x: Parts, i: usize) -> Net
-    requires { ⌜ Charted x ⌝ }
-    requires { ⌜ i < length (roots (x .plant)) ⌝ }
-    ensures { λ r. ⌜ r ≡ netOf (x .plant) (getD (roots (x .plant)) i 0) ⌝ }
+// The sizes of a network from another root.
+fn net_from(net: Net, root: u8) -> Net
+    ensures { λ r. ⌜ r ≡ rooted net root ⌝ }
 {
     Net {
-        switches: x.net.switches,
-        labels: x.net.labels,
-        root: x.roots[i],
+        switches: net.switches,
+        labels: net.labels,
+        root,
     }
 }
 
-// The legs of the trail of component i. Those of the start's are at hand.
-fn legs_at(x: Parts, t: &[[u8; Plant::PLACES]; Plant::PLACES], i: usize) -> Legs
-    requires { ⌜ Laying x (now t) ⌝ }
-    requires { ⌜ i < length (roots (x .plant)) ⌝ }
-    ensures { λ r. ⌜ LegsFrom x (getD (roots (x .plant)) i 0) r ⌝ }
+// The legs of the trail of component i, whose network is `net`. Those of the start's are at hand.
+fn legs_for(
+    net: Net,
+    tails: &[u8; Plant::LABELS],
+    heads: &[u8; Plant::LABELS],
+    first: &[u16; Plant::PLACES],
+    after: &[u16; Plant::LABELS],
+    t: &[[u8; Plant::PLACES]; Plant::PLACES],
+    i: usize,
+    own: Legs,
+) -> Legs
+    requires { ⌜ SomeParts net (now tails) (now heads) (now first) (now after) (now t) ⌝ }
+    ensures { λ r. ⌜ LegsBy net (now (tails .entry)) (now (heads .entry)) (now (first .entry)) (now (after .entry)) (now (t .entry)) i own r ⌝ }
 {
     if i == 0 {
-        return x.legs;
+        return own;
     }
-    let tails = x.tails;
-    let heads = x.heads;
-    let first = x.first;
-    let after = x.after;
-    legs::legs_of(net_at(x, i), &tails, &heads, &first, &after, *t)
+    legs::legs_of(net, tails, heads, first, after, *t)
 }
 
 // The links in service of each component.
@@ -238,13 +241,18 @@ fn measured(x: Parts, t: &[[u8; Plant::PLACES]; Plant::PLACES]) -> Parts
     ensures { λ r. ⌜ Plan r (now (t .entry)) ⌝ }
 {
     let links = links_by(x);
+    let tails = x.tails;
+    let heads = x.heads;
+    let first = x.first;
+    let after = x.after;
     let mut components = Components::none();
     let n = x.count as usize;
     let mut begin: u16 = 0;
     let mut round: u16 = 0;
     let mut i: usize = 0;
     while i < n {
-        let legs = legs_at(x, t, i);
+        let net = net_from(x.net, x.roots[i]);
+        let legs = legs_for(net, &tails, &heads, &first, &after, t, i, x.legs);
         let both = 2 * links[i];
         components.list[i] = Component {
             first: x.roots[i],
@@ -356,8 +364,8 @@ pub fn lay(x: Parts, t: &[[u8; Plant::PLACES]; Plant::PLACES], buf: &mut [u16])
     let mut at: usize = 0;
     let mut i: usize = 0;
     while i < n {
-        let net = net_at(x, i);
-        let legs = legs_at(x, t, i);
+        let net = net_from(x.net, x.roots[i]);
+        let legs = legs_for(net, &tails, &heads, &first, &after, t, i, x.legs);
         at = trail::lay(net, &tails, &heads, &first, &after, t, legs, buf, at);
         i += 1;
     }
@@ -376,8 +384,8 @@ pub fn compare(x: Parts, t: &[[u8; Plant::PLACES]; Plant::PLACES], lent: &[u16])
     let mut at: usize = 0;
     let mut i: usize = 0;
     while i < n {
-        let net = net_at(x, i);
-        let legs = legs_at(x, t, i);
+        let net = net_from(x.net, x.roots[i]);
+        let legs = legs_for(net, &tails, &heads, &first, &after, t, i, x.legs);
         match trail::compare(net, &tails, &heads, &first, &after, t, legs, lent, at) {
             Compared::Same(next) => {
                 at = next;

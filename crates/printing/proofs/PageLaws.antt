@@ -17,7 +17,7 @@ use Rattle.plant.specs.declared.Plant.{Plant}
 use Rattle.limits.specs.Sound.{Sound}
 use Rattle.limits.specs.Limits.{maxSwitches, maxRules}
 use Rattle.walks.specs.Arcs.{tail, head}
-use Rattle.walks.specs.Components.{roots, used, arcsUsed}
+use Rattle.walks.specs.Components.{roots, used}
 use Rattle.walks.proofs.Valid.{sound-valid}
 use Rattle.walks.proofs.Labels.{arc-below, tail-in, head-in}
 use Rattle.walks.proofs.Components.{used-arc, roots-few}

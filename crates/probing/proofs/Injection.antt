@@ -1,6 +1,6 @@
 -- Injection at a switch of a plant: the trail of its component leaves the switch, the order has each link of the component once, and E, the number of links that a search is over,
 -- is its length. So probe m returns exactly if m is less than the place of the first broken link. Assumes a sound plant and one of its switches.
-use mathlib.Core.Path.{_≡_, refl, sym, _∙_, subst}
+use mathlib.Core.Path.{_≡_, refl, sym, subst}
 use mathlib.Core.Logic.{_⊎_, inl, inr, ⊎-elim, _↔_}
 use mathlib.Core.Bool.{Bool}
 use mathlib.Core.List.{List, [], _∷_}

@@ -13,7 +13,7 @@ use Rattle.limits.specs.Sound.{Sound}
 use Rattle.answers.specs.Answers.{Answer, given, refused, _>>=_}
 use Rattle.answers.specs.Checks.{Checked, check, answer, _then_}
 use Rattle.answers.proofs.Checks.{then-is}
-use Rattle.walks.specs.Arcs.{opposite, head}
+use Rattle.walks.specs.Arcs.{head}
 use Rattle.walks.specs.Components.{linkWith, linksWith, used}
 use Rattle.walks.proofs.Labels.{opposite-half}
 use Rattle.plan.specs.Plan.{trailWith, roundOf, roundWith, inTable}

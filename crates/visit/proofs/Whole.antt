@@ -27,11 +27,11 @@ use Rattle.walks.proofs.Rising.{rising}
 use Rattle.walks.proofs.Fuel.{unique}
 use Rattle.walks.proofs.Visited.{begin, visited-run}
 use Rattle.walks.proofs.Valid.{sound-valid}
-use Rattle.arcs.specs.Net.{Ends, AllArcs}
+use Rattle.arcs.specs.Net.{AllArcs}
 use Rattle.arcs.specs.Chains.{Chained, TailsIn}
 use Rattle.arcs.specs.declared.Visited.{Visited}
 use Rattle.arcs.specs.Shows.{Shows, Visits}
-use Rattle.visit.specs.Inner.{SomeArcs, unvisited, beginOf, At, Tries, Went}
+use Rattle.visit.specs.Inner.{SomeArcs, AllChained, unvisited, beginOf, At, Tries, Went}
 use Rattle.visit.proofs.Entering.{unvisited-set}
 
 -- ---- the beginning
@@ -76,30 +76,31 @@ module _ (root : ℕ) (root-in : root < maxSwitches) where
 
 -- ---- over all arcs of a plant
 
-module _ (p : Plant) (sound : Sound p) {tails heads : List ℕ} (ends : Ends p tails heads) {flags : List Bool} (all : AllArcs p flags) where
-  -- the ends of a flagged arc are switches
+module _ (p : Plant) (sound : Sound p) (tails : List ℕ) (tails-are : at tails ≡ tail p) {flags : List Bool} (all : AllArcs p flags) where
+  -- the tail of a flagged arc is a switch
   pub tails-in : TailsIn (2 * p .count) tails flags
-  tails-in a h t =
-      omega (arith, sound .few-switches, ap (λ (f : ℕ → ℕ). f a) (ends .tails-are), tail-in p (sound-valid p sound) a (rw (all .tells a) at t))
+  tails-in a h t = omega (arith, sound .few-switches, ap (λ (f : ℕ → ℕ). f a) tails-are, tail-in p (sound-valid p sound) a (rw (all .tells a) at t))
 
-  pub heads-in : (a : ℕ) → a < 2 * p .count → T (flag flags a) → at heads a < maxSwitches
-  heads-in a h t =
-      omega (arith, sound .few-switches, ap (λ (f : ℕ → ℕ). f a) (ends .heads-are), head-in p (sound-valid p sound) a (rw (all .tells a) at t))
+  -- the flagged arcs are the arcs of the plant
+  pub all-chained : {first after : List ℕ} → Chained (2 * p .count) (at tails) (flag flags) first after → AllChained p first after
+  all-chained {first} {after} c =
+      let same : flag flags ≡ (λ a. live p (a / 2)) = λ j a. all .tells a j in
+      subst (λ (f : ℕ → ℕ). Chained (2 * p .count) f (λ a. live p (a / 2)) first after) tails-are
+      (subst (λ (o : ℕ → Bool). Chained (2 * p .count) (at tails) o first after) same c)
+
+module _ (p : Plant) (sound : Sound p) (heads : List ℕ) (heads-are : at heads ≡ head p) where
+  pub heads-in : (a : ℕ) → a < 2 * p .count → T (live p (a / 2)) → at heads a < maxSwitches
+  heads-in a h t = omega (arith, sound .few-switches, ap (λ (f : ℕ → ℕ). f a) heads-are, head-in p (sound-valid p sound) a t)
 
   -- the arcs that the visit tries
-  abbrev pub tried : {first after : List ℕ} → Chained (2 * p .count) (at tails) (flag flags) first after → SomeArcs (2 * p .count) heads first after
-  tried c = record { tl = at tails; ok = flag flags; heads-in = heads-in; chained = c }
+  abbrev pub tried : {first after : List ℕ} → AllChained p first after → SomeArcs (2 * p .count) heads first after
+  tried c = record { tl = tail p; ok = λ a. live p (a / 2); heads-in = heads-in; chained = c }
 
   module _ (root : ℕ) (root-in : root < p .switches) (r : Visited) where
-    -- the flagged arcs are the arcs of the plant
-    of-plant : Went (2 * p .count) (at tails) (at heads) (flag flags) (beginOf root) root r → Went (2 * p .count) (tail p) (head p) (λ a. live p (a / 2)) (beginOf root) root r
-    of-plant w =
-        let same : flag flags ≡ (λ a. live p (a / 2)) = λ j a. all .tells a j in
-        subst (λ (f : ℕ → ℕ). Went (2 * p .count) f (head p) (λ a. live p (a / 2)) (beginOf root) root r) (ends .tails-are)
-        (subst (λ (f : ℕ → ℕ). Went (2 * p .count) (at tails) f (λ a. live p (a / 2)) (beginOf root) root r) (ends .heads-are)
-        (subst (λ (o : ℕ → Bool). Went (2 * p .count) (at tails) (at heads) o (beginOf root) root r) same w))
+    of-plant : Went (2 * p .count) (tail p) (at heads) (λ a. live p (a / 2)) (beginOf root) root r → Went (2 * p .count) (tail p) (head p) (λ a. live p (a / 2)) (beginOf root) root r
+    of-plant w = subst (λ (f : ℕ → ℕ). Went (2 * p .count) (tail p) f (λ a. live p (a / 2)) (beginOf root) root r) heads-are w
 
-    pub whole : Went (2 * p .count) (at tails) (at heads) (flag flags) (beginOf root) root r → Visits p root r
+    pub whole : Went (2 * p .count) (tail p) (at heads) (λ a. live p (a / 2)) (beginOf root) root r → Visits p root r
     whole w = record {
       root-is = w .root-kept ∙ begin-root root place;
       root-in = root-in;

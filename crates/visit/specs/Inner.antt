@@ -2,13 +2,16 @@
 use mathlib.Core.Path.{_≡_}
 use mathlib.Core.Bool.{Bool, true, false, not}
 use mathlib.Core.List.{List}
-use Prim.Native.Nat.{ℕ, _+_, _≤_, _<_}
+use Prim.Native.Nat.{ℕ, _+_, _*_, _/_, _≤_, _<_}
 use lib.Dec.{T}
 use lib.ListN.{length, getD, set, replicate}
 use Rattle.lists.specs.Arrays.{flag, at}
 use Rattle.lists.specs.Count.{count}
 use Rattle.lists.specs.Numbers.{range, keep}
+use Rattle.plant.specs.declared.Plant.{Plant}
+use Rattle.plant.specs.Links.{live}
 use Rattle.limits.specs.Limits.{maxSwitches, maxLinks}
+use Rattle.walks.specs.Arcs.{tail}
 use Rattle.walks.specs.Visit.{St}
 use Rattle.walks.specs.Inner.{Scan}
 use Rattle.arcs.specs.Chains.{Chained}
@@ -21,6 +24,10 @@ pub record SomeArcs (n : ℕ) (heads first after : List ℕ) : Type 0 where
   pub ok : ℕ → Bool
   pub heads-in : (a : ℕ) → a < n → T (ok a) → at heads a < maxSwitches
   pub chained : Chained n tl ok first after
+
+-- the arrays have the chains of all arcs of a plant, those whose links are in service
+abbrev pub AllChained : Plant → (first after : List ℕ) → Type 0
+AllChained p first after = Chained (2 * p .count) (tail p) (λ a. live p (a / 2)) first after
 
 -- how many switches are not visited
 unfoldable pub unvisited : List Bool → ℕ

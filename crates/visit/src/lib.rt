@@ -4,9 +4,11 @@ ghost use Prim.Native.Nat.{_*_, _≤_, _<_};
 ghost use Rattle.lists.specs.Arrays.{at};
 ghost use Rattle.limits.specs.Limits.{maxSwitches, maxLinks};
 ghost use Rattle.limits.specs.Sound.{Sound};
+ghost use Rattle.walks.specs.Arcs.{tail, head};
 ghost use Rattle.arcs.specs.Net.{Ends};
 ghost use Rattle.arcs.specs.Shows.{Visits};
-ghost use Rattle.visit.specs.Inner.{SomeArcs, enterOf, beginOf, At, Went};
+ghost use Rattle.visit.specs.Inner.{SomeArcs, AllChained, enterOf, beginOf, At, Went};
+use arcs::Chains;
 use arcs::Visited;
 use plant::Plant;
 
@@ -73,6 +75,35 @@ fn begin(root: u8) -> Visited
     v
 }
 
+// The chains of all arcs of a plant, which each visit of it goes by.
+pub fn all_chains(p: Plant, tails: &[u8; Plant::LABELS]) -> Chains
+    requires { ⌜ Sound p ⌝ }
+    requires { ⌜ at (now tails) ≡ tail p ⌝ }
+    ensures { λ r. ⌜ AllChained p (r .first) (r .after) ⌝ }
+{
+    let n = 2 * p.count;
+    let all = arcs::all_arcs(p);
+    arcs::chains_of(tails, &all, n)
+}
+
+// The depth-first visit from a root by the chains of all arcs.
+pub fn visit_by(
+    p: Plant,
+    heads: &[u8; Plant::LABELS],
+    first: &[u16; Plant::PLACES],
+    after: &[u16; Plant::LABELS],
+    root: u8,
+) -> Visited
+    requires { ⌜ Sound p ⌝ }
+    requires { ⌜ at (now heads) ≡ head p ⌝ }
+    requires { ⌜ AllChained p (now first) (now after) ⌝ }
+    requires { ⌜ root < p .switches ⌝ }
+    ensures { λ r. ⌜ Visits p root r ⌝ }
+{
+    let n = 2 * p.count;
+    visit_from(heads, first, after, n, begin(root), root)
+}
+
 // The depth-first visit from a root.
 pub fn visit(
     p: Plant,
@@ -85,10 +116,8 @@ pub fn visit(
     requires { ⌜ root < p .switches ⌝ }
     ensures { λ r. ⌜ Visits p root r ⌝ }
 {
-    let n = 2 * p.count;
-    let all = arcs::all_arcs(p);
-    let c = arcs::chains_of(tails, &all, n);
+    let c = all_chains(p, tails);
     let first = c.first;
     let after = c.after;
-    visit_from(heads, &first, &after, n, begin(root), root)
+    visit_by(p, heads, &first, &after, root)
 }

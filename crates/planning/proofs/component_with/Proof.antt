@@ -1,9 +1,6 @@
 -- `planning::component_with` meets its contract. Assumes nothing.
-use Prim.Native.Nat.{_<_}
 use native.Mathlib.Omega.{arith}
 use borrow.Author.Needs.{needs}
-use Rattle.lists.specs.Arrays.{at}
-use Rattle.limits.specs.Limits.{maxSwitches}
 use Rattle.planning.proofs.Charts.{home-place, component-told}
 use Rattle.planning.proofs.component_with.Statement.{statement}
 use Rattle.planning.proofs.component_with.Tie as tie

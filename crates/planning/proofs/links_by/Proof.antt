@@ -1,5 +1,5 @@
 -- `planning::links_by` meets its contract. The loop's invariant: of each component the links below l that are in service are counted. Assumes nothing.
-use mathlib.Core.Path.{_≡_, refl, sym, ap, _∙_, subst}
+use mathlib.Core.Path.{_≡_, sym, _∙_, subst}
 use mathlib.Core.Logic.{⊎-elim}
 use mathlib.Core.Bool.{true, _&&_}
 use Prim.Native.Nat.{ℕ, _*_, _-_, _≤_, _<_}

@@ -1,5 +1,5 @@
 -- `planning::plan_in` meets its contract. Assumes nothing.
-use mathlib.Core.Path.{refl, _∙_}
+use mathlib.Core.Path.{_∙_}
 use borrow.Author.Needs.{needs}
 use Rattle.planning.proofs.Plans.{is-planned}
 use Rattle.planning.proofs.plan_in.Statement.{statement}

@@ -1,27 +1,15 @@
--- `visit::visit` meets its contract: the state that the visit shows is the only one that the visit's relation leads to. Assumes nothing.
-use native.Mathlib.Omega.{arith}
-use borrow.Author.Needs.{needs}
-use Rattle.visit.proofs.Whole.{begin-at, tails-in, tried, whole}
+-- `visit::visit` meets its contract. Assumes nothing.
 use Rattle.visit.proofs.visit.Statement.{statement}
 use Rattle.visit.proofs.visit.Tie as tie
 
-chains-of-requires : tie.Need-chains-of-requires
-chains-of-requires c κs = let h = c .before .before .before .pre in (omega (arith, h .0 .few-links), tails-in _ (h .0) (h .1 .0) (c .before .all-arcs .ensures))
+all-chains-requires : tie.Need-all-chains-requires
+all-chains-requires c κs = let h = c .pre in (h .0, h .1 .0 .tails-are)
 
-visit-from-requires : tie.Need-visit-from-requires
-visit-from-requires c κs =
-    let d = c .before .before .before .before .before in
-    let a = d .before .before in
-    let h = a .before .before .pre in
-    (omega (arith, h .0 .few-links), (tried _ (h .0) (h .1 .0) (a .all-arcs .ensures) (d .chains-of .ensures), rw (c .begin .ensures) (begin-at _ (omega (arith, h .0 .few-switches)))))
-
-returns : tie.Need-returns
-returns c =
-    let d = c .before .before .before .before .before .before in
-    let a = d .before .before in
-    let h = a .before .before .pre in
-    let w = tried _ (h .0) (h .1 .0) (a .all-arcs .ensures) (d .chains-of .ensures) in
-    whole _ (h .0) (h .1 .0) (a .all-arcs .ensures) _ (h .1 .1) _ (rw (c .before .begin .ensures) at (c .visit-from .ensures w))
+visit-by-requires : tie.Need-visit-by-requires
+visit-by-requires c κs =
+    let d = c .before .before .before .before in
+    let h = d .before .pre in
+    (h .0, (h .1 .0 .heads-are, (d .all-chains .ensures, h .1 .1)))
 
 pub visit-spec : {M : Type 1} → statement M
-visit-spec = tie.close (tie.spec (λ c. search needs) (λ c κs. search needs) chains-of-requires (λ c κs. search needs) visit-from-requires returns)
+visit-spec = tie.close (tie.spec all-chains-requires visit-by-requires (λ c. c .visit-by .ensures))
