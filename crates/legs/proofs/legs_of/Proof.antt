@@ -24,7 +24,9 @@ loop-holds c w = found-none (w .parts) _ _ (c .before .before .before .firsts-re
 -- what the next leg makes
 turned : (c : lts.In-loop (firsts-reached-reads.Asked, firsts-reached-reads.Learnt, nearest-reads.Asked, nearest-reads.Learnt) reads.Pre reads.Post Inv-loop μ-loop)
     → let k = c .before .loop in Turn (c .before .before .before .before .before .before .before .before .pre .parts) (k .low) (k .aims) (k .k) (k .hops) (k .u) (k .a) (k .inv _)
-turned c = turn _ _ _ _ _ _ _ _ (c .loop-test .taken)
+turned c =
+    let k = c .before .loop in
+    turn (c .before .before .before .before .before .before .before .before .pre .parts) (k .low) (k .aims) (k .k) (k .hops) (k .u) (k .a) (k .inv _) (c .loop-test .taken)
 
 -- what the way back makes
 ended : (c : lts.After-loop (firsts-reached-reads.Asked, firsts-reached-reads.Learnt, nearest-reads.Asked, nearest-reads.Learnt) reads.Pre reads.Post Inv-loop μ-loop)

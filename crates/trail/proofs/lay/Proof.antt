@@ -35,7 +35,9 @@ next : (c : lts.In-loop (lay-way-reads.Asked, lay-way-reads.Learnt) reads.Pre re
     → let s = c .before .before .before in let k = c .before .loop in
     (w : Trailing (s .args .net) (s .args .tails .now) (s .args .heads .now) (s .args .first .now) (s .args .after .now) (s .args .t .now) (s .args .t7))
     → Leg (w .parts) (w .legs-are) (k .inv .0) (k .u) (k .k) (k .inv .1 w .0) (at (s .args .t7 .aims) (k .k))
-next c w = leg _ _ _ _ _ _ (c .loop-test .taken)
+next c w =
+    let k = c .before .loop in
+    leg (w .parts) (w .legs-are) (k .inv .0) (k .u) (k .k) (k .inv .1 w .0) (c .loop-test .taken)
 
 lay-way-requires : tie.Need-lay-way-requires Inv-loop μ-loop
 lay-way-requires c κs =
