@@ -387,12 +387,8 @@ pub fn compare(x: Parts, t: &[[u8; Plant::PLACES]; Plant::PLACES], lent: &[u16])
         let net = net_from(x.net, x.roots[i]);
         let legs = legs_for(net, &tails, &heads, &first, &after, t, i, x.legs);
         match trail::compare(net, &tails, &heads, &first, &after, t, legs, lent, at) {
-            Compared::Same(next) => {
-                at = next;
-            }
-            Compared::Other => {
-                return Compared::Other;
-            }
+            Compared::Same(next) => at = next,
+            Compared::Other => return Compared::Other,
         }
         i += 1;
     }
@@ -438,12 +434,8 @@ pub fn compare_round(x: Parts, lent: &[u16]) -> Compared
     let mut i: usize = 0;
     while i < n {
         match round::compare(round_at(x, i), lent, at) {
-            Compared::Same(next) => {
-                at = next;
-            }
-            Compared::Other => {
-                return Compared::Other;
-            }
+            Compared::Same(next) => at = next,
+            Compared::Other => return Compared::Other,
         }
         i += 1;
     }
