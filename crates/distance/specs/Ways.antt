@@ -35,10 +35,10 @@ Zeroed t i r = Turned [] (λ u row new. new ≡ set row u 0) t i r
 abbrev pub FewInRow : List ℕ → Type 0
 FewInRow row = (j : ℕ) → j < maxSwitches → at row j ≤ maxSwitches
 
--- a table has a row for each switch that there can be, and no more hops in any
-pub record FewHops (t : List (List ℕ)) : Type 0 where
+-- a table has a row for each switch that there can be, and in no row more hops than S
+pub record FewHops (S : ℕ) (t : List (List ℕ)) : Type 0 where
   pub rows : length t ≡ maxSwitches
-  pub few : (i : ℕ) → i < maxSwitches → FewInRow (getD t i [])
+  pub few : (i j : ℕ) → i < maxSwitches → j < maxSwitches → cell t i j ≤ S
 
 -- the less of two numbers: c without what it has above d
 abbrev pub lesser : ℕ → ℕ → ℕ

@@ -80,11 +80,11 @@ fn by_way(row: [u8; Plant::PLACES], on: [u8; Plant::PLACES], d: u8) -> [u8; Plan
     r
 }
 
-// Every row by way of switch k.
+// Every row by way of switch k; one from whose switch no walk leads to k stays as it is.
 fn through(t: &mut [[u8; Plant::PLACES]; Plant::PLACES], s: u8, k: usize)
     requires { ⌜ s ≤ maxSwitches ⌝ }
     requires { ⌜ k < maxSwitches ⌝ }
-    requires { ⌜ FewHops (now t) ⌝ }
+    requires { ⌜ FewHops s (now t) ⌝ }
     ensures { λ _. ⌜ Through k (now (t .entry)) s (now (t .exit)) ⌝ }
 {
     let m = s as usize;
@@ -92,7 +92,9 @@ fn through(t: &mut [[u8; Plant::PLACES]; Plant::PLACES], s: u8, k: usize)
     let mut i: usize = 0;
     while i < m {
         let d = t[i][k];
-        t[i] = by_way(t[i], on, d);
+        if d < s {
+            t[i] = by_way(t[i], on, d);
+        }
         i += 1;
     }
 }

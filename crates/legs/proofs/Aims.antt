@@ -17,14 +17,16 @@ use Rattle.lists.proofs.Count.{count-le}
 use Rattle.lists.proofs.Tests.{and-left}
 use Rattle.limits.specs.Limits.{maxSwitches, maxLinks, maxRules, maxHops}
 use Rattle.routes.specs.Trail.{unmarked, mark, marks, uncrossed, nearest, legs, trail}
-use Rattle.routes.specs.Meaning.{InUse}
+use Rattle.walks.specs.Walk.{here, step}
+use Rattle.routes.specs.Meaning.{InUse, Reached}
+use Rattle.routes.proofs.Distances.{route-none}
 use Rattle.routes.proofs.Marks.{remaining, marks-less}
 use Rattle.routes.proofs.Nearest.{Nearest, nearest-none, nearest?}
 use Rattle.routes.proofs.Legs.{one-leg, last-leg, leg-leaves}
 use Rattle.arcs.specs.declared.Net.{Net}
 use Rattle.arcs.specs.Table.{cell, trailIn}
 use Rattle.arcs.specs.Parts.{Parts}
-use Rattle.arcs.proofs.Following.{follows-after}
+use Rattle.arcs.proofs.Following.{follows-first, follows-after}
 use Rattle.arcs.specs.Legs.{routeIn, Joined, along, LegsOf}
 use Rattle.arcs.proofs.Ways.{parts-hops, part-joined, way-size}
 use Rattle.legs.specs.Firsts.{Firsts}
@@ -86,10 +88,36 @@ module _ {net : Net} {tails heads : List ℕ} {used : List Bool} {first after : 
     pub goes : (w : List ℕ) → by w u ≡ rest k crossed u → by (take k aims ++ w) (net .root) ≡ all
     pub counted : hops + length (rest k crossed u) ≡ length all
 
-  pub asks-first : (low : List ℕ) → Firsts S n (net .root) first t S low → Tabled S n t low (net .root)
+  -- ---- no leg
+
+  -- where no arc in use leaves the root, there is none at all: over the first arc of a walk from the root to its tail it would
+  none-at-all : n ≤ at first (net .root) → (b : ℕ) → InUse n ok b → ⊥
+  none-at-all h b i = go (p .strong .joined (net .root) (tl b) (p .strong .starts) (p .strong .tails b (i .0) (i .1)))
+    where
+      stays : (a : ℕ) → InUse n ok a → tl a ≡ net .root → ⊥
+      stays a j e = omega (arith, h, j .0, follows-first p (net .root) (p .strong .starts) .lowest a (omega arith) (j .0) (j .1) e)
+
+      go : Reached S n tl hd ok (net .root) (tl b) → ⊥
+      go (here e) = stays b i (sym e)
+      go (step a j e r) = stays a j e
+
+  -- so that the trail has no hop
+  pub no-legs : n ≤ at first (net .root) → (aims : List ℕ) → LegsOf net tails heads used (record { count = 0; hops = 0; aims = aims })
+  unfolding trail
+  no-legs h aims = record { few = omega arith; in-use = λ a i. absurd i; goes = end; hops = sym (ap length (end ∙ back)) }
+    where
+      end : all ≡ routeIn net tails heads used (net .root) (net .root)
+      end = last-leg S n tl hd ok (net .root) (count n ok) unmarked (net .root) (λ b i v. none-at-all h b (i, and-left (ok b) true v))
+
+      back : routeIn net tails heads used (net .root) (net .root) ≡ []
+      back = route-none S n tl hd ok (net .root) (net .root) refl
+
+  -- ---- the legs one after the other
+
+  pub asks-first : (low : List ℕ) → Firsts S n (net .root) first t maxSwitches low → Tabled S n t low (net .root)
   asks-first low firsts = tabled low (net .root) unmarked (p .strong .starts) (lows-first p low firsts)
 
-  pub found-none : (low : List ℕ) (a : ℕ) → Firsts S n (net .root) first t S low → NearestBy S n t low (net .root) a
+  pub found-none : (low : List ℕ) (a : ℕ) → Firsts S n (net .root) first t maxSwitches low → NearestBy S n t low (net .root) a
       → Found low (replicate maxRules 0) 0 0 (net .root) a
   unfolding trail
   found-none low a firsts near = record {

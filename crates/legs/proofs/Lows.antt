@@ -11,6 +11,7 @@ use lib.Dec.{T, ltb}
 use lib.ListN.{length, set}
 use Rattle.lists.specs.Arrays.{flag, at}
 use Rattle.lists.proofs.Tests.{T-or, eq?, and-left, and-both}
+use Rattle.limits.specs.Limits.{maxSwitches}
 use Rattle.routes.specs.Distance.{dist}
 use Rattle.routes.specs.Trail.{unmarked, uncrossed}
 use Rattle.routes.specs.Meaning.{InUse}
@@ -26,7 +27,7 @@ use Rattle.legs.specs.Nearest.{Lows}
 
 -- at first, in the parts of a plan
 module _ {net : Net} {tails heads : List ℕ} {used : List Bool} {first after : List ℕ} {t : List (List ℕ)} (p : Parts net tails heads used first after t) (low : List ℕ)
-    (firsts : Firsts (net .switches) (net .labels) (net .root) first t (net .switches) low)
+    (firsts : Firsts (net .switches) (net .labels) (net .root) first t maxSwitches low)
   where
     -- a switch of the part has its first arc, and any other none
     first-in : (x : ℕ) → T (p .part x) → at low x ≡ at first x
@@ -34,13 +35,13 @@ module _ {net : Net} {tails heads : List ℕ} {used : List Bool} {first after : 
     first-in x h =
         let j = part-joined p (net .root) x (p .strong .starts) h in
         let e : ltb (cell t (net .root) x) (net .switches) ≡ true = lt-ltb (cell t (net .root) x) (net .switches) (omega (arith, j .reached, p .cells (net .root) x (p .strong .starts) h)) in
-        firsts .done x (p .strong .inside x h) ∙ rw e refl
+        firsts .done x (omega (arith, p .strong .inside x h, p .within .few-switches)) ∙ rw e refl
 
     first-out : (x : ℕ) → x < net .switches → (T (p .part x) → ⊥) → at low x ≡ net .labels
     unfolding firstOf
     first-out x h f =
         let e : ltb (cell t (net .root) x) (net .switches) ≡ false = le-ltb (cell t (net .root) x) (net .switches) (p .apart x h f) in
-        firsts .done x h ∙ rw e refl
+        firsts .done x (omega (arith, h, p .within .few-switches)) ∙ rw e refl
 
     pub lows-first : Lows (net .switches) (net .labels) (at tails) (flag used) (at low) unmarked
     lows-first = record {

@@ -1,7 +1,7 @@
 -- Inner: the first arc of each switch that a walk from the root reaches, as the table tells. No promise of a call needs it. Assumes nothing.
 use mathlib.Core.Path.{_≡_}
 use mathlib.Core.List.{List}
-use Prim.Native.Nat.{ℕ, _≤_, _<_}
+use Prim.Native.Nat.{ℕ, _<_}
 use lib.Dec.{ltb}
 use lib.ListN.{length}
 use Rattle.lists.specs.Arrays.{at}
@@ -15,8 +15,7 @@ module _ (S n root : ℕ) (first : List ℕ) (t : List (List ℕ)) where
   unfoldable pub firstOf : ℕ → ℕ
   firstOf x = choose (ltb (cell t root x) S) (at first x) n
 
-  -- the switches below y have theirs, and the others none
+  -- the switches below y have theirs
   pub record Firsts (y : ℕ) (low : List ℕ) : Type 0 where
     pub long : length low ≡ maxSwitches
     pub done : (x : ℕ) → x < y → at low x ≡ firstOf x
-    pub left : (x : ℕ) → y ≤ x → x < maxSwitches → at low x ≡ n

@@ -3,7 +3,9 @@
 use arcs::Legs;
 use arcs::Net;
 use plant::Plant;
-ghost use Prim.Native.Nat.{_≤_, _<_};
+ghost use mathlib.Core.Path.{_≡_};
+ghost use Prim.Native.Nat.{_<_};
+ghost use Rattle.lists.specs.Tests.{choose};
 ghost use Rattle.limits.specs.Limits.{maxSwitches};
 ghost use Rattle.arcs.specs.Parts.{SomeParts};
 ghost use Rattle.arcs.specs.Legs.{LegsOf};
@@ -43,31 +45,82 @@ fn nearest(
     best
 }
 
+// The label, if the test passed, or none.
+fn label_if(test: bool, label: u16, none: u16) -> u16
+    ensures { λ r. ⌜ r ≡ choose test label none ⌝ }
+{
+    if test {
+        return label;
+    }
+    none
+}
+
 // The first arc of each switch that a walk from the root reaches; none of any other switch. The table tells which these are.
 fn firsts_reached(
     net: Net,
     first: &[u16; Plant::PLACES],
     t: &[[u8; Plant::PLACES]; Plant::PLACES],
 ) -> [u16; Plant::PLACES]
-    requires { ⌜ net .switches ≤ maxSwitches ⌝ }
-    requires { ⌜ net .root < net .switches ⌝ }
-    ensures { λ r. ⌜ Firsts (net .switches) (net .labels) (net .root) (now (first .entry)) (now (t .entry)) (net .switches) r ⌝ }
+    requires { ⌜ net .root < maxSwitches ⌝ }
+    ensures { λ r. ⌜ Firsts (net .switches) (net .labels) (net .root) (now (first .entry)) (now (t .entry)) maxSwitches r ⌝ }
 {
     let m = net.switches;
     let none = net.labels;
     let root = net.root as usize;
     let mut low = [none; Plant::PLACES];
     let mut y: usize = 0;
-    while y < m as usize {
-        if t[root][y] < m {
-            low[y] = first[y];
-        }
+    while y < Plant::PLACES {
+        low[y] = label_if(t[root][y] < m, first[y], none);
         y += 1;
     }
     low
 }
 
-// The legs of the trail. What is uncrossed is kept as the lowest uncrossed label of each switch.
+// The legs of the trail. What is uncrossed is kept as the lowest uncrossed label of each switch. From a root that no arc in use leaves there is no leg.
+pub fn legs_by(
+    net: Net,
+    tails: &[u8; Plant::LABELS],
+    heads: &[u8; Plant::LABELS],
+    first: &[u16; Plant::PLACES],
+    after: &[u16; Plant::LABELS],
+    t: &[[u8; Plant::PLACES]; Plant::PLACES],
+) -> Legs
+    requires { ⌜ SomeParts net (now tails) (now heads) (now first) (now after) (now t) ⌝ }
+    ensures { λ r. ⌜ ((w : SomeParts net (now (tails .entry)) (now (heads .entry)) (now (first .entry)) (now (after .entry)) (now (t .entry))) → LegsOf net (now (tails .entry)) (now (heads .entry)) (w .used) r) ⌝ }
+{
+    let none = net.labels;
+    let root = net.root as usize;
+    let mut aims = [0u16; Plant::MAX_RULES];
+    if none <= first[root] {
+        return Legs {
+            count: 0,
+            hops: 0,
+            aims,
+        };
+    }
+    let mut low = firsts_reached(net, first, t);
+    let mut k: usize = 0;
+    let mut hops: u16 = 0;
+    let mut u = net.root;
+    let mut a = nearest(net, t, &low, u);
+    while a < none {
+        let i = a as usize;
+        let x = tails[i] as usize;
+        aims[k] = a;
+        k += 1;
+        hops += t[u as usize][x] as u16 + 1;
+        low[x] = after[i];
+        u = heads[i];
+        a = nearest(net, t, &low, u);
+    }
+    Legs {
+        count: k as u16,
+        hops: hops + t[u as usize][root] as u16,
+        aims,
+    }
+}
+
+// The legs of the trail, by a table of distances that is handed over.
 pub fn legs_of(
     net: Net,
     tails: &[u8; Plant::LABELS],
@@ -79,27 +132,5 @@ pub fn legs_of(
     requires { ⌜ SomeParts net (now tails) (now heads) (now first) (now after) t ⌝ }
     ensures { λ r. ⌜ ((w : SomeParts net (now (tails .entry)) (now (heads .entry)) (now (first .entry)) (now (after .entry)) t) → LegsOf net (now (tails .entry)) (now (heads .entry)) (w .used) r) ⌝ }
 {
-    let none = net.labels;
-    let root = net.root as usize;
-    let mut low = firsts_reached(net, first, &t);
-    let mut aims = [0u16; Plant::MAX_RULES];
-    let mut k: usize = 0;
-    let mut hops: u16 = 0;
-    let mut u = net.root;
-    let mut a = nearest(net, &t, &low, u);
-    while a < none {
-        let i = a as usize;
-        let x = tails[i] as usize;
-        aims[k] = a;
-        k += 1;
-        hops += t[u as usize][x] as u16 + 1;
-        low[x] = after[i];
-        u = heads[i];
-        a = nearest(net, &t, &low, u);
-    }
-    Legs {
-        count: k as u16,
-        hops: hops + t[u as usize][root] as u16,
-        aims,
-    }
+    legs_by(net, tails, heads, first, after, &t)
 }

@@ -211,7 +211,7 @@ fn legs_for(
     if i == 0 {
         return own;
     }
-    legs::legs_of(net, tails, heads, first, after, *t)
+    legs::legs_by(net, tails, heads, first, after, t)
 }
 
 // The links in service of each component.

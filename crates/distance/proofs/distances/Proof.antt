@@ -22,7 +22,7 @@ through-requires : tie.Need-through-requires Inv-loop μ-loop
 through-requires c κs =
     let k = c .before .before .loop in
     let few = c .before .before .before .before .before .before .pre .few-switches in
-    (few, (omega (arith, few, c .before .loop-test .taken), record { rows = k .inv .1 .near .shape .long; few = λ i h j l. omega (arith, few, k .inv .1 .near .top i j h l) }))
+    (few, (omega (arith, few, c .before .loop-test .taken), record { rows = k .inv .1 .near .shape .long; few = λ i j h l. k .inv .1 .near .top i j h l }))
 
 loop-again : tie.Need-loop-again Inv-loop μ-loop
 loop-again c =

@@ -1,12 +1,16 @@
 -- Every row by way of switch k, row by row. Assumes nothing.
-use mathlib.Core.Path.{_≡_, ap}
-use mathlib.Core.List.{List}
-use Prim.Native.Nat.{ℕ, _≤_, _-_}
+use mathlib.Core.Path.{_≡_, sym, ap, subst}
+use mathlib.Core.Logic.{⊎-elim}
+use mathlib.Core.List.{List, []}
+use Prim.Native.Nat.{ℕ, _+_, _-_, _≤_}
 use native.Mathlib.Omega.{arith}
 use borrow.Author.Needs.{needs}
+use lib.ListN.{getD}
 use Rattle.lists.specs.Arrays.{at}
+use Rattle.limits.specs.Limits.{maxSwitches}
+use Rattle.arcs.specs.Table.{cell}
 use Rattle.distance.specs.Ways.{Through}
-use Rattle.distance.proofs.Turns.{turned-none, turned-put}
+use Rattle.distance.proofs.Turns.{turned-none, turned-put, turned-pass, far-away}
 use Rattle.distance.proofs.through.Statement.{statement}
 use Rattle.distance.proofs.through.Tie as tie
 
@@ -24,17 +28,22 @@ index-1-d c = omega (arith, c .loop-test .taken, c .before .before .before .pre 
 
 by-way-requires : tie.Need-by-way-requires Inv-loop μ-loop
 by-way-requires c κs =
-    let k = c .before .before .before .loop in
-    let s = c .before .before .before .before .before in
-    let h = s .args .k in
-    let few = s .pre .1 .1 .few in
-    (omega (arith, ap (λ (r : List ℕ). at r h) (k .inv .1 .left (k .i) (omega arith)), few (k .i) (index-1-d (c .before .before)) h (s .pre .1 .0)), few h (s .pre .1 .0))
+    let s = c .before .before .before .before .before .before in
+    (omega (arith, c .before .if1 .taken, s .pre .0), λ j l. omega (arith, s .pre .1 .1 .few (s .args .k) j (s .pre .1 .0) l, s .pre .0))
 
+-- where no walk leads to k, the row has no more hops than that
 loop-again : tie.Need-loop-again Inv-loop μ-loop
 loop-again c =
-    let k = c .before .before .before .before .loop in
-    let rows = c .before .before .before .before .before .before .pre .1 .1 .rows in
-    (omega arith, turned-put _ _ _ (k .i) _ (k .t) (omega (arith, rows, index-1-d (c .before .before .before))) (k .inv .1) (c .by-way .ensures))
+    let i = c .before .before in
+    let k = i .before .loop in
+    let s = i .before .before .before in
+    let few = s .pre .1 .1 in
+    let i-in = index-1-d i in (
+      omega arith,
+      ⊎-elim (λ w. subst (Through (s .args .k) (s .args .t .now) (k .i + 1)) (sym (w .3)) (turned-put _ _ _ (k .i) _ (k .t) (omega (arith, few .rows, i-in)) (k .inv .1) (w .2 .ensures)))
+          (λ w. subst (Through (s .args .k) (s .args .t .now) (k .i + 1)) (sym (w .1)) (turned-pass _ _ _ (k .i) (k .t) (k .inv .1)
+          (far-away (getD (k .t) (k .i) []) (getD (s .args .t .now) (s .args .k) []) (cell (k .t) (k .i) (s .args .k)) maxSwitches (λ v l. omega (arith, ap (λ (r : List ℕ). at r v) (k .inv .1 .left (k .i) (omega arith)), few .few (k .i) v i-in l, w .0 .left))))) (c .if1 .came),
+    )
 
 returns : tie.Need-returns Inv-loop μ-loop
 returns c =
@@ -44,5 +53,5 @@ returns c =
 pub through-spec : {M : Type 1} → statement M
 through-spec =
     tie.close (tie.spec Inv-loop μ-loop (λ c. search needs) (λ c. search needs) loop-holds (λ c. omega (arith, index-1-d c)) index-1-d (λ c. search needs)
-    (λ c. omega (arith, index-1-d (c .before))) (λ c. index-1-d (c .before)) by-way-requires (λ c. omega (arith, index-1-d (c .before .before .before)))
-    (λ c. index-1-d (c .before .before .before)) (λ c. search needs) (λ c. search needs) loop-again returns)
+    (λ c. omega (arith, index-1-d (c .before .before))) (λ c. index-1-d (c .before .before)) by-way-requires (λ c. omega (arith, index-1-d (c .before .before .before .before)))
+    (λ c. index-1-d (c .before .before .before .before)) (λ c. search needs) (λ c. search needs) loop-again returns)
