@@ -3,7 +3,7 @@ use mathlib.Core.Path.{_≡_, refl, _∙_}
 use mathlib.Core.Logic.{inl, _↔_}
 use mathlib.Core.Bool.{Bool, true, false}
 use mathlib.Core.List.{List, [], _∷_, _++_}
-use Prim.Native.Nat.{ℕ, _/_, _≤_, _<_}
+use Prim.Native.Nat.{ℕ, _+_, _/_, _≤_, _<_}
 use native.Mathlib.Omega.{arith}
 use borrow.Author.Tests.{eqb-true, eq-eqb, ne-eqb}
 use lib.Dec.{T, eqb}
@@ -13,17 +13,18 @@ use Rattle.lists.proofs.Tests.{and-comm, and-true, true-T, T-true}
 use Rattle.plant.specs.declared.Plant.{Plant}
 use Rattle.limits.specs.Sound.{Sound}
 use Rattle.walks.specs.Arcs.{tail, head}
-use Rattle.walks.specs.Components.{linkWith, linksWith, used}
+use Rattle.walks.specs.Components.{componentOf, linkWith, linksWith, used}
 use Rattle.walks.proofs.Components.{links-with}
 use Rattle.walks.proofs.Valid.{sound-valid}
-use Rattle.plan.specs.Plan.{trailWith}
+use Rattle.plan.specs.Plan.{trailWith, trailBegin}
 use Rattle.plan.proofs.Trails as trails
+use Rattle.plan.proofs.Places.{trail-place}
 use Rattle.rings.specs.Packet.{run, rulesFor}
 use Rattle.rings.specs.Rules.{inAll}
-use Rattle.rings.specs.Ring.{readFrom, ring}
+use Rattle.rings.specs.Ring.{FirstHop, readFrom, ring}
 use Rattle.rings.specs.Order.{nth, order}
 use Rattle.rings.specs.Probe.{upTo, back, outward, probe}
-use Rattle.rings.specs.Injection.{ringOf, orderOf, probeRules, probeOf, probeRun}
+use Rattle.rings.specs.Injection.{placeOf, ringOf, orderOf, probeRules, probeOf, probeRun}
 use Rattle.rings.proofs.Packet.{run-none, run-label}
 use Rattle.rings.proofs.Ring as rings
 use Rattle.rings.proofs.Ring.{ring-empty}
@@ -31,8 +32,12 @@ use Rattle.rings.proofs.Probe as probes
 use Rattle.rings.proofs.Rules.{all-rules}
 use Rattle.rings.proofs.Injection.{has-place, order-once, full-run}
 use Rattle.search.specs.Search.{newSearch}
+use Rattle.order.specs.declared.Span.{Span}
+use Rattle.order.specs.Span.{shiftedBy}
+use Rattle.probing.specs.Calls.{outSpan}
+use Rattle.probing.proofs.OutwardLabels.{own-stands, own-from}
 use Rattle.probing.proofs.Injection.{ring-at, trail-links, order-links, order-length}
-use Rattle.demands.specs.Demands.{RunIs, RulesAre, InjectionIs}
+use Rattle.demands.specs.Demands.{RunIs, RulesAre, StandsIn, InjectionIs}
 
 -- a list with a member is not empty
 pub in-long : (a : ℕ) (l : List ℕ) → In a l → 1 ≤ length l
@@ -77,12 +82,27 @@ module _ (p : Plant) (ok : Sound p) (x : ℕ) (x-in : x < p .switches) where
       go [] f = refl
       go (a ∷ v) f = absurd (omega (arith, order-length p ok x x-in, e, in-long (a / 2) (orderOf p w x) (order-links p ok x x-in (a / 2) .1 (f a (inl refl)))))
 
+  has-hop : 1 ≤ linksWith p x → FirstHop (tail p) x w (placeOf p w x)
+  has-hop h = has-place p w x (ring-at p ok x x-in) (omega (arith, order-length p ok x x-in))
+
+  -- where the outward labels stand in the whole lent trail
+  span-from : (m : ℕ) → outSpan p x m .from ≡ trailBegin p (componentOf p x) + placeOf p w x
+  unfolding outSpan shiftedBy
+  span-from m = omega (arith, own-from p x m)
+
+  span-within : (m : ℕ) → StandsIn (trailBegin p (componentOf p x)) (trailBegin p (componentOf p x) + length w) (outSpan p x m)
+  unfolding outSpan shiftedBy
+  span-within m = let s = own-stands p x m in record { stretch = (omega arith, omega (arith, s .stretch)); front = (omega arith, omega (arith, s .front)) }
+
   pub injection-is : InjectionIs p x
   unfolding ringOf ring readFrom orderOf order outward newSearch
   injection-is = record {
     stretch = trails.stretch p ok x x-in;
-    place = λ h. has-place p w x (ring-at p ok x x-in) (omega (arith, order-length p ok x x-in));
+    place = has-hop;
     place-empty = λ e. rw e (rings.place-empty (tail p) x);
+    place-lent = λ h. trail-place p ok x x-in (placeOf p w x) (has-hop h);
+    span-from = span-from;
+    span-within = span-within;
     ring = refl;
     no-links = λ e. (rw (nothing e) (ring-empty (tail p) x), rw e refl);
     order-each = order-links p ok x x-in;

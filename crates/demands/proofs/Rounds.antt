@@ -31,6 +31,7 @@ use Rattle.walks.proofs.Labels.{even-half, odd-half, even-arc, odd-arc}
 use Rattle.plan.specs.Plan.{trailOf, trailWith, roundOf, roundWith}
 use Rattle.plan.specs.Rounds.{IsRound, AreRounds}
 use Rattle.plan.proofs.Plan.{used-arc}
+use Rattle.plan.proofs.Places.{round-place}
 use Rattle.plan.proofs.Rounds as rounds
 use Rattle.plan.proofs.Rounds.{round-from, rounds-are}
 use Rattle.rings.specs.Packet.{End}
@@ -176,6 +177,7 @@ module _ (s : List ℕ) (b : Bytes s) (p : Plant) (g : answer (reading s) ≡ gi
   round-run = record {
     stretch = rounds.stretch p ok x h;
     place = place p ok x h;
+    place-lent = λ l. round-place p ok x h (placeOf p w₀ x) (place p ok x h l);
     at-root = at-root p ok x h;
     vouches = vouches p (linkWith p x) (alive p x) w₀ (rootOf p x) (is p ok x h .closed) (round-exactly p ok x h) x (leaves p ok x h);
     taken = λ spare states l. (roundRun p w₀ x states, taken-run spare states l);

@@ -70,7 +70,7 @@ use Rattle.sheet.specs.Shown.{ThreeDigits, Shown}
 use Rattle.planning.specs.Components.{zeroComponent, componentsOf}
 use Rattle.planning.specs.Planning.{planningAt}
 use Rattle.planner.specs.Calls.{rewriting, rewritten, rereading, summing, bridging, parting, tabling, counting, trailing, laidOut, roundTrailing, roundLaidOut, buying, boughtOut}
-use Rattle.probing.specs.Calls.{running, checking, roundRunning, choosing, ordering, outLabels, outgoing, probeEnd, probing, link, naming, beginning, performing}
+use Rattle.probing.specs.Calls.{running, checking, roundRunning, choosing, ordering, outLabels, outSpan, outgoing, probeEnd, probing, link, naming, beginning, performing}
 use Rattle.probing.specs.Searches.{sentOver, actualOutcome, Says, Searches}
 use Rattle.desk.specs.declared.Held.{Held}
 use Rattle.desk.specs.declared.Held.the-variants.{Nothing, From}
@@ -172,6 +172,11 @@ pub record RulesAre (p : Plant) : Type 0 where
   pub all : (at a : ℕ) → (inAll p at a ≡ true) ↔ (T (live p (a / 2)) × (tail p a ≡ at))
   pub number : allRules p ≡ 2 * liveLinks p
 
+-- both parts that a span names stand between places i and j of a lent trail
+pub record StandsIn (i j : ℕ) (b : Span) : Type 0 where
+  pub stretch : (i ≤ b .from) × (b .from + b .len ≤ j)
+  pub front : (i ≤ b .begin) × (b .begin + b .front ≤ j)
+
 -- injection at switch x: its place, its ring, the order of links, and probes, all in the component of x
 pub record InjectionIs (p : Plant) (x : ℕ) : Type 0 where
   -- the trail of the component stands among the trails of all, from the hops of those before it on
@@ -179,6 +184,11 @@ pub record InjectionIs (p : Plant) (x : ℕ) : Type 0 where
   -- "the place is the first hop of the trail that leaves it (0 if the trail is empty)"
   pub place : 1 ≤ linksWith p x → FirstHop (tail p) x (trailWith p x) (placeOf p (trailWith p x) x)
   pub place-empty : trailWith p x ≡ [] → placeOf p (trailWith p x) x ≡ 0
+  -- so it is in the whole lent trail, where the place is this number after the hops of the components before; and the outward labels of a probe, the whole ring among them, are
+  -- answered as parts of it that begin there and stand within the stretch of the component
+  pub place-lent : 1 ≤ linksWith p x → FirstHop (tail p) x (trailOf p) (trailBegin p (componentOf p x) + placeOf p (trailWith p x) x)
+  pub span-from : (m : ℕ) → outSpan p x m .from ≡ trailBegin p (componentOf p x) + placeOf p (trailWith p x) x
+  pub span-within : (m : ℕ) → StandsIn (trailBegin p (componentOf p x)) (trailBegin p (componentOf p x) + length (trailWith p x)) (outSpan p x m)
   -- "the ring is read from there to the trail's end, then from its front"
   pub ring : ringOf p (trailWith p x) x ≡ drop (placeOf p (trailWith p x) x) (trailWith p x) ++ take (placeOf p (trailWith p x) x) (trailWith p x)
   -- "an island without links has an empty ring and is All up"
@@ -369,6 +379,7 @@ pub record RoundRun (s : List ℕ) (p : Plant) (x : ℕ) : Type 0 where
   pub stretch : take (length (roundWith p x)) (drop (roundBegin p (componentOf p x)) (roundOf p)) ≡ roundWith p x
   -- it begins at the place of the switch on it; at the root that is the round trail itself
   pub place : 1 ≤ linksWith p x → FirstHop (tail p) x (roundWith p x) (placeOf p (roundWith p x) x)
+  pub place-lent : 1 ≤ linksWith p x → FirstHop (tail p) x (roundOf p) (roundBegin p (componentOf p x) + placeOf p (roundWith p x) x)
   pub at-root : x ≡ rootOf p x → ringOf p (roundWith p x) x ≡ roundWith p x
   -- "its packet comes home exactly if every direction is up": it "vouches for its island alone"
   pub vouches : Vouches p (linkWith p x) x (ringOf p (roundWith p x) x)

@@ -1,14 +1,15 @@
 -- Laws of the lists that a function has at some numbers, one after another: their members, their length, and where each begins. Assumes nothing.
-use mathlib.Core.Path.{_≡_, refl, ap, _∙_}
+use mathlib.Core.Path.{_≡_, refl, sym, ap, _∙_, subst}
 use mathlib.Core.Logic.{_⊎_, inl, inr}
 use mathlib.Core.List.{List, [], _∷_, _++_, map, flatten}
-use Prim.Native.Nat.{ℕ, zero, suc, _+_, _≤_, _<_}
+use Prim.Native.Nat.{ℕ, zero, suc, _+_, _-_, _≤_, _<_}
 use native.Mathlib.Omega.{arith}
-use lib.ListN.{length, getD, take, drop, length-append}
-use lib.Seq.{take-append-seam, drop-append-add}
+use lib.ListN.{length, getD, take, drop, length-append, List·getD-append}
+use lib.Seq.{take-append-seam, drop-append-add, getD-append-add}
 use Rattle.lists.specs.Members.{In, Distinct}
 use Rattle.lists.specs.Sum.{sumOf}
-use Rattle.lists.proofs.Members.{in-append, in-append-left, in-append-right, distinct-append}
+use Rattle.lists.proofs.Members.{in-append, in-append-left, in-append-right, distinct-append, getD-in}
+use Rattle.lists.proofs.Tests.{below?}
 
 module _ (f : ℕ → List ℕ) where
   abbrev pub chained : List ℕ → List ℕ
@@ -72,3 +73,20 @@ module _ (f : ℕ → List ℕ) where
   chained-part (x ∷ rs) (suc i) h =
       ap (λ (n : ℕ). take (length (f (getD rs i 0))) (drop n (f x ++ chained rs))) (length-append (f x) (chained (take i rs)))
       ∙ ap (take (length (f (getD rs i 0)))) (drop-append-add (f x) (chained rs) (length (chained (take i rs)))) ∙ chained-part rs i (omega arith)
+
+  -- a member that stands before it is one of a list before it
+  pub chained-before : (rs : List ℕ) (i j : ℕ) → j < length (chained (take i rs)) → (k : ℕ) × (k < i) × (k < length rs) × In (getD (chained rs) j 0) (f (getD rs k 0))
+  unfolding flatten
+  chained-before [] zero j h = absurd (omega arith)
+  chained-before [] (suc i) j h = absurd (omega arith)
+  chained-before (x ∷ rs) zero j h = absurd (omega arith)
+  chained-before (x ∷ rs) (suc i) j h = go (chained-before rs i) (below? j (length (f x)))
+    where
+      go : ((m : ℕ) → m < length (chained (take i rs)) → (k : ℕ) × (k < i) × (k < length rs) × In (getD (chained rs) m 0) (f (getD rs k 0))) → (j < length (f x)) ⊎ (length (f x) ≤ j)
+          → (k : ℕ) × (k < suc i) × (k < length (x ∷ rs)) × In (getD (f x ++ chained rs) j 0) (f (getD (x ∷ rs) k 0))
+      go rec (inl l) = (0, omega arith, omega arith, subst (λ (a : ℕ). In a (f x)) (sym (List·getD-append (f x) (chained rs) 0 j l)) (getD-in (f x) j l))
+      go rec (inr l) =
+          let m : ℕ = j - length (f x) in
+          let e : j ≡ length (f x) + m = omega arith in
+          let q = rec m (omega (arith, h, length-append (f x) (chained (take i rs)))) in
+          (suc (q .0), omega (arith, q .1), omega (arith, q .2), subst (λ (a : ℕ). In a (f (getD rs (q .0) 0))) (sym (ap (λ (k : ℕ). getD (f x ++ chained rs) k 0) e ∙ getD-append-add (f x) (chained rs) m 0)) (q .3))

@@ -4,3 +4,4 @@ pub mod Trails
 pub mod Totals
 pub mod Unsound
 pub mod Rounds
+pub mod Places

@@ -1,2 +1,3 @@
 pub mod PageLaws
+pub mod OneComponent
 pub mod Front

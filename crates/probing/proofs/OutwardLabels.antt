@@ -18,7 +18,7 @@ use Rattle.plan.specs.Plan.{trailOf, trailWith, trailBegin}
 use Rattle.plan.proofs.Trails.{stretch, stretch-in}
 use Rattle.rings.specs.Rules.{upByLink}
 use Rattle.rings.specs.Probe.{back, outward, probe}
-use Rattle.rings.specs.Injection.{ringOf, probeOf}
+use Rattle.rings.specs.Injection.{placeOf, ringOf, probeOf}
 use Rattle.rings.proofs.Injection.{full-run}
 use Rattle.order.specs.declared.Span.{Span}
 use Rattle.order.specs.Span.{ringSpan, spanOf, stretchOf, frontOf}
@@ -45,13 +45,22 @@ module _ (p : Plant) (x m : ℕ) where
       go false = span-outward p (trailWith p x) x m
 
   -- they stand in that trail
-  own-stands : Stands (trailWith p x) (ownSpan p x m)
+  pub own-stands : Stands (trailWith p x) (ownSpan p x m)
   unfolding ownSpan
   own-stands = go (eqb m (linksWith p x))
     where
       go : (t : Bool) → Stands (trailWith p x) (choose t (ringSpan p (trailWith p x) x) (spanOf p (trailWith p x) x m))
       go true = ring-stands p (trailWith p x) x
       go false = span-stands p (trailWith p x) x m
+
+  -- from the place of the switch on
+  pub own-from : ownSpan p x m .from ≡ placeOf p (trailWith p x) x
+  unfolding ownSpan ringSpan spanOf
+  own-from = go (eqb m (linksWith p x))
+    where
+      go : (t : Bool) → choose t (ringSpan p (trailWith p x) x) (spanOf p (trailWith p x) x m) .from ≡ placeOf p (trailWith p x) x
+      go true = refl
+      go false = refl
 
   -- so it is in the trails of all components
   out-labels : Sound p → x < p .switches → stretchOf (trailOf p) (outSpan p x m) ++ frontOf (trailOf p) (outSpan p x m) ≡ outLabels p x m
