@@ -1,3 +1,3 @@
 pub mod PageLaws
-pub mod OneComponent
+pub mod Printed
 pub mod Front

@@ -1,10 +1,13 @@
--- What is printed for six listings is the text in the first rows of `text/specs/Cases`: one computed test. Assumes nothing.
+-- What is printed for six listings is the text in the first rows of `text/specs/Cases`, and what is printed for document 02's `01 40` is a first line and a bare word for each
+-- switch: two computed tests. Assumes nothing.
 use mathlib.Core.Path.{_≡_, refl}
-use mathlib.Core.List.{List, [], _∷_, map, flatten}
+use mathlib.Core.List.{List, [], _∷_, _++_, map, flatten}
 use Prim.Native.Nat.{ℕ}
 use lib.ListN.{take}
 use Rattle.lists.specs.Count.{count}
 use Rattle.lists.specs.Least.{leastFrom}
+use Rattle.lists.specs.Numbers.{range}
+use Rattle.limits.specs.Limits.{maxSwitches}
 use Rattle.plant.specs.Links.{plantWith, live}
 use Rattle.codec.specs.Part.{taken, valueOf, redundant, mapMissing, mapUndefined, fieldMissing, fieldRedundant, fieldValues, afterPart, part}
 use Rattle.listing.specs.Listing.{valueOutOfRange, endOutOfRange, selfLink, bytesRemain, soundLink, header, link, links, withLinks, linked, ended, reading}
@@ -17,7 +20,7 @@ use Rattle.routes.specs.Trail.{near, nearest, legs, trail}
 use Rattle.plan.specs.Plan.{trailsOf}
 use Rattle.table.specs.Rules.{rulesIn}
 use Rattle.text.specs.Decimal.{digits, decimal}
-use Rattle.text.specs.Lines.{line, pageOf}
+use Rattle.text.specs.Lines.{each, line, summaryLine, trailLine, pageOf}
 use Rattle.text.specs.Cases.{rows}
 use Rattle.printing.specs.Output.{plantOutput, printed}
 
@@ -36,3 +39,8 @@ listings =
 as-said : map printed listings ≡ map (λ r. r .1) (take 6 rows)
 unfolding plantWith taken valueOf redundant mapMissing mapUndefined fieldMissing fieldRedundant fieldValues afterPart part valueOutOfRange endOutOfRange selfLink bytesRemain soundLink header link links withLinks linked ended reading trail legs nearest near route hops hop dist within sources leastFrom count usedFrom bridge visitFrom arcs others visit scan tail head live rootOf begunAt roots used arcsUsed flatten trailsOf rulesIn liveLinks bridges digits decimal line pageOf plantOutput
 as-said = refl
+
+-- "64 empty trails and 0 rules"
+no-links : printed (1 ∷ maxSwitches ∷ []) ≡ summaryLine maxSwitches 0 0 0 0 ++ each (λ x. trailLine []) (range 0 maxSwitches)
+unfolding plantWith taken valueOf redundant mapMissing mapUndefined fieldMissing fieldRedundant fieldValues afterPart part valueOutOfRange endOutOfRange selfLink bytesRemain soundLink header link links withLinks linked ended reading trail legs nearest near route hops hop dist within sources leastFrom count usedFrom bridge visitFrom arcs others visit scan tail head live rootOf begunAt roots used arcsUsed flatten trailsOf rulesIn liveLinks bridges digits decimal line pageOf plantOutput
+no-links = refl
