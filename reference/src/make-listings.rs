@@ -1,8 +1,9 @@
 //! Writes the listings of `bench/listings` that are made by rule.
 //!
 //! `make-listings OUT_DIR` writes a path, a star, a tree and a plant whose
-//! visit is as deep as can be, one switch alone, plants drawn by chance, and two
-//! of several components: pairs of switches, and eight parts drawn by chance.
+//! visit is as deep as can be, one switch alone, plants drawn by chance, and
+//! three of several components: single switches, pairs of switches, and eight
+//! parts drawn by chance.
 
 use reference::make::{self, Chance, Sketch};
 use reference::plant::Plant;
@@ -40,10 +41,12 @@ fn main() -> ExitCode {
         let none = Sketch::default();
         parts.iter().fold(none, |whole, part| whole.beside(part))
     };
+    let singles = vec![make::path(1); SWITCHES];
     let pairs = vec![make::path(2); SWITCHES / 2];
-    let islands = (0..8).map(|_| make::exact(chance, SWITCHES / 8, LINKS / 8));
+    let eights = (0..8).map(|_| make::exact(chance, SWITCHES / 8, LINKS / 8));
+    sketches.push(("singles".into(), beside(singles)));
     sketches.push(("pairs".into(), beside(pairs)));
-    sketches.push(("islands".into(), beside(islands.collect())));
+    sketches.push(("eights".into(), beside(eights.collect())));
     for (name, sketch) in sketches {
         let file = Path::new(&out).join(name + ".listing");
         if let Err(error) = std::fs::write(&file, make::listing_of(&sketch.plain())) {

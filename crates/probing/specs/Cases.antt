@@ -1,5 +1,5 @@
--- The calls on the triangle of document 01, whose trail is 0 2 4, on that of document 02's order 7, whose last link is out of service, and on plants in several components,
--- order 9's islands: each row has what the definitions answer in its plant, and what is expected. Every refusal from 11 on occurs, and where two conditions hold the lower
+-- The calls on the triangle of document 01, whose trail is 0 2 4, on that of document 02's order 7, whose last link is out of service, and on plants in several components
+-- (order 9): each row has what the definitions answer in its plant, and what is expected. Every refusal from 11 on occurs, and where two conditions hold the lower
 -- number is answered. One computed test over all rows. Assumes nothing.
 use mathlib.Core.Path.{_≡_, refl}
 use mathlib.Core.List.{List, [], _∷_, map, flatten}
