@@ -5,3 +5,4 @@ pub mod Following
 pub mod Entries
 pub mod Ways
 pub mod Ends
+pub mod Entered

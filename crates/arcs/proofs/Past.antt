@@ -5,11 +5,10 @@ use Prim.Native.Nat.{ℕ, zero, suc, _*_, _/_, _%_, _≤_}
 use native.Mathlib.Omega.{arith}
 use Rattle.plant.specs.declared.Link.{Link}
 use Rattle.plant.specs.declared.Plant.{Plant}
-use Rattle.plant.specs.Links.{first, side, live}
+use Rattle.plant.specs.Links.{side, live}
 use Rattle.limits.specs.Sound.{Sound}
-use Rattle.lists.proofs.Tests.{and-comm}
 use Rattle.walks.specs.Arcs.{tail, head}
-use Rattle.walks.specs.Graph.{reachedFrom, bridge, bridgeFrom}
+use Rattle.walks.specs.Graph.{bridge}
 use Rattle.walks.proofs.Live as links
 
 side-same : (k x : ℕ) → side k x x ≡ x
@@ -29,7 +28,7 @@ module _ (p : Plant) (a : ℕ) (past : 2 * p .count ≤ a) where
     unfolding head
     head-past = ap (λ (k : Link). side (a % 2) (k .second) (k .first)) (sound .zeros (a / 2) (omega arith)) ∙ side-same (a % 2) 0
 
--- a link past them is no bridge at a switch that is reached
-pub bridge-past : (p : Plant) (r l : ℕ) → p .count ≤ l → bridgeFrom p r l ≡ false
+-- a link past them is no bridge
+pub bridge-past : (p : Plant) (l : ℕ) → p .count ≤ l → bridge p l ≡ false
 unfolding bridge
-bridge-past p r l h = and-comm (reachedFrom p r (first p l)) (bridge p l) ∙ rw (links.dead-past p l h)
+bridge-past p l h = rw (links.dead-past p l h)

@@ -1,20 +1,21 @@
-// The bridges of a plant, read from a visit of it. Inner: the calls are those of docs/CALLS.md.
+// The bridges of a plant, read from the visits of its components. Inner: the calls are those of docs/CALLS.md.
 ghost use mathlib.Core.Path.{_≡_};
-ghost use mathlib.Core.Bool.{true};
-ghost use Prim.Native.Nat.{_+_, _*_, _<_};
+ghost use mathlib.Core.Bool.{true, false};
+ghost use Prim.Native.Nat.{_+_, _<_};
 ghost use Rattle.lists.specs.Arrays.{at, flag};
-ghost use Rattle.limits.specs.Limits.{maxSwitches, maxLinks};
+ghost use Rattle.plant.specs.Links.{live};
+ghost use Rattle.limits.specs.Limits.{maxLinks};
 ghost use Rattle.limits.specs.Sound.{Sound};
-ghost use Rattle.walks.specs.Graph.{bridgeFrom};
+ghost use Rattle.walks.specs.Graph.{bridge};
 ghost use Rattle.arcs.specs.Net.{Ends};
-ghost use Rattle.arcs.specs.Shows.{Visits};
+ghost use Rattle.arcs.specs.Shows.{TellsAll};
 ghost use Rattle.arcs.specs.Flags.{Flags};
-ghost use Rattle.bridges.specs.Inner.{EntryLinks, closesBy, closes, Covered, acrossOf};
+ghost use Rattle.bridges.specs.Inner.{EntryLinks, Covered, acrossOf};
 use arcs::Visited;
 use plant::Plant;
 use plant::in_service;
 
-// The link by which the visit entered each switch. Of the two ends of an entered link, the one with the higher number was entered by it.
+// The link by which each switch was entered. Of the two ends of an entered link, the one with the higher number was entered by it.
 fn entry_links(
     p: Plant,
     tails: &[u8; Plant::LABELS],
@@ -23,8 +24,8 @@ fn entry_links(
 ) -> [usize; Plant::PLACES]
     requires { ⌜ Sound p ⌝ }
     requires { ⌜ Ends p (now tails) (now heads) ⌝ }
-    requires { ⌜ Visits p (v .root) v ⌝ }
-    ensures { λ r. ⌜ EntryLinks p (v .root) maxLinks r ⌝ }
+    requires { ⌜ TellsAll p v ⌝ }
+    ensures { λ r. ⌜ EntryLinks p maxLinks r ⌝ }
 {
     let mut up = [0usize; Plant::PLACES];
     let mut l: usize = 0;
@@ -43,24 +44,6 @@ fn entry_links(
     up
 }
 
-// Does link l, which is in service, close a cycle with the links that the visit entered? It is not entered, and its first end is seen.
-fn closes_cycle(
-    tails: &[u8; Plant::LABELS],
-    seen: &[bool; Plant::PLACES],
-    entered: bool,
-    l: usize,
-) -> bool
-    requires { ⌜ l < maxLinks ⌝ }
-    requires { ⌜ at (now tails) (2 * l) < maxSwitches ⌝ }
-    ensures { λ r. ⌜ r ≡ closesBy entered (flag (now (seen .entry)) (at (now (tails .entry)) (2 * l))) ⌝ }
-{
-    if entered {
-        return false;
-    }
-    let x = tails[2 * l] as usize;
-    seen[x]
-}
-
 // The end of link l away from the switch `from`, which is one of its two.
 fn across(tails: &[u8; Plant::LABELS], heads: &[u8; Plant::LABELS], l: usize, from: u8) -> u8
     requires { ⌜ l < maxLinks ⌝ }
@@ -73,8 +56,8 @@ fn across(tails: &[u8; Plant::LABELS], heads: &[u8; Plant::LABELS], l: usize, fr
     x
 }
 
-// The flags of the links on a cycle, with those of the cycle that link k closes. From the two ends of k, the one with the higher number goes back over the
-// link by which it was entered, until the two meet. The sum of their numbers falls.
+// The flags of the links on a cycle, with those of the cycle that link k closes: it is in service and was not entered. From the two ends of k, the one with the higher
+// number goes back over the link by which it was entered, until the two meet. The sum of their numbers falls.
 fn climb(
     p: Plant,
     tails: &[u8; Plant::LABELS],
@@ -86,12 +69,13 @@ fn climb(
 )
     requires { ⌜ Sound p ⌝ }
     requires { ⌜ Ends p (now tails) (now heads) ⌝ }
-    requires { ⌜ Visits p (v .root) v ⌝ }
-    requires { ⌜ EntryLinks p (v .root) maxLinks (now up) ⌝ }
+    requires { ⌜ TellsAll p v ⌝ }
+    requires { ⌜ EntryLinks p maxLinks (now up) ⌝ }
     requires { ⌜ k < maxLinks ⌝ }
-    requires { ⌜ Covered p (v .root) k (now c) ⌝ }
-    requires { ⌜ closes p (v .root) k ≡ true ⌝ }
-    ensures { λ _. ⌜ Covered p (v .root) (k + 1) (now (c .exit)) ⌝ }
+    requires { ⌜ Covered p k (now c) ⌝ }
+    requires { ⌜ live p k ≡ true ⌝ }
+    requires { ⌜ flag (v .entered) k ≡ false ⌝ }
+    ensures { λ _. ⌜ Covered p (k + 1) (now (c .exit)) ⌝ }
 {
     let mut x = tails[2 * k];
     let mut y = heads[2 * k];
@@ -120,17 +104,16 @@ fn covered_links(
 ) -> [bool; Plant::MAX_LINKS]
     requires { ⌜ Sound p ⌝ }
     requires { ⌜ Ends p (now tails) (now heads) ⌝ }
-    requires { ⌜ Visits p (v .root) v ⌝ }
-    requires { ⌜ EntryLinks p (v .root) maxLinks (now up) ⌝ }
-    ensures { λ r. ⌜ Covered p (v .root) maxLinks r ⌝ }
+    requires { ⌜ TellsAll p v ⌝ }
+    requires { ⌜ EntryLinks p maxLinks (now up) ⌝ }
+    ensures { λ r. ⌜ Covered p maxLinks r ⌝ }
 {
     let mut c = [false; Plant::MAX_LINKS];
     let n = p.count as usize;
     let mut k: usize = 0;
     while k < n {
         if in_service(p.links[k]) {
-            let entered = v.entered[k];
-            if closes_cycle(tails, &v.seen, entered, k) {
+            if !v.entered[k] {
                 climb(p, tails, heads, v, up, &mut c, k);
             }
         }
@@ -139,7 +122,7 @@ fn covered_links(
     c
 }
 
-// A flag for each link: is it a bridge at a switch that the visit reached? Such a link was entered, and is on no cycle.
+// A flag for each link: is it a bridge? Such a link was entered, and is on no cycle.
 pub fn bridges_of(
     p: Plant,
     tails: &[u8; Plant::LABELS],
@@ -148,8 +131,8 @@ pub fn bridges_of(
 ) -> [bool; Plant::MAX_LINKS]
     requires { ⌜ Sound p ⌝ }
     requires { ⌜ Ends p (now tails) (now heads) ⌝ }
-    requires { ⌜ Visits p (v .root) v ⌝ }
-    ensures { λ r. ⌜ Flags maxLinks (bridgeFrom p (v .root)) r ⌝ }
+    requires { ⌜ TellsAll p v ⌝ }
+    ensures { λ r. ⌜ Flags maxLinks (bridge p) r ⌝ }
 {
     let up = entry_links(p, tails, heads, v);
     let c = covered_links(p, tails, heads, v, &up);

@@ -1,13 +1,13 @@
 -- The roots below a switch, as the switches are gone through: which switch begins a component, that it is apart from those before it, and that all roots tell the components of
 -- the plant. Assumes a sound plant.
 use mathlib.Core.Path.{_≡_, refl, sym, ap, subst}
-use mathlib.Core.Logic.{_⊎_, inl, inr, ⊎-elim, _↔_}
-use mathlib.Core.Bool.{Bool}
+use mathlib.Core.Logic.{inl, inr}
+use mathlib.Core.Bool.{Bool, true, false}
 use mathlib.Core.List.{List, [], _∷_, _++_}
 use Prim.Native.Nat.{ℕ, _+_, _-_, _*_, _≤_, _<_}
 use native.Mathlib.Omega.{arith}
 use lib.Dec.{T}
-use lib.ListN.{length}
+use lib.ListN.{length, replicate, getD-replicate}
 use Rattle.lists.specs.Arrays.{at}
 use Rattle.lists.specs.Members.{In}
 use Rattle.lists.specs.Count.{count}
@@ -15,29 +15,19 @@ use Rattle.lists.specs.Numbers.{range, keep}
 use Rattle.lists.proofs.Members.{in-getD}
 use Rattle.lists.proofs.Kept.{kept-yes, kept-no, kept-length, kept-room, count-more}
 use Rattle.lists.proofs.Numbers.{range-in, keep-in, in-keep, in-range}
-use Rattle.lists.proofs.Tests.{T-same, and-right, and-both, or-left, or-right, or-cases}
 use Rattle.plant.specs.declared.Plant.{Plant}
-use Rattle.plant.specs.Links.{first}
 use Rattle.limits.specs.Limits.{maxSwitches, maxLinks}
 use Rattle.limits.specs.Sound.{Sound}
 use Rattle.walks.specs.Arcs.{Valid}
-use Rattle.walks.specs.Graph.{reachedFrom, bridge, bridgeFrom, usedFrom}
-use Rattle.walks.specs.Components.{rootOf, begunAt, roots, used}
-use Rattle.walks.proofs.Components.{joined-back, joined-on, root-reaches, root-listed, roots-few, begun-new, component-in, component-is, used-from, used-root}
-use Rattle.walks.proofs.Tests.{bridge-live}
+use Rattle.walks.specs.Graph.{reachedFrom, bridge}
+use Rattle.walks.specs.Components.{begunAt, roots, used}
+use Rattle.walks.proofs.Components.{joined-in, joined-back, joined-on, roots-few, begun-new, component-in, component-is}
 use Rattle.walks.proofs.Valid.{sound-valid}
 use Rattle.arcs.specs.Flags.{Flags}
-use Rattle.components.specs.declared.Found.{Found}
+use Rattle.arcs.specs.Shows.{TellsAll}
+use Rattle.components.specs.declared.Forest.{Forest}
 use Rattle.components.specs.Found.{Finds}
-use Rattle.components.specs.Inner.{anyOf, Apart, Covers}
-
--- some number of the list passes the test
-any-is : (t : ℕ → Bool) (rs : List ℕ) → T (anyOf t rs) ↔ ((r : ℕ) × In r rs × T (t r))
-any-is t [] = (λ z. absurd z, λ q. absurd (q .1))
-any-is t (s ∷ rs) = (
-  λ u. ⊎-elim (λ v. (s, inl refl, v)) (λ v. let q = any-is t rs .0 v in (q .0, inr (q .1), q .2)) (or-cases (t s) (anyOf t rs) u),
-  λ q. ⊎-elim (λ e. or-left (t s) (anyOf t rs) (subst (λ (r : ℕ). T (t r)) e (q .2))) (λ i. or-right (t s) (anyOf t rs) (any-is t rs .1 (q .0, i, q .2))) (q .1),
-)
+use Rattle.components.specs.Inner.{Apart, Covers}
 
 module _ (p : Plant) (sound : Sound p) where
   ok : Valid p
@@ -93,7 +83,7 @@ module _ (p : Plant) (sound : Sound p) where
     apart t s z i u v =
         away t s i (joined-on p ok (sound .start-in) s z x (inside s i) u (joined-back p ok (sound .start-in) x z x-in v))
 
-    module _ (f : Found) (covers : Covers p (rootsTo x) f) where
+    module _ (f : Forest) (covers : Covers p (rootsTo x) f) where
       -- a switch without a number begins a component, and no other does
       pub begins : at (f .home) x ≡ maxSwitches → T (begunAt p x)
       begins e = begun-new p ok (sound .start-in) x x-in .1 (
@@ -109,30 +99,22 @@ module _ (p : Plant) (sound : Sound p) where
       pub begins-not : (at (f .home) x ≡ maxSwitches → ⊥) → T (begunAt p x) → ⊥
       begins-not n t = n (covers .homeless x (omega (arith, x-in, sound .few-switches)) (away t))
 
-  -- all roots tell the components of the plant
-  pub finds : (f : Found) → Covers p (roots p) f → Finds p f
-  finds f covers = record {
-    count-is = covers .count-is;
-    roots-are = covers .roots-are;
-    homes = λ x h. covers .homes _ x (component-in p ok (sound .start-in) x h) (component-is p ok (sound .start-in) _ x (component-in p ok (sound .start-in) x h) h .1 refl);
-    bridges-are = subst (λ (g : ℕ → Bool). Flags maxLinks g (f .bridges)) (λ j l. bridges-same l j) (covers .bridges-are);
-    used-are = subst (λ (g : ℕ → Bool). Flags (2 * maxLinks) g (f .used)) (λ j a. used-same a j) (covers .used-are);
-  }
-    where
-      bridges-same : (l : ℕ) → anyOf (λ r. bridgeFrom p r l) (roots p) ≡ bridge p l
-      bridges-same l =
-          T-same (anyOf (λ r. bridgeFrom p r l) (roots p)) (bridge p l)
-          (λ t. let q = any-is (λ r. bridgeFrom p r l) (roots p) .0 t in and-right (reachedFrom p (q .0) (first p l)) (bridge p l) (q .2))
-          (λ t. let h = ok .first-in l (bridge-live p l t) in
-          let r = rootOf p (first p l) in
-          any-is (λ s. bridgeFrom p s l) (roots p) .1 (
-            r,
-            root-listed p ok (sound .start-in) (first p l) h,
-            and-both (reachedFrom p r (first p l)) (bridge p l) (root-reaches p ok (sound .start-in) (first p l) h) t,
-          ))
+  module _ (f : Forest) (covers : Covers p (roots p) f) where
+    -- all roots tell the components of the plant
+    pub finds : (bridges arcs : List Bool) → Flags maxLinks (bridge p) bridges → Flags (2 * maxLinks) (used p) arcs
+        → Finds p (record { count = f .count; roots = f .roots; home = f .home; bridges = bridges; used = arcs })
+    finds bridges arcs b u = record {
+      count-is = covers .count-is;
+      roots-are = covers .roots-are;
+      homes = λ x h. covers .homes _ x (component-in p ok (sound .start-in) x h) (component-is p ok (sound .start-in) _ x (component-in p ok (sound .start-in) x h) h .1 refl);
+      bridges-are = b;
+      used-are = u;
+    }
 
-      used-same : (a : ℕ) → anyOf (λ r. usedFrom p r a) (roots p) ≡ used p a
-      used-same a =
-          T-same (anyOf (λ r. usedFrom p r a) (roots p)) (used p a)
-          (λ t. let q = any-is (λ r. usedFrom p r a) (roots p) .0 t in used-from p ok (sound .start-in) (q .0) a (q .1) (q .2))
-          (λ t. any-is (λ r. usedFrom p r a) (roots p) .1 (used-root p ok (sound .start-in) a t))
+    -- and their visits, where every switch is seen
+    pub tells-all : (root next : ℕ) → TellsAll p (record { root = root; next = next; seen = replicate maxSwitches true; rank = f .rank; entered = f .entered })
+    tells-all root next r i = record {
+      sees = λ x t. getD-replicate maxSwitches x true false (omega (arith, joined-in p ok (sound .start-in) r x (covers .inside r i) t, sound .few-switches));
+      ranks = λ x. covers .ranks r x i;
+      enters = λ l. covers .enters r l i;
+    }

@@ -1,15 +1,17 @@
-// The arcs in use of a plant and the leading arcs of its round trail, read from a visit of it, and how many flags are set. Inner: the calls are those of docs/CALLS.md.
+// The arcs in use of a plant, read from the visits of its components, the leading arcs of a round trail, read from one visit, and how many flags are set. Inner: the calls are
+// those of docs/CALLS.md.
 ghost use mathlib.Core.Path.{_≡_};
 ghost use Prim.Native.Nat.{_*_};
 ghost use Rattle.limits.specs.Limits.{maxLinks};
 ghost use Rattle.limits.specs.Sound.{Sound};
 ghost use Rattle.lists.specs.Arrays.{flag};
-ghost use Rattle.walks.specs.Graph.{bridgeFrom, usedFrom};
-ghost use Rattle.walks.specs.Inner.{takenFrom, leadingFrom};
+ghost use Rattle.walks.specs.Graph.{bridge};
+ghost use Rattle.walks.specs.Components.{used};
+ghost use Rattle.walks.specs.Inner.{leadingFrom};
 ghost use Rattle.arcs.specs.Net.{Ends};
-ghost use Rattle.arcs.specs.Shows.{Visits};
+ghost use Rattle.arcs.specs.Shows.{Visits, TellsAll};
 ghost use Rattle.arcs.specs.Flags.{Flags, countSet};
-ghost use Rattle.uses.specs.Inner.{isTaken};
+ghost use Rattle.uses.specs.Inner.{isTaken, takenBy};
 use arcs::Visited;
 use plant::Plant;
 use plant::in_service;
@@ -38,8 +40,7 @@ fn arcs_taken(
 ) -> [bool; Plant::LABELS]
     requires { ⌜ Sound p ⌝ }
     requires { ⌜ Ends p (now tails) (now heads) ⌝ }
-    requires { ⌜ Visits p (v .root) v ⌝ }
-    ensures { λ r. ⌜ Flags (2 * maxLinks) (takenFrom p (v .root) (flag (now (two .entry)))) r ⌝ }
+    ensures { λ r. ⌜ Flags (2 * maxLinks) (takenBy p v (flag (now (two .entry)))) r ⌝ }
 {
     let mut u = [false; Plant::LABELS];
     let n = p.count as usize;
@@ -60,7 +61,7 @@ fn arcs_taken(
     u
 }
 
-// A flag for each label: is its arc in use from the root? Both arcs of a bridge are: the flags of the bridges are given.
+// A flag for each label: is its arc in use? Both arcs of a bridge are: the flags of the bridges are given.
 pub fn arcs_in_use(
     p: Plant,
     tails: &[u8; Plant::LABELS],
@@ -70,9 +71,9 @@ pub fn arcs_in_use(
 ) -> [bool; Plant::LABELS]
     requires { ⌜ Sound p ⌝ }
     requires { ⌜ Ends p (now tails) (now heads) ⌝ }
-    requires { ⌜ Visits p (v .root) v ⌝ }
-    requires { ⌜ Flags maxLinks (bridgeFrom p (v .root)) (now b) ⌝ }
-    ensures { λ r. ⌜ Flags (2 * maxLinks) (usedFrom p (v .root)) r ⌝ }
+    requires { ⌜ TellsAll p v ⌝ }
+    requires { ⌜ Flags maxLinks (bridge p) (now b) ⌝ }
+    ensures { λ r. ⌜ Flags (2 * maxLinks) (used p) r ⌝ }
 {
     arcs_taken(p, tails, heads, v, b)
 }

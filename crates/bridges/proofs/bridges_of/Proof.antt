@@ -39,7 +39,7 @@ returns c =
     let same = bridge-flag (s .pre .0) (s .pre .1 .1) (k .before .covered-links .ensures) in
     record {
       places = k .loop .inv .1 .places;
-      tells = λ i. laid-all false maxLinks _ (k .loop .l) (k .loop .b) (k .loop .inv .1) (λ j h. same j ∙ bridge-past _ _ j (omega (arith, c .loop-test .left))) i ∙ same i;
+      tells = λ i. laid-all false maxLinks _ (k .loop .l) (k .loop .b) (k .loop .inv .1) (λ j h. same j ∙ bridge-past _ j (omega (arith, c .loop-test .left))) i ∙ same i;
     }
 
 pub bridges-of-spec : {M : Type 1} → statement M

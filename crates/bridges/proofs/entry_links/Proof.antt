@@ -11,7 +11,7 @@ use Rattle.bridges.proofs.entry_links.Statement.{statement}
 use Rattle.bridges.proofs.entry_links.Tie as tie
 
 abbrev Inv-loop : tie.InvT-loop
-Inv-loop p tails heads v up₀ l₀ up l = (l ≤ p .count) × EntryLinks p (v .root) l up
+Inv-loop p tails heads v up₀ l₀ up l = (l ≤ p .count) × EntryLinks p l up
 
 abbrev μ-loop : tie.MeasureT-loop
 μ-loop p tails heads v up₀ l₀ up l = p .count - l
@@ -42,7 +42,7 @@ loop-again c =
 
 pub entry-links-spec : {M : Type 1} → statement M
 entry-links-spec =
-    tie.close (tie.spec Inv-loop μ-loop (λ c. (omega arith, entry-none (c .pre .0) (c .pre .1 .1))) (λ c. omega (arith, c .before .before .pre .0 .few-links))
+    tie.close (tie.spec Inv-loop μ-loop (λ c. (omega arith, entry-none (c .pre .0))) (λ c. omega (arith, c .before .before .pre .0 .few-links))
     (λ c. omega (arith, c .before .before .before .pre .0 .few-links)) (λ c. omega (arith, c .before .before .before .before .before .pre .0 .few-links))
     (λ c. omega (arith, c .before .before .before .before .before .pre .0 .few-links)) (λ c. omega (arith, x-place (c .before)))
     (λ c. omega (arith, c .before .before .before .before .before .before .pre .0 .few-links))
@@ -50,4 +50,4 @@ entry-links-spec =
     (λ c. x-place (c .before .before)) (λ c. y-place (c .before .before .before)) (λ c. omega (arith, y-place (c .before .before .before .before .before)))
     (λ c. y-place (c .before .before .before .before .before)) (λ c. omega (arith, x-place (c .before .before .before .before .before)))
     (λ c. x-place (c .before .before .before .before .before)) (λ c. omega (arith, c .before .before .before .before .before .pre .0 .few-links)) (λ c. omega arith) loop-again
-    (λ c. entry-all (c .before .before .before .pre .0) (c .before .before .before .pre .1 .1) (c .before .before .loop .inv .1) (c .if1 .left)))
+    (λ c. entry-all (c .before .before .before .pre .0) (c .before .before .loop .inv .1) (c .if1 .left)))

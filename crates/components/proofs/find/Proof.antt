@@ -1,79 +1,32 @@
--- `components::find` meets its contract. The loop's invariant: the components of the start and of the roots below x are found. Assumes nothing.
-use mathlib.Core.Path.{_≡_, sym, subst}
-use mathlib.Core.Logic.{⊎-elim}
-use mathlib.Core.List.{List, [], _∷_}
-use Prim.Native.Nat.{ℕ, _-_, _≤_}
-use native.Mathlib.Omega.{arith}
-use Rattle.lists.specs.Numbers.{range, keep}
-use Rattle.walks.specs.Components.{begunAt}
-use Rattle.components.specs.Inner.{Covers}
-use Rattle.components.proofs.Scanning.{rootsTo, roots-to, to-begun, to-other, room, apart, begins, begins-not, finds}
+-- `components::find` meets its contract: the forest tells of the visits of all components. Assumes nothing.
+use borrow.Author.Needs.{needs}
+use Rattle.components.proofs.Scanning.{tells-all, finds}
 use Rattle.components.proofs.find.Statement.{statement}
 use Rattle.components.proofs.find.Tie as tie
 
-abbrev Inv-loop : tie.InvT-loop
-Inv-loop p tails heads first after f₀ x₀ f x = (x ≤ p .switches) × Covers p (p .start ∷ keep (begunAt p) (range 0 x)) f
+-- where the plant was given
+abbrev start : tie.After-visit-all → tie.Start
+start c = c .before .before .before .before .before .before
 
-abbrev μ-loop : tie.MeasureT-loop
-μ-loop p tails heads first after f₀ x₀ f x = p .switches - x
+bridges-of-requires : tie.Need-bridges-of-requires
+bridges-of-requires c κs =
+    let a = c .before .before in
+    let h = start a .pre in
+    (h .0, (h .1, tells-all _ (h .0) _ (a .visit-all .ensures) _ _))
 
-with-component-requires : tie.Need-with-component-requires Inv-loop μ-loop
-with-component-requires c κs =
-    let all = c .before .before .before .before .before in
-    let s = all .before in
-    let h = s .pre in
-    let none = c .nothing .ensures (s .args .p) in
-    (h .0, (h .1, (all .all-chains .ensures, (omega (arith, h .0 .start-in), (omega (arith, none .count-is), ([], none))))))
+arcs-in-use-requires : tie.Need-arcs-in-use-requires
+arcs-in-use-requires c κs =
+    let b = c .before in
+    let a = b .before .before .before in
+    let h = start a .pre in
+    (h .0, (h .1, (tells-all _ (h .0) _ (a .visit-all .ensures) _ _, b .bridges-of .ensures)))
 
-loop-holds : tie.Need-loop-holds Inv-loop μ-loop
-loop-holds c =
-    let n = c .before in
-    (omega arith, c .with-component .ensures [] (n .nothing .ensures (n .before .before .before .before .before .before .args .p)) (λ s x z. absurd z))
-
-with-component-requires-2 : tie.Need-with-component-requires-2 Inv-loop μ-loop
-with-component-requires-2 c κs =
-    let l = c .before .before .before .before .before .before in
-    let h = l .before .before .before .before .before .before .before .before .pre in
-    let x-in = c .before .before .before .before .if1 .taken in
-    let t = begins _ (h .0) _ x-in _ (l .loop .inv .1) (c .before .before .if2 .taken) in
-    (h .0, (h .1, (l .before .before .before .before .before .before .before .all-chains .ensures, (x-in, (omega (arith, l .loop .inv .1 .count-is, room _ (h .0) _ x-in t), (_, l .loop .inv .1))))))
-
-loop-again : tie.Need-loop-again Inv-loop μ-loop
-loop-again c =
-    let i = c .before .before in
-    let l = i .before .before in
-    let h = l .before .before .before .before .before .before .before .before .pre in
-    let p = l .before .before .before .before .before .before .before .before .args .p in
-    let x-in = i .if1 .taken in (
-      omega (arith, x-in),
-      ⊎-elim
-          (λ w. let t = begins _ (h .0) _ x-in _ (l .loop .inv .1) (w .0 .taken) in
-          rw (w .4) (subst (λ (rs : List ℕ). Covers p rs (w .3 .result)) (sym (to-begun _ (h .0) _ t)) (w .3 .ensures _ (l .loop .inv .1) (apart _ (h .0) _ x-in t))))
-          (λ w. rw (w .1) (subst (λ (rs : List ℕ). Covers p rs (l .loop .f)) (sym (to-other _ (h .0) _ (begins-not _ (h .0) _ x-in _ (l .loop .inv .1) (w .0 .left)))) (l .loop .inv .1))) (c .if2 .came),
-    )
-
-returns : tie.Need-returns Inv-loop μ-loop
+returns : tie.Need-returns
 returns c =
-    let l = c .before .before in
-    let h = l .before .before .before .before .before .before .before .before .pre in
-    let p = l .before .before .before .before .before .before .before .before .args .p in
-    let e : l .loop .x ≡ p .switches = omega (arith, c .if1 .left) in
-    finds _ (h .0) _ (subst (λ (rs : List ℕ). Covers p rs (l .loop .f)) (roots-to p (h .0)) (subst (λ (n : ℕ). Covers p (rootsTo p (h .0) n) (l .loop .f)) e (l .loop .inv .1)))
+    let u = c .before .before in
+    let b = u .before .before in
+    let a = b .before .before .before in
+    finds _ (start a .pre .0) _ (a .visit-all .ensures) _ _ (b .bridges-of .ensures) (u .arcs-in-use .ensures)
 
 pub find-spec : {M : Type 1} → statement M
-find-spec =
-    tie.close
-    (tie.spec
-    Inv-loop
-    μ-loop
-    (λ c κs. (c .pre .0, c .pre .1 .tails-are))
-    (λ c κs. tt)
-    with-component-requires
-    loop-holds
-    (λ c. omega (arith, c .if1 .taken, c .before .before .before .before .before .before .before .before .before .before .pre .0 .few-switches))
-    (λ c. omega (arith, c .if1 .taken, c .before .before .before .before .before .before .before .before .before .before .pre .0 .few-switches))
-    with-component-requires-2
-    (λ c. omega (arith, c .before .before .if1 .taken, c .before .before .before .before .before .before .before .before .before .before .before .before .pre .0 .few-switches))
-    (λ c. omega (arith, c .before .before .if1 .taken))
-    loop-again
-    returns)
+find-spec = tie.close (tie.spec (λ c κs. search needs) (λ c κs. search needs) bridges-of-requires arcs-in-use-requires returns)

@@ -1,32 +1,33 @@
--- `components::join` meets its contract. The loop's invariant: the flags below i are joined. Assumes nothing.
-use mathlib.Core.Path.{_≡_, subst}
-use mathlib.Core.Logic.{⊎-elim}
-use Prim.Native.Nat.{ℕ, _-_, _≤_}
+-- `components::join` meets its contract. The loop's invariant: the flags below l are laid. Assumes nothing.
+use mathlib.Core.Path.{refl}
+use mathlib.Core.Bool.{false, _||_}
+use Prim.Native.Nat.{_-_, _≤_}
 use native.Mathlib.Omega.{arith}
-use Rattle.components.specs.Inner.{Either}
-use Rattle.components.proofs.Steps.{either-none, either-set, either-pass}
+use lib.ListN.{List·getD-eq-default}
+use Rattle.lists.specs.Arrays.{flag}
+use Rattle.lists.proofs.Laid.{Laid, laid-none, laid-put, laid-all}
+use Rattle.limits.specs.Limits.{maxLinks}
 use Rattle.components.proofs.join.Statement.{statement}
 use Rattle.components.proofs.join.Tie as tie
 
 abbrev Inv-loop : tie.InvT-loop
-Inv-loop all₀ more n i₀ all i = (i ≤ n) × Either i all₀ more all
+Inv-loop a b r₀ l₀ r l = (l ≤ maxLinks) × Laid false maxLinks (λ i. flag a i || flag b i) l r
 
 abbrev μ-loop : tie.MeasureT-loop
-μ-loop all₀ more n i₀ all i = n - i
+μ-loop a b r₀ l₀ r l = maxLinks - l
 
 loop-again : tie.Need-loop-again Inv-loop μ-loop
-loop-again c =
-    let k = c .before .before .before in (
-      omega arith,
-      ⊎-elim (λ w. rw (w .1) (either-set _ _ _ _ (k .loop .inv .1) (omega (arith, k .before .pre .0)) (w .0 .taken)))
-          (λ w. rw (w .1) (either-pass _ _ _ _ (k .loop .inv .1) (w .0 .left))) (c .if1 .came),
-    )
+loop-again c = let k = c .before .loop in (omega arith, laid-put false maxLinks _ (k .l) (k .r) (k .inv .1) _ (omega arith) refl)
 
 returns : tie.Need-returns Inv-loop μ-loop
 returns c =
-    let k = c .before in
-    let e : k .loop .i ≡ k .before .args .n = omega arith in
-    subst (λ (i : ℕ). Either i (k .before .args .all .now) (k .before .args .more .now) (k .loop .all)) e (k .loop .inv .1)
+    let k = c .before .loop in
+    let s = c .before .before in
+    record {
+      places = k .inv .1 .places;
+      tells = laid-all false maxLinks _ (k .l) (k .r) (k .inv .1)
+          (λ i h. rw (List·getD-eq-default (s .args .t1) false {n = i} (omega (arith, s .good .0 .1 .0 .1)), List·getD-eq-default (s .args .t2) false {n = i} (omega (arith, s .good .1 .0 .1 .0 .1))));
+    }
 
 pub join-spec : {M : Type 1} → statement M
 join-spec =
@@ -34,11 +35,11 @@ join-spec =
     (tie.spec
     Inv-loop
     μ-loop
-    (λ c. (omega arith, either-none _ _))
-    (λ c. omega (arith, c .before .before .before .pre .1))
-    (λ c. omega (arith, c .before .before .before .loop .inv .1 .places, c .before .before .before .before .pre .0))
+    (λ c. (omega arith, laid-none false maxLinks _))
+    (λ c. omega arith)
+    (λ c. omega arith)
+    (λ c. omega arith)
     (λ c. omega arith)
     (λ c. omega arith)
     loop-again
-    (λ c. c .before .loop .inv .1 .places)
     returns)

@@ -1,7 +1,7 @@
 -- `components::nothing` meets its contract. Assumes nothing.
 use mathlib.Core.Path.{refl}
 use mathlib.Core.Bool.{false}
-use Prim.Native.Nat.{ℕ, _*_}
+use Prim.Native.Nat.{ℕ}
 use native.Mathlib.Omega.{arith}
 use lib.ListN.{length-replicate, getD-replicate}
 use Rattle.lists.proofs.Members.{getD-same}
@@ -13,13 +13,13 @@ returns : tie.Need-returns
 returns c p = record {
   inside = λ r z. absurd z;
   count-is = refl;
-  home-places = length-replicate maxSwitches maxSwitches;
   roots-places = length-replicate {A = ℕ} maxSwitches 0;
   roots-are = λ i h. absurd (omega arith);
   homes = λ i x h. absurd (omega arith);
   homeless = λ x h n. getD-replicate maxSwitches x maxSwitches 0 h;
-  bridges-are = record { places = length-replicate maxLinks false; tells = λ i. getD-same maxLinks i false };
-  used-are = record { places = length-replicate (2 * maxLinks) false; tells = λ i. getD-same (2 * maxLinks) i false };
+  ranks = λ r x z. absurd z;
+  enters = λ r l z. absurd z;
+  unentered = λ l n. getD-same maxLinks l false;
 }
 
 pub nothing-spec : {M : Type 1} → statement M

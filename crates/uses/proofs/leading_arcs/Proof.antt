@@ -9,7 +9,7 @@ use Rattle.uses.proofs.leading_arcs.Statement.{statement}
 use Rattle.uses.proofs.leading_arcs.Tie as tie
 
 returns : tie.Need-returns
-returns c = let h = c .before .before .pre in leading (h .0) (h .1 .1) (replicate maxLinks false) _ (λ l. getD-same maxLinks l false) (c .arcs-taken .ensures)
+returns c = let h = c .before .before .pre in leading (h .0) (h .1 .1) (replicate maxLinks false) (λ l. getD-same maxLinks l false) (c .arcs-taken .ensures)
 
 pub leading-arcs-spec : {M : Type 1} → statement M
 leading-arcs-spec = tie.close (tie.spec (λ c κs. search needs) returns)
