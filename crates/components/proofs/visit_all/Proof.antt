@@ -21,7 +21,7 @@ with-component-requires : tie.Need-with-component-requires Inv-loop μ-loop
 with-component-requires c κs =
     let s = c .before in
     let h = s .pre in
-    (h .0, (h .1 .0, (h .1 .1, (h .0 .start-in, omega (arith, c .nothing .ensures (s .args .p) .count-is)))))
+    (h .0, (h .1 .0, (h .1 .1, (omega (arith, h .0 .start-in), omega (arith, c .nothing .ensures (s .args .p) .count-is)))))
 
 loop-holds : tie.Need-loop-holds Inv-loop μ-loop
 loop-holds c =
