@@ -84,8 +84,7 @@ fn put_stretch(c: Component, labels: &[u16], buf: &mut [u8], at: usize) -> usize
     requires { ⌜ Room (now buf) at (trailLine (stretchOf (now labels) c)) ⌝ }
     ensures { λ r. ⌜ Laid (now (buf .entry)) at (trailLine (stretchOf (now (labels .entry)) c)) (now (buf .exit)) r ⌝ }
 {
-    let begin = c.begin as usize;
-    text::put_trail(buf, at, &labels[begin..], c.hops as usize)
+    text::put_trail(buf, at, labels, c.begin as usize, c.hops as usize)
 }
 
 // A trail line for each component, by its stretch of the labels.

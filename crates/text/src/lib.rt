@@ -2,7 +2,7 @@
 // Each function lays its bytes from place `at` on and answers the place after them. Inner: each asks for room.
 ghost use Prim.Native.Nat.{_+_, _≤_, _<_};
 ghost use mathlib.Core.List.{_∷_, []};
-ghost use lib.ListN.{length, take};
+ghost use lib.ListN.{length, take, drop};
 ghost use Rattle.text.specs.Decimal.{decimal};
 ghost use Rattle.text.specs.Lines.{newline, spaced, spacedAll, line, summaryLine, ruleLine, trailLine, refusalOf};
 ghost use Rattle.text.specs.Sizes.{summaryMost, refusalMost};
@@ -145,12 +145,14 @@ pub fn put_rule(buf: &mut [u8], at: usize, from: u16, label: u16, to: u16) -> us
     put_line(buf, at, b"rule", &ns)
 }
 
-// The trail line of the first `count` of these labels.
-pub fn put_trail(buf: &mut [u8], at: usize, labels: &[u16], count: usize) -> usize
-    requires { ⌜ (count ≤ length (now labels)) × Room (now buf) at (trailLine (take count (now labels))) ⌝ }
-    ensures { λ r. ⌜ Laid (now (buf .entry)) at (trailLine (take count (now (labels .entry)))) (now (buf .exit)) r ⌝ }
+// The trail line of `count` of these labels, from place `begin` on.
+pub fn put_trail(buf: &mut [u8], at: usize, labels: &[u16], begin: usize, count: usize) -> usize
+    requires { ⌜ begin + count ≤ length (now labels) ⌝ }
+    requires { ⌜ Room (now buf) at (trailLine (take count (drop begin (now labels)))) ⌝ }
+    ensures { λ r. ⌜ Laid (now (buf .entry)) at (trailLine (take count (drop begin (now (labels .entry))))) (now (buf .exit)) r ⌝ }
 {
-    put_line(buf, at, b"trail", &labels[0..count])
+    let end = begin + count;
+    put_line(buf, at, b"trail", &labels[begin..end])
 }
 
 // The output of a refusal, at the front of the buffer.
