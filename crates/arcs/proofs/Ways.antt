@@ -17,7 +17,7 @@ use Rattle.routes.proofs.Trails.{dist-lt, trail-tour}
 use Rattle.arcs.specs.declared.Net.{Net}
 use Rattle.arcs.specs.Net.{Within}
 use Rattle.arcs.specs.Table.{cell, distanceIn, distancesIn, trailIn}
-use Rattle.arcs.specs.Parts.{Parts, SomeParts}
+use Rattle.arcs.specs.Parts.{Parts}
 use Rattle.arcs.specs.Legs.{routeIn, Joined}
 use Rattle.arcs.proofs.Entries.{entry}
 
@@ -28,9 +28,6 @@ module _ {net : Net} {tails heads : List ℕ} {used : List Bool} {t : List (List
     entry-in = entry net tails heads used t right u v (omega (arith, within .few-switches)) (omega (arith, within .few-switches))
 
 module _ {net : Net} {tails heads : List ℕ} {used : List Bool} {first after : List ℕ} {t : List (List ℕ)} (p : Parts net tails heads used first after t) where
-  abbrev pub some : SomeParts net tails heads first after t
-  some = record { used = used; parts = p }
-
   pub parts-hops : length (trailIn net tails heads used) ≤ maxHops
   parts-hops =
       let few : count (net .switches) (p .part) ≤ maxSwitches = omega (arith, count-all (net .switches) (p .part), p .within) in

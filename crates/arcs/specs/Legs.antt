@@ -4,7 +4,8 @@ use mathlib.Core.Bool.{Bool}
 use mathlib.Core.List.{List, [], _∷_, _++_}
 use Prim.Native.Nat.{ℕ, _≤_, _<_}
 use lib.Dec.{T}
-use lib.ListN.{length, take}
+use lib.ListN.{length}
+use lib.Seq.{slice}
 use Rattle.lists.specs.Arrays.{flag, at}
 use Rattle.lists.specs.Members.{In}
 use Rattle.limits.specs.Limits.{maxRules}
@@ -13,6 +14,10 @@ use Rattle.routes.specs.Meaning.{InUse}
 use Rattle.arcs.specs.declared.Net.{Net}
 use Rattle.arcs.specs.declared.Legs.{Legs}
 use Rattle.arcs.specs.Table.{distanceIn, trailIn}
+
+-- the legs of a trail with no hop
+abbrev pub noLegs : Legs
+noLegs = record { from = 0; to = 0; hops = 0 }
 
 module _ (net : Net) (tails heads : List ℕ) (used : List Bool) where
   -- the way from u to v, hop by hop, and the first of these hops
@@ -35,9 +40,14 @@ module _ (net : Net) (tails heads : List ℕ) (used : List Bool) where
   along [] u = routeIn u (net .root)
   along (a ∷ aims) u = routeIn u (at tails a) ++ a ∷ along aims (at heads a)
 
-  -- the arcs that the legs cross are in use, the trail goes along them, and it has so many hops
-  pub record LegsOf (legs : Legs) : Type 0 where
-    pub few : legs .count ≤ maxRules
-    pub in-use : (a : ℕ) → In a (take (legs .count) (legs .aims)) → InUse (net .labels) (flag used) a
-    pub goes : trailIn net tails heads used ≡ along (take (legs .count) (legs .aims)) (net .root)
-    pub hops : legs .hops ≡ length (trailIn net tails heads used)
+  -- the arcs that the legs cross are in use, and the trail goes along them
+  pub record LegsOf (legs : List ℕ) : Type 0 where
+    pub in-use : (a : ℕ) → In a legs → InUse (net .labels) (flag used) a
+    pub goes : trailIn net tails heads used ≡ along legs (net .root)
+
+  -- they stand in a list at their places, and the trail has so many hops
+  pub record LegsIn (aims : List ℕ) (legs : Legs) : Type 0 where
+    pub order : legs .from ≤ legs .to
+    pub within : legs .to ≤ maxRules
+    pub are : LegsOf (slice (legs .from) (legs .to) aims)
+    pub hops-are : legs .hops ≡ length (trailIn net tails heads used)

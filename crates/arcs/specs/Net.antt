@@ -12,6 +12,10 @@ use Rattle.limits.specs.Limits.{maxSwitches, maxLinks}
 use Rattle.walks.specs.Arcs.{tail, head}
 use Rattle.arcs.specs.declared.Net.{Net}
 
+-- a network from another root
+abbrev pub rooted : Net → ℕ → Net
+rooted net r = record { switches = net .switches; labels = net .labels; root = r }
+
 -- the arrays hold the tails and the heads of the plant's arcs
 pub record Ends (p : Plant) (tails heads : List ℕ) : Type 0 where
   pub tails-are : at tails ≡ tail p

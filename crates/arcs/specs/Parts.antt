@@ -16,7 +16,7 @@ use Rattle.arcs.specs.Table.{cell, distanceIn}
 
 pub record Parts (net : Net) (tails heads : List ℕ) (used : List Bool) (first after : List ℕ) (t : List (List ℕ)) : Type 0 where
   pub within : Within net tails heads used
-  -- there is a place for a rule, and for a leg, for each arc in use
+  -- there is a place for a rule for each arc in use
   pub few-arcs : count (net .labels) (flag used) ≤ maxRules
   -- the arcs in use join the switches of a part, the root among them, and each of them leads to each other
   pub part : ℕ → Bool
@@ -27,8 +27,3 @@ pub record Parts (net : Net) (tails heads : List ℕ) (used : List Bool) (first 
   pub cells : (u v : ℕ) → T (part u) → T (part v) → cell t u v ≡ distanceIn net tails heads used u v
   -- the table tells which switches are outside: no walk leads there from the root
   pub apart : (v : ℕ) → v < net .switches → (T (part v) → ⊥) → net .switches ≤ cell t (net .root) v
-
--- the arrays are those of a plan; which of its arcs are in use no code that lays, compares or finds the legs reads
-pub record SomeParts (net : Net) (tails heads first after : List ℕ) (t : List (List ℕ)) : Type 0 where
-  pub used : List Bool
-  pub parts : Parts net tails heads used first after t

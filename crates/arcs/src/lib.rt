@@ -11,7 +11,7 @@ ghost use Rattle.limits.specs.Limits.{maxLinks};
 ghost use Rattle.limits.specs.Sound.{Sound};
 ghost use Rattle.walks.specs.Arcs.{opposite};
 ghost use Rattle.walks.specs.Graph.{liveLinks};
-ghost use Rattle.arcs.specs.Net.{Ends, AllArcs};
+ghost use Rattle.arcs.specs.Net.{rooted, Ends, AllArcs};
 ghost use Rattle.arcs.specs.Chains.{Chained, TailsIn};
 
 // The sizes of a network: its switches are those below `switches`, its labels those below `labels`, and its trail goes from `root`.
@@ -43,11 +43,29 @@ pub struct Visited {
     pub entered: [bool; Plant::MAX_LINKS],
 }
 
-// The legs of a trail: the arc that each crosses at its end, and the hops of the whole. The last leg, back to the root, crosses none.
+// The legs of a trail: the arcs that they cross at their ends stand in an array from place `from` to before place `to`, and the whole trail has `hops` hops. The last leg, back to
+// the root, crosses none.
 pub struct Legs {
-    pub count: u16,
+    pub from: u16,
+    pub to: u16,
     pub hops: u16,
+}
+
+// The legs of several trails: the arcs that they cross, one trail after another, and for each trail its places among them.
+pub struct AllLegs {
     pub aims: [u16; Plant::MAX_RULES],
+    pub list: [Legs; Plant::PLACES],
+}
+
+// The sizes of a network from another root.
+pub fn net_from(net: Net, root: u8) -> Net
+    ensures { λ r. ⌜ r ≡ rooted net root ⌝ }
+{
+    Net {
+        switches: net.switches,
+        labels: net.labels,
+        root,
+    }
 }
 
 // The switch that each arc leaves, and the one that it reaches.

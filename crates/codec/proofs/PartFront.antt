@@ -1,13 +1,14 @@
 -- The front of a part decides: where the front has as many bytes as the part can take, what follows it changes nothing in the part. Assumes nothing.
-use mathlib.Core.Path.{_≡_, refl, sym}
+use mathlib.Core.Path.{_≡_, refl}
 use mathlib.Core.List.{List, [], _∷_}
 use Prim.Native.Nat.{ℕ, zero, suc, _+_, _-_, _/_, _%_, _≤_}
 use native.Mathlib.Omega.{arith}
 use borrow.Author.Tests.{lt-ltb, ltb-true}
 use lib.Dec.{ltb, eqb·suc-zero}
 use lib.ListN.{length, take, drop, length-take}
-use lib.Seq.{take-nil, take-take, getD-take}
+use lib.Seq.{take-take, getD-take}
 use Rattle.lists.proofs.Tests.{same-test}
+use Rattle.lists.proofs.Parts.{drop-take}
 use Rattle.codec.specs.declared.Field.{Field}
 use Rattle.codec.specs.Part.{taken, valueOf, redundant, size, values, someRedundant, mapByte, mapMissing, mapUndefined, fieldMissing, fieldRedundant, fieldValues, afterPart, part}
 use Rattle.codec.proofs.PartRoundTrip.{widths, taken-length, size-length}
@@ -29,12 +30,6 @@ shorter-front k m s h =
     same-test (ltb (length (take m s)) k) (ltb (length s) k)
     (λ e. lt-ltb (length s) k (omega (arith, ltb-true (length (take m s)) k e, length-take m s)))
     (λ e. lt-ltb (length (take m s)) k (omega (arith, ltb-true (length s) k e, length-take m s)))
-
-drop-take : (k m : ℕ) (s : List ℕ) → drop k (take m s) ≡ take (m - k) (drop k s)
-drop-take zero m s = let e : m - 0 ≡ m = omega arith in rw e
-drop-take (suc k) zero s = let e : 0 - suc k ≡ 0 = omega arith in rw e
-drop-take (suc k) (suc m) [] = sym (take-nil (suc m - suc k))
-drop-take (suc k) (suc m) (b ∷ s) = let e : suc m - suc k ≡ m - k = omega arith in rw e (drop-take k m s)
 
 -- ---- a part is read alike, and the front goes on after it
 

@@ -1,2 +1,3 @@
 pub mod Nearest
 pub mod Firsts
+pub mod Several

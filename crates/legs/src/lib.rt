@@ -1,16 +1,17 @@
-// The legs of the trail of a network from its root: the arc that each crosses at its end, and the hops of the whole. Inner: the functions ask of their callers what those have
-// shown, and no call of document 01 is here.
+// The legs of the trails of a network from several roots: the arc that each crosses at its end, and the hops of each trail. Inner: the functions ask of their callers what those
+// have shown, and no call of document 01 is here.
+use arcs::AllLegs;
 use arcs::Legs;
 use arcs::Net;
 use plant::Plant;
 ghost use mathlib.Core.Path.{_≡_};
 ghost use Prim.Native.Nat.{_<_};
+ghost use lib.ListN.{length};
 ghost use Rattle.lists.specs.Tests.{choose};
-ghost use Rattle.limits.specs.Limits.{maxSwitches};
-ghost use Rattle.arcs.specs.Parts.{SomeParts};
-ghost use Rattle.arcs.specs.Legs.{LegsOf};
+ghost use Rattle.limits.specs.Limits.{maxSwitches, maxRules};
 ghost use Rattle.legs.specs.Firsts.{Firsts};
 ghost use Rattle.legs.specs.Nearest.{Tabled, NearestBy};
+ghost use Rattle.legs.specs.Several.{SomeParts, Added, Several, LegsOfAll};
 
 // The uncrossed arc in use that is nearest to u, by distance and then by label; the number of labels if there is none. `low` has the lowest uncrossed label of each switch.
 fn nearest(
@@ -76,30 +77,33 @@ fn firsts_reached(
     low
 }
 
-// The legs of the trail. What is uncrossed is kept as the lowest uncrossed label of each switch. From a root that no arc in use leaves there is no leg.
-pub fn legs_by(
+// The legs of the trail, into a lent array from place `from` on. What is uncrossed is kept as the lowest uncrossed label of each switch. From a root that no arc in use leaves there is
+// no leg.
+fn legs_from(
     net: Net,
     tails: &[u8; Plant::LABELS],
     heads: &[u8; Plant::LABELS],
     first: &[u16; Plant::PLACES],
     after: &[u16; Plant::LABELS],
     t: &[[u8; Plant::PLACES]; Plant::PLACES],
+    aims: &mut [u16; Plant::MAX_RULES],
+    from: u16,
 ) -> Legs
-    requires { ⌜ SomeParts net (now tails) (now heads) (now first) (now after) (now t) ⌝ }
-    ensures { λ r. ⌜ ((w : SomeParts net (now (tails .entry)) (now (heads .entry)) (now (first .entry)) (now (after .entry)) (now (t .entry))) → LegsOf net (now (tails .entry)) (now (heads .entry)) (w .used) r) ⌝ }
+    requires { ⌜ SomeParts net (now tails) (now heads) (now first) (now after) (now t) from ⌝ }
+    requires { ⌜ length (now aims) ≡ maxRules ⌝ }
+    ensures { λ r. ⌜ ((w : SomeParts net (now (tails .entry)) (now (heads .entry)) (now (first .entry)) (now (after .entry)) (now (t .entry)) from) → Added net (now (tails .entry)) (now (heads .entry)) (w .used) (now (aims .entry)) from r (now (aims .exit))) ⌝ }
 {
     let none = net.labels;
     let root = net.root as usize;
-    let mut aims = [0u16; Plant::MAX_RULES];
     if none <= first[root] {
         return Legs {
-            count: 0,
+            from,
+            to: from,
             hops: 0,
-            aims,
         };
     }
     let mut low = firsts_reached(net, first, t);
-    let mut k: usize = 0;
+    let mut k = from as usize;
     let mut hops: u16 = 0;
     let mut u = net.root;
     let mut a = nearest(net, t, &low, u);
@@ -114,23 +118,42 @@ pub fn legs_by(
         a = nearest(net, t, &low, u);
     }
     Legs {
-        count: k as u16,
+        from,
+        to: k as u16,
         hops: hops + t[u as usize][root] as u16,
-        aims,
     }
 }
 
-// The legs of the trail, by a table of distances that is handed over.
+// The legs of the trails of a network from several roots, `count` of them, one trail after another.
 pub fn legs_of(
     net: Net,
     tails: &[u8; Plant::LABELS],
     heads: &[u8; Plant::LABELS],
     first: &[u16; Plant::PLACES],
     after: &[u16; Plant::LABELS],
-    t: [[u8; Plant::PLACES]; Plant::PLACES],
-) -> Legs
-    requires { ⌜ SomeParts net (now tails) (now heads) (now first) (now after) t ⌝ }
-    ensures { λ r. ⌜ ((w : SomeParts net (now (tails .entry)) (now (heads .entry)) (now (first .entry)) (now (after .entry)) t) → LegsOf net (now (tails .entry)) (now (heads .entry)) (w .used) r) ⌝ }
+    t: &[[u8; Plant::PLACES]; Plant::PLACES],
+    roots: &[u8; Plant::PLACES],
+    count: u8,
+) -> AllLegs
+    requires { ⌜ Several net (now tails) (now heads) (now first) (now after) (now t) (now roots) count ⌝ }
+    ensures { λ r. ⌜ ((w : Several net (now (tails .entry)) (now (heads .entry)) (now (first .entry)) (now (after .entry)) (now (t .entry)) (now (roots .entry)) count) → LegsOfAll net (now (tails .entry)) (now (heads .entry)) (now (roots .entry)) (w .used) count (r .aims) (r .list)) ⌝ }
 {
-    legs_by(net, tails, heads, first, after, &t)
+    let mut aims = [0u16; Plant::MAX_RULES];
+    let none = Legs {
+        from: 0,
+        to: 0,
+        hops: 0,
+    };
+    let mut list = [none; Plant::PLACES];
+    let n = count as usize;
+    let mut from: u16 = 0;
+    let mut i: usize = 0;
+    while i < n {
+        let one = arcs::net_from(net, roots[i]);
+        let legs = legs_from(one, tails, heads, first, after, t, &mut aims, from);
+        list[i] = legs;
+        from = legs.to;
+        i += 1;
+    }
+    AllLegs { aims, list }
 }

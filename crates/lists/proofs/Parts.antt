@@ -5,7 +5,7 @@ use mathlib.Core.Bool.{Bool, true}
 use mathlib.Core.List.{List, [], _∷_, _++_}
 use Prim.Native.Nat.{ℕ, zero, suc, _-_, _≤_, _<_}
 use native.Mathlib.Omega.{arith}
-use lib.ListN.{length, getD, take}
+use lib.ListN.{length, getD, take, drop}
 use lib.Seq.{length-take-le, getD-take, take-nil}
 use Rattle.lists.specs.Members.{In, all}
 use Rattle.lists.proofs.Members.{in-append, in-append-left, in-append-right, in-getD, getD-in, all-at, at-all}
@@ -26,6 +26,13 @@ pub take-append : (n : ℕ) (x y : List ℕ) → take n (x ++ y) ≡ take n x ++
 take-append n [] y = let e : n - 0 ≡ n = omega arith in rw (e, take-nil {A = ℕ} n)
 take-append zero (a ∷ x) y = let e : 0 - suc (length x) ≡ 0 = omega arith in rw e
 take-append (suc n) (a ∷ x) y = let e : suc n - suc (length x) ≡ n - length x = omega arith in rw e (ap (λ (l : List ℕ). a ∷ l) (take-append n x y))
+
+-- the part between two places, by the front and by what follows
+pub drop-take : (k m : ℕ) (s : List ℕ) → drop k (take m s) ≡ take (m - k) (drop k s)
+drop-take zero m s = let e : m - 0 ≡ m = omega arith in rw e
+drop-take (suc k) zero s = let e : 0 - suc k ≡ 0 = omega arith in rw e
+drop-take (suc k) (suc m) [] = sym (take-nil (suc m - suc k))
+drop-take (suc k) (suc m) (b ∷ s) = let e : suc m - suc k ≡ m - k = omega arith in rw e (drop-take k m s)
 
 -- two lists have the same members either way round
 pub in-swap : (a : ℕ) (x y : List ℕ) → In a (x ++ y) → In a (y ++ x)

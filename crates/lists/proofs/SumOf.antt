@@ -1,4 +1,4 @@
--- Laws of the sum over a list: term by term, where one term alone counts, and of numbers that are counted part by part. Assumes nothing.
+-- Laws of the sum over a list: term by term, member by member, where one term alone counts, and of numbers that are counted part by part. Assumes nothing.
 use mathlib.Core.Path.{_≡_, refl, sym, ap, _∙_}
 use mathlib.Core.Logic.{_⊎_, inl, inr, _↔_}
 use mathlib.Core.Bool.{Bool}
@@ -7,10 +7,10 @@ use Prim.Native.Nat.{ℕ, zero, suc, _+_, _*_, _≤_, _<_}
 use native.Mathlib.Nat.{mul-add}
 use native.Mathlib.Omega.{arith}
 use lib.Dec.{T}
-use lib.ListN.{length}
+use lib.ListN.{length, getD}
 use Rattle.lists.specs.Members.{In, Distinct}
 use Rattle.lists.specs.Count.{bit, count}
-use Rattle.lists.specs.Sum.{sumOf}
+use Rattle.lists.specs.Sum.{sum, sumOf}
 use Rattle.lists.proofs.Tests.{T-or}
 use Rattle.lists.proofs.Count.{bit-true, bit-false}
 
@@ -40,6 +40,18 @@ sums-le f g (r ∷ rs) h = omega (arith, h r (inl refl), sums-le f g rs (λ x i.
 pub sums-lt : (f g : ℕ → ℕ) (rs : List ℕ) → ((r : ℕ) → In r rs → f r < g r) → sumOf (map f rs) + length rs ≤ sumOf (map g rs)
 sums-lt f g [] h = omega arith
 sums-lt f g (r ∷ rs) h = omega (arith, h r (inl refl), sums-lt f g rs (λ x i. h x (inr i)))
+
+-- ---- member by member
+
+sum-front : (n : ℕ) (f : ℕ → ℕ) → sum (suc n) f ≡ f 0 + sum n (λ k. f (suc k))
+unfolding sum
+sum-front zero f = refl
+sum-front (suc n) f = omega (arith, sum-front n f)
+
+pub sum-list : (f : ℕ → ℕ) (rs : List ℕ) → sum (length rs) (λ i. f (getD rs i 0)) ≡ sumOf (map f rs)
+unfolding sum
+sum-list f [] = refl
+sum-list f (r ∷ rs) = omega (arith, sum-front (length rs) (λ i. f (getD (r ∷ rs) i 0)), sum-list f rs)
 
 -- ---- where one term alone counts
 

@@ -27,9 +27,10 @@ use Rattle.walks.proofs.Components.{root-in, roots-few, listed-in, component-in
 use Rattle.walks.proofs.Round.{round-length}
 use Rattle.walks.proofs.Valid.{sound-valid}
 use Rattle.arcs.specs.declared.Net.{Net}
+use Rattle.arcs.specs.Net.{rooted}
 use Rattle.planning.specs.declared.Parts.{Parts}
 use Rattle.planning.specs.Components.{zeroComponent, componentsWith, componentAt, componentWith, componentsOf}
-use Rattle.planning.specs.Plans.{netOf, rooted, Charted, Measured, LinksBy}
+use Rattle.planning.specs.Plans.{netOf, Charted, Measured, LinksBy}
 
 module _ (x : Parts) (chart : Charted x) where
   abbrev p : Plant

@@ -2,7 +2,7 @@
 use mathlib.Core.Path.{_≡_, refl, sym, ap, _∙_}
 use mathlib.Core.Logic.{_⊎_, inl, inr}
 use mathlib.Core.List.{List, [], map}
-use Prim.Native.Nat.{ℕ, suc, _+_, _-_, _*_, _≤_, _<_}
+use Prim.Native.Nat.{ℕ, suc, _+_, _*_, _≤_, _<_}
 use native.Mathlib.Omega.{arith}
 use lib.ListN.{length, getD, set, List·getD-eq-default}
 use Rattle.lists.specs.Arrays.{at}
@@ -20,6 +20,7 @@ use Rattle.walks.proofs.Round.{round-length}
 use Rattle.walks.proofs.Valid.{sound-valid}
 use Rattle.routes.specs.Plants.{trailFrom}
 use Rattle.arcs.specs.declared.Legs.{Legs}
+use Rattle.arcs.specs.Legs.{noLegs}
 use Rattle.plan.specs.Plan.{trailOf, trailBegin, roundBegin}
 use Rattle.plan.proofs.Trails as trails
 use Rattle.plan.proofs.Rounds as rounds
@@ -27,7 +28,7 @@ use Rattle.planning.specs.declared.Parts.{Parts}
 use Rattle.planning.specs.declared.Component.{Component}
 use Rattle.planning.specs.declared.Components.{Components}
 use Rattle.planning.specs.Components.{zeroComponent, componentsWith, componentAt, componentsOf}
-use Rattle.planning.specs.Plans.{Charted, LinksBy, LegsFrom, Laying, Plan}
+use Rattle.planning.specs.Plans.{Charted, LinksBy, Legged, Laying, Plan}
 use Rattle.planning.proofs.Networks.{net-trail}
 use Rattle.planning.proofs.Charts.{few-components, root-below}
 
@@ -47,11 +48,14 @@ module _ (x : Parts) (chart : Charted x) where
 
   -- ---- one more
 
-  module _ (i : ℕ) (i-in : i < length (roots p)) (cs : Components) (begin round : ℕ) (so-far : Measuring i cs begin round) (legs : Legs) (own : LegsFrom x (getD (roots p) i 0) legs)
-      (links : List ℕ) (by : LinksBy p links)
+  module _ (i : ℕ) (i-in : i < length (roots p)) (cs : Components) (begin round : ℕ) (so-far : Measuring i cs begin round) (legged : Legged x) (links : List ℕ)
+      (by : LinksBy p links)
     where
+      abbrev legs : Legs
+      legs = getD (x .legs .list) i noLegs
+
       hops-are : legs .hops ≡ length (trailFrom p (getD (roots p) i 0))
-      hops-are = own .hops ∙ ap length (net-trail p (chart .sound) (x .tails) (x .heads) (chart .ends) (getD (roots p) i 0))
+      hops-are = legged i i-in .hops-are ∙ ap length (net-trail p (chart .sound) (x .tails) (x .heads) (chart .ends) (getD (roots p) i 0))
 
       both-are : 2 * at links i ≡ length (roundFrom p (getD (roots p) i 0))
       both-are = omega (arith, by i i-in, round-length p (sound-valid p (chart .sound)) (getD (roots p) i 0) (root-below x chart i i-in))
@@ -63,14 +67,11 @@ module _ (x : Parts) (chart : Charted x) where
       round-next = omega (arith, so-far .round-is, both-are, rounds.begin-next p i i-in)
 
       -- within the limits
-      pub begin-few : begin + legs .hops ≤ maxHops
-      begin-few = omega (arith, so-far .begin-is, hops-are, trails.begin-within p i i-in, trails.hops-limit p (chart .sound))
-
-      pub round-few : round + 2 * at links i ≤ 2 * maxLinks
-      round-few = omega (arith, so-far .round-is, both-are, rounds.begin-within p i i-in, rounds.rounds-are p (chart .sound) .short)
-
-      pub both-few : 2 * at links i ≤ 2 * maxLinks
-      both-few = omega (arith, round-few)
+      pub few-hops : (begin + legs .hops ≤ maxHops) × (round + 2 * at links i ≤ 2 * maxLinks)
+      few-hops = (
+        omega (arith, so-far .begin-is, hops-are, trails.begin-within p i i-in, trails.hops-limit p (chart .sound)),
+        omega (arith, so-far .round-is, both-are, rounds.begin-within p i i-in, rounds.rounds-are p (chart .sound) .short),
+      )
 
       pub measuring-next : (count : ℕ) → Measuring (i + 1) (record {
         count = count;

@@ -6,7 +6,7 @@ use Prim.Native.Nat.{ℕ, _+_, _≤_, _<_}
 use native.Mathlib.Omega.{arith}
 use native.Mathlib.Numerals.{add-one}
 use lib.ListN.{length, getD, take, drop, take-append-drop}
-use lib.Seq.{take-all, take-suc}
+use lib.Seq.{slice, take-all, take-suc}
 use Rattle.lists.specs.Arrays.{at}
 use Rattle.lists.specs.Members.{In}
 use Rattle.lists.proofs.Members.{getD-in}
@@ -25,6 +25,8 @@ use Rattle.plan.proofs.Rounds.{round-from}
 use Rattle.arcs.specs.declared.Net.{Net}
 use Rattle.arcs.specs.declared.Legs.{Legs}
 use Rattle.arcs.specs.declared.Visited.{Visited}
+use Rattle.arcs.specs.Net.{rooted}
+use Rattle.arcs.specs.Legs.{noLegs, LegsOf}
 use Rattle.arcs.specs.Shows.{Visits}
 use Rattle.arcs.specs.Table.{trailIn}
 use Rattle.trail.specs.declared.Compared.{Compared}
@@ -36,9 +38,9 @@ use Rattle.round.specs.declared.Round.{Round}
 use Rattle.round.specs.Round.{labelsOf, Labels}
 use Rattle.round.proofs.Follow.{left-length}
 use Rattle.planning.specs.declared.Parts.{Parts}
-use Rattle.planning.specs.Plans.{netOf, rooted, usedFlags, LegsBy, Charted, Laying}
+use Rattle.planning.specs.Plans.{usedFlags, Placed, Charted, Laying}
 use Rattle.planning.proofs.Networks.{net-trail}
-use Rattle.planning.proofs.Laid.{own-net, net-parts, net-legs, own-legs}
+use Rattle.planning.proofs.Laid.{own-net, net-parts, net-legs}
 
 -- ---- lists that follow one another
 
@@ -135,25 +137,31 @@ pub trails-chained : (p : Plant) → trailOf p ≡ chained (trailFrom p) (roots 
 unfolding trailsOf
 trails-chained p = refl
 
--- by the sizes of the network and the legs of component i
-module _ {x : Parts} {t : List (List ℕ)} (laying : Laying x t) {i : ℕ} (h : i < length (roots (x .plant))) {net : Net} (e : net ≡ rooted (x .net) (at (x .roots) i))
-    {legs : Legs} (by : LegsBy net (x .tails) (x .heads) (x .first) (x .after) t i (x .legs) legs)
-  where
-    abbrev r : ℕ
-    r = getD (roots (x .plant)) i 0
+-- by the sizes of the network of component i
+module _ {x : Parts} {t : List (List ℕ)} (laying : Laying x t) {i : ℕ} (h : i < length (roots (x .plant))) {net : Net} (e : net ≡ rooted (x .net) (at (x .roots) i)) where
+  abbrev r : ℕ
+  r = getD (roots (x .plant)) i 0
 
+  abbrev own : Legs
+  own = getD (x .legs .list) i noLegs
+
+  pub placed : Placed own
+  placed = let l = net-legs x t laying i h net e in (l .order, l .within)
+
+  -- and its legs
+  module _ {legs : List ℕ} (is : legs ≡ slice (own .from) (own .to) (x .legs .aims)) where
     pub trailing : Trailing net (x .tails) (x .heads) (x .first) (x .after) t legs
-    trailing = record { used = usedFlags (x .plant) r; parts = net-parts x t laying i h net e; legs-are = net-legs x t laying i h net e legs by }
-
-    own : trailIn (netOf (x .plant) r) (x .tails) (x .heads) (usedFlags (x .plant) r) ≡ trailFrom (x .plant) r
-    own = net-trail (x .plant) (laying .charted .sound) (x .tails) (x .heads) (laying .charted .ends) r
+    trailing = record {
+      used = usedFlags (x .plant) r;
+      parts = net-parts x t laying i h net e;
+      legs-are = subst (LegsOf net (x .tails) (x .heads) (usedFlags (x .plant) r)) (sym is) (net-legs x t laying i h net e .are);
+    }
 
     pub trail-is : trailBy trailing ≡ trailFrom (x .plant) r
     unfolding trailing
-    trail-is = ap (λ (n : Net). trailIn n (x .tails) (x .heads) (usedFlags (x .plant) r)) (own-net x t laying i h net e) ∙ own
-
-    pub trail-hops : legs .hops ≡ length (trailFrom (x .plant) r)
-    trail-hops = own-legs x t laying i h net e legs by .hops ∙ ap length own
+    trail-is =
+        ap (λ (n : Net). trailIn n (x .tails) (x .heads) (usedFlags (x .plant) r)) (own-net x t laying i h net e)
+        ∙ net-trail (x .plant) (laying .charted .sound) (x .tails) (x .heads) (laying .charted .ends) r
 
 -- ---- round trails
 

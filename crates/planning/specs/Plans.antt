@@ -2,13 +2,13 @@
 use mathlib.Core.Path.{_≡_}
 use mathlib.Core.Bool.{Bool}
 use mathlib.Core.List.{List, map}
-use Prim.Native.Nat.{ℕ, _*_, _<_}
+use Prim.Native.Nat.{ℕ, _*_, _≤_, _<_}
 use lib.ListN.{length, getD}
 use Rattle.lists.specs.Arrays.{at}
 use Rattle.lists.specs.Members.{In}
 use Rattle.lists.specs.Numbers.{range}
 use Rattle.plant.specs.declared.Plant.{Plant}
-use Rattle.limits.specs.Limits.{maxLinks}
+use Rattle.limits.specs.Limits.{maxLinks, maxRules}
 use Rattle.limits.specs.Sound.{Sound}
 use Rattle.walks.specs.Graph.{bridge, usedFrom, linksFrom}
 use Rattle.walks.specs.Components.{roots, componentOf, used}
@@ -18,7 +18,7 @@ use Rattle.arcs.specs.declared.Legs.{Legs}
 use Rattle.arcs.specs.Net.{Ends}
 use Rattle.arcs.specs.Parts as network
 use Rattle.arcs.specs.Flags.{Flags}
-use Rattle.arcs.specs.Legs.{LegsOf}
+use Rattle.arcs.specs.Legs.{noLegs, LegsIn}
 use Rattle.planning.specs.declared.Parts.{Parts}
 use Rattle.planning.specs.Components.{componentsOf}
 
@@ -29,14 +29,9 @@ netOf p r = record { switches = p .switches; labels = 2 * p .count; root = r }
 unfoldable pub usedFlags : Plant → ℕ → List Bool
 usedFlags p r = map (usedFrom p r) (range 0 (2 * maxLinks))
 
--- a network from another root
-abbrev pub rooted : Net → ℕ → Net
-rooted net r = record { switches = net .switches; labels = net .labels; root = r }
-
--- where `own` are the legs of a network that is the first, the legs are those of its trail
-abbrev pub LegsBy : Net → (tails heads first after : List ℕ) → List (List ℕ) → ℕ → (own legs : Legs) → Type 0
-LegsBy net tails heads first after t i own legs =
-    (w : network.SomeParts net tails heads first after t) → (i ≡ 0 → LegsOf net tails heads (w .used) own) → LegsOf net tails heads (w .used) legs
+-- the places of legs are those of an array of as many as there can be
+abbrev pub Placed : Legs → Type 0
+Placed legs = (legs .from ≤ legs .to) × (legs .to ≤ maxRules)
 
 -- the links in service of each component, by its number
 abbrev pub LinksBy : Plant → List ℕ → Type 0
@@ -63,15 +58,17 @@ module _ (x : Parts) where
     pub charted : Charted
     pub measured : Measured
 
-  -- these are the legs of the trail from the root r
-  abbrev pub LegsFrom : ℕ → Legs → Type 0
-  LegsFrom r legs = LegsOf (netOf (x .plant) r) (x .tails) (x .heads) (usedFlags (x .plant) r) legs
+  -- these are the legs of the trail of each component, by its number
+  abbrev pub Legged : Type 0
+  Legged =
+      (i : ℕ) → i < length (roots (x .plant))
+      → let r = getD (roots (x .plant)) i 0 in LegsIn (netOf (x .plant) r) (x .tails) (x .heads) (usedFlags (x .plant) r) (x .legs .aims) (getD (x .legs .list) i noLegs)
 
   -- with the table of distances t they are what the trail of each component is laid by
   pub record Laying (t : List (List ℕ)) : Type 0 where
     pub charted : Charted
     pub tables : (r : ℕ) → In r (roots (x .plant)) → network.Parts (netOf (x .plant) r) (x .tails) (x .heads) (usedFlags (x .plant) r) (x .first) (x .after) t
-    pub legs-are : LegsFrom (x .plant .start) (x .legs)
+    pub legs-are : Legged
 
   -- the parts x and the table t are the plan of a plant
   pub record Plan (t : List (List ℕ)) : Type 0 where

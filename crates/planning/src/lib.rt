@@ -1,6 +1,7 @@
 // The plan of a listing, which every call that plans goes through. Inner: the calls are those of docs/CALLS.md.
 use answers::Refusal;
 use answers::Verdict;
+use arcs::AllLegs;
 use arcs::Legs;
 use arcs::Net;
 use plant::Plant;
@@ -9,9 +10,10 @@ use round::Round;
 use table::Table;
 use trail::Compared;
 ghost use mathlib.Core.Path.{_≡_};
-ghost use mathlib.Core.List.{[]};
-ghost use Prim.Native.Nat.{_≤_, _<_};
+ghost use mathlib.Core.List.{List, []};
+ghost use Prim.Native.Nat.{ℕ, _≤_, _<_};
 ghost use lib.ListN.{length, getD};
+ghost use lib.Seq.{slice};
 ghost use Rattle.answers.specs.Answers.{given, refused, numberOf};
 ghost use Rattle.answers.specs.Checks.{answer};
 ghost use Rattle.limits.specs.Sound.{Sound};
@@ -21,9 +23,8 @@ ghost use Rattle.walks.specs.Round.{roundFrom};
 ghost use Rattle.plan.specs.Plan.{trailOf, roundOf, tableOf};
 ghost use Rattle.trail.specs.Filled.{filledWith, Tells};
 ghost use Rattle.round.specs.Round.{labelsOf};
-ghost use Rattle.arcs.specs.Parts.{SomeParts};
 ghost use Rattle.planning.specs.Components.{componentsWith, componentWith};
-ghost use Rattle.planning.specs.Plans.{netOf, rooted, LegsBy, Charted, OfPlant, LinksBy, Laying, Plan};
+ghost use Rattle.planning.specs.Plans.{netOf, Placed, Charted, OfPlant, LinksBy, Legged, Laying, Plan};
 ghost use Rattle.planning.specs.Planning.{planningAt, Plots, Ready};
 ghost use Rattle.planning.specs.Numbers.{numbersOf};
 
@@ -44,7 +45,7 @@ pub struct Components {
 }
 
 // The parts of a plan: the plant, the sizes of its network from its start, the ends of its arcs, how many components there are, their roots, the component of each switch, the
-// bridges, the arcs in use and their chains by switch, the legs of the start's trail, the components with their hops, and the hops of all. The table of distances is lent
+// bridges, the arcs in use and their chains by switch, the legs of the trail of each component, the components with their hops, and the hops of all. The table of distances is lent
 // beside them.
 pub struct Parts {
     pub plant: Plant,
@@ -58,7 +59,7 @@ pub struct Parts {
     pub used: [bool; Plant::LABELS],
     pub first: [u16; Plant::PLACES],
     pub after: [u16; Plant::LABELS],
-    pub legs: Legs,
+    pub legs: AllLegs,
     pub components: Components,
     pub hops: u16,
 }
@@ -103,10 +104,14 @@ fn refused_plan(k: Refusal) -> Planned
         labels: 0,
         root: 0,
     };
-    let legs = Legs {
-        count: 0,
+    let none = Legs {
+        from: 0,
+        to: 0,
         hops: 0,
+    };
+    let legs = AllLegs {
         aims: [0; Plant::MAX_RULES],
+        list: [none; Plant::PLACES],
     };
     let components = Components::none();
     let parts = Parts {
@@ -160,8 +165,8 @@ fn drawn(p: Plant, t: &mut [[u8; Plant::PLACES]; Plant::PLACES]) -> Parts
     let after = c.after;
     let d = distance::distances(net, &tails, &heads, &used);
     *t = d;
-    let legs = legs::legs_of(net, &tails, &heads, &first, &after, d);
     let roots = f.roots;
+    let legs = legs::legs_of(net, &tails, &heads, &first, &after, t, &roots, f.count);
     let home = f.home;
     let bridges = f.bridges;
     let components = Components::none();
@@ -181,37 +186,6 @@ fn drawn(p: Plant, t: &mut [[u8; Plant::PLACES]; Plant::PLACES]) -> Parts
         components,
         hops: 0,
     }
-}
-
-// The sizes of a network from another root.
-fn net_from(net: Net, root: u8) -> Net
-    ensures { λ r. ⌜ r ≡ rooted net root ⌝ }
-{
-    Net {
-        switches: net.switches,
-        labels: net.labels,
-        root,
-    }
-}
-
-// The legs of the trail of component i, whose network is `net`. Those of the start's are at hand.
-fn legs_for(
-    net: Net,
-    tails: &[u8; Plant::LABELS],
-    heads: &[u8; Plant::LABELS],
-    first: &[u16; Plant::PLACES],
-    after: &[u16; Plant::LABELS],
-    t: &[[u8; Plant::PLACES]; Plant::PLACES],
-    i: usize,
-    own: Legs,
-) -> Legs
-    requires { ⌜ SomeParts net (now tails) (now heads) (now first) (now after) (now t) ⌝ }
-    ensures { λ r. ⌜ LegsBy net (now (tails .entry)) (now (heads .entry)) (now (first .entry)) (now (after .entry)) (now (t .entry)) i own r ⌝ }
-{
-    if i == 0 {
-        return own;
-    }
-    legs::legs_by(net, tails, heads, first, after, t)
 }
 
 // The links in service of each component.
@@ -235,24 +209,21 @@ fn links_by(x: Parts) -> [u16; Plant::PLACES]
 }
 
 // The parts with their components measured: where the trail and the round trail of each begins, and their hops.
-fn measured(x: Parts, t: &[[u8; Plant::PLACES]; Plant::PLACES]) -> Parts
-    requires { ⌜ Laying x (now t) ⌝ }
+fn measured(x: Parts) -> Parts
+    requires { ⌜ Charted x ⌝ }
+    requires { ⌜ Legged x ⌝ }
     ensures { λ r. ⌜ r .plant ≡ x .plant ⌝ }
-    ensures { λ r. ⌜ Plan r (now (t .entry)) ⌝ }
+    ensures { λ r. ⌜ ((t : List (List ℕ)) → Laying x t → Plan r t) ⌝ }
 {
     let links = links_by(x);
-    let tails = x.tails;
-    let heads = x.heads;
-    let first = x.first;
-    let after = x.after;
+    let list = x.legs.list;
     let mut components = Components::none();
     let n = x.count as usize;
     let mut begin: u16 = 0;
     let mut round: u16 = 0;
     let mut i: usize = 0;
     while i < n {
-        let net = net_from(x.net, x.roots[i]);
-        let legs = legs_for(net, &tails, &heads, &first, &after, t, i, x.legs);
+        let legs = list[i];
         let both = 2 * links[i];
         components.list[i] = Component {
             first: x.roots[i],
@@ -279,7 +250,7 @@ fn plan_in(p: Plant, t: &mut [[u8; Plant::PLACES]; Plant::PLACES]) -> Planned
     ensures { λ r. ⌜ Ready r (now (t .exit)) ⌝ }
 {
     let x = drawn(p, t);
-    let parts = measured(x, t);
+    let parts = measured(x);
     Planned {
         verdict: Verdict::Accepted,
         parts,
@@ -350,6 +321,15 @@ pub fn links_with(x: Parts, switch: u8) -> u16
 
 // ---- the trails
 
+// The arcs that the legs of a trail cross.
+fn legs_at<'a>(aims: &'a [u16; Plant::MAX_RULES], legs: Legs) -> &'a [u16]
+    requires { ⌜ Placed legs ⌝ }
+    ensures { λ r. ⌜ now r ≡ slice (legs .from) (legs .to) (now (aims .entry)) ⌝ }
+{
+    let all = &aims[..];
+    &all[legs.from as usize..legs.to as usize]
+}
+
 // The trails of a plan one after another into the front of a lent buffer that has room for them; the places after them keep their contents.
 pub fn lay(x: Parts, t: &[[u8; Plant::PLACES]; Plant::PLACES], buf: &mut [u16])
     requires { ⌜ Plan x (now t) ⌝ }
@@ -360,12 +340,14 @@ pub fn lay(x: Parts, t: &[[u8; Plant::PLACES]; Plant::PLACES], buf: &mut [u16])
     let heads = x.heads;
     let first = x.first;
     let after = x.after;
+    let aims = x.legs.aims;
+    let list = x.legs.list;
     let n = x.count as usize;
     let mut at: usize = 0;
     let mut i: usize = 0;
     while i < n {
-        let net = net_from(x.net, x.roots[i]);
-        let legs = legs_for(net, &tails, &heads, &first, &after, t, i, x.legs);
+        let net = arcs::net_from(x.net, x.roots[i]);
+        let legs = legs_at(&aims, list[i]);
         at = trail::lay(net, &tails, &heads, &first, &after, t, legs, buf, at);
         i += 1;
     }
@@ -376,16 +358,18 @@ pub fn compare(x: Parts, t: &[[u8; Plant::PLACES]; Plant::PLACES], lent: &[u16])
     requires { ⌜ Plan x (now t) ⌝ }
     ensures { λ r. ⌜ Tells (now (lent .entry)) (trailOf (x .plant)) r ⌝ }
 {
+    let n = x.count as usize;
+    let mut at: usize = 0;
+    let mut i: usize = 0;
     let tails = x.tails;
     let heads = x.heads;
     let first = x.first;
     let after = x.after;
-    let n = x.count as usize;
-    let mut at: usize = 0;
-    let mut i: usize = 0;
+    let aims = x.legs.aims;
+    let list = x.legs.list;
     while i < n {
-        let net = net_from(x.net, x.roots[i]);
-        let legs = legs_for(net, &tails, &heads, &first, &after, t, i, x.legs);
+        let net = arcs::net_from(x.net, x.roots[i]);
+        let legs = legs_at(&aims, list[i]);
         match trail::compare(net, &tails, &heads, &first, &after, t, legs, lent, at) {
             Compared::Same(next) => at = next,
             Compared::Other => return Compared::Other,

@@ -3,11 +3,10 @@
 use mathlib.Core.Path.{_≡_}
 use mathlib.Core.Bool.{Bool, true, false}
 use mathlib.Core.List.{List}
-use Prim.Native.Nat.{ℕ, _+_}
+use Prim.Native.Nat.{ℕ, _+_, _≤_}
 use lib.ListN.{length, drop}
 use lib.Seq.{sets}
 use Rattle.arcs.specs.declared.Net.{Net}
-use Rattle.arcs.specs.declared.Legs.{Legs}
 use Rattle.arcs.specs.Table.{trailIn}
 use Rattle.arcs.specs.Parts.{Parts}
 use Rattle.arcs.specs.Legs.{routeIn, hopIn, Joined, LegsOf}
@@ -31,14 +30,19 @@ module _ {net : Net} {heads first after : List ℕ} {t : List (List ℕ)} {u v :
   routeBy = routeIn net (w .tails) heads (w .used) u v
 
 -- the arrays are those of a plan, and the legs are those of its trail
-pub record Trailing (net : Net) (tails heads first after : List ℕ) (t : List (List ℕ)) (legs : Legs) : Type 0 where
+pub record Trailing (net : Net) (tails heads first after : List ℕ) (t : List (List ℕ)) (legs : List ℕ) : Type 0 where
   pub used : List Bool
   pub parts : Parts net tails heads used first after t
   pub legs-are : LegsOf net tails heads used legs
 
 -- that trail
-abbrev pub trailBy : {net : Net} {tails heads first after : List ℕ} {t : List (List ℕ)} {legs : Legs} → Trailing net tails heads first after t legs → List ℕ
+abbrev pub trailBy : {net : Net} {tails heads first after : List ℕ} {t : List (List ℕ)} {legs : List ℕ} → Trailing net tails heads first after t legs → List ℕ
 trailBy {net} {tails} {heads} w = trailIn net tails heads (w .used)
+
+-- and from place `from` on, of `room` places, there is one for each of its hops
+pub record Fitting (net : Net) (tails heads first after : List ℕ) (t : List (List ℕ)) (legs : List ℕ) (from room : ℕ) : Type 0 where
+  pub trailing : Trailing net tails heads first after t legs
+  pub fits : from + length (trailBy trailing) ≤ room
 
 -- the list w is laid into the list b from place i on, which makes b′, and j is the place after it
 pub record Laid (w b : List ℕ) (i : ℕ) (b′ : List ℕ) (j : ℕ) : Type 0 where

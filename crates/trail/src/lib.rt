@@ -1,13 +1,12 @@
 // The trail of a network from its root, by its legs: it is laid into a lent buffer from some place on, or compared with a lent one. Inner: the functions ask of their callers what those have shown, and
 // no call of document 01 is here.
-use arcs::Legs;
 use arcs::Net;
 use plant::Plant;
 ghost use mathlib.Core.Path.{_≡_};
 ghost use Prim.Native.Nat.{_+_, _≤_};
 ghost use lib.ListN.{length};
 ghost use Rattle.arcs.specs.Table.{cell};
-ghost use Rattle.trail.specs.Ways.{Way, hopBy, routeBy, Trailing, trailBy, Laid, TellsFrom};
+ghost use Rattle.trail.specs.Ways.{Way, hopBy, routeBy, Trailing, Fitting, trailBy, Laid, TellsFrom};
 
 // A lent slice that has the trail from some place on, and the place after it, or another.
 pub enum Compared {
@@ -77,21 +76,20 @@ pub fn lay(
     first: &[u16; Plant::PLACES],
     after: &[u16; Plant::LABELS],
     t: &[[u8; Plant::PLACES]; Plant::PLACES],
-    legs: Legs,
+    legs: &[u16],
     buf: &mut [u16],
     from: usize,
 ) -> usize
-    requires { ⌜ Trailing net (now tails) (now heads) (now first) (now after) (now t) legs ⌝ }
-    requires { ⌜ from + legs .hops ≤ length (now buf) ⌝ }
-    ensures { λ r. ⌜ ((w : Trailing net (now (tails .entry)) (now (heads .entry)) (now (first .entry)) (now (after .entry)) (now (t .entry)) legs) → Laid (trailBy w) (now (buf .entry)) from (now (buf .exit)) r) ⌝ }
+    requires { ⌜ Fitting net (now tails) (now heads) (now first) (now after) (now t) (now legs) from (length (now buf)) ⌝ }
+    ensures { λ r. ⌜ ((w : Trailing net (now (tails .entry)) (now (heads .entry)) (now (first .entry)) (now (after .entry)) (now (t .entry)) (now (legs .entry))) → Laid (trailBy w) (now (buf .entry)) from (now (buf .exit)) r) ⌝ }
 {
     let root = net.root;
-    let m = legs.count as usize;
+    let m = legs.len();
     let mut j = from;
     let mut u = root;
     let mut k: usize = 0;
     while k < m {
-        let a = legs.aims[k];
+        let a = legs[k];
         let x = a as usize;
         let to = tails[x];
         j = lay_way(net, heads, first, after, t, u, to, buf, j);
@@ -142,20 +140,19 @@ pub fn compare(
     first: &[u16; Plant::PLACES],
     after: &[u16; Plant::LABELS],
     t: &[[u8; Plant::PLACES]; Plant::PLACES],
-    legs: Legs,
+    legs: &[u16],
     lent: &[u16],
     from: usize,
 ) -> Compared
-    requires { ⌜ Trailing net (now tails) (now heads) (now first) (now after) (now t) legs ⌝ }
-    ensures { λ r. ⌜ ((w : Trailing net (now (tails .entry)) (now (heads .entry)) (now (first .entry)) (now (after .entry)) (now (t .entry)) legs) → TellsFrom from (now (lent .entry)) (trailBy w) r) ⌝ }
+    requires { ⌜ Trailing net (now tails) (now heads) (now first) (now after) (now t) (now legs) ⌝ }
+    ensures { λ r. ⌜ ((w : Trailing net (now (tails .entry)) (now (heads .entry)) (now (first .entry)) (now (after .entry)) (now (t .entry)) (now (legs .entry))) → TellsFrom from (now (lent .entry)) (trailBy w) r) ⌝ }
 {
     let root = net.root;
-    let end = legs.count as usize;
     let mut i = from;
     let mut u = root;
     let mut k: usize = 0;
-    while k < end {
-        let a = legs.aims[k];
+    while k < legs.len() {
+        let a = legs[k];
         let x = a as usize;
         let to = tails[x];
         match compare_way(net, heads, first, after, t, u, to, lent, i) {
