@@ -1,22 +1,45 @@
 -- Hops between the distance and the number of switches: they lessen by way of each switch in turn until they are the distance.
 -- Assumes that the arcs in use join switches, and that there is a place for each switch.
 use mathlib.Core.Path.{_≡_, refl, sym, ap, _∙_, subst}
-use mathlib.Core.Logic.{⊎-elim}
-use mathlib.Core.Bool.{Bool, false}
+use mathlib.Core.Logic.{_⊎_, inl, inr, ⊎-elim}
+use mathlib.Core.Bool.{Bool, true, false}
 use mathlib.Core.List.{List, []}
 use Prim.Native.Nat.{ℕ, zero, suc, _+_, _≤_, _<_}
 use native.Mathlib.Omega.{arith}
 use lib.Dec.{T}
-use lib.ListN.{length, getD, replicate, length-set}
-use Rattle.lists.specs.Arrays.{at}
-use Rattle.lists.proofs.Tests.{below?, false-T}
+use lib.ListN.{length, getD, set, replicate, length-set, length-replicate}
+use lib.Seq.{getD-set-same}
+use Rattle.lists.specs.Arrays.{flag, at}
+use Rattle.lists.proofs.Arrays.{set-keeps}
+use Rattle.lists.proofs.Tests.{below?, eq?, false-T, not-both}
 use Rattle.lists.proofs.Stepwise.{upto}
 use Rattle.limits.specs.Limits.{maxSwitches}
 use Rattle.routes.specs.Distance.{dist}
 use Rattle.routes.proofs.Distances.{dist-top, dist-self, dist-zero, dist-hop, dist-down, dist-by}
 use Rattle.arcs.specs.Table.{cell, grid}
 use Rattle.arcs.proofs.Tables.{holds-grid, flat-holds, set-cases, put, put-cases, put-shape}
-use Rattle.distance.specs.Ways.{Near, Zeroed, lesser, Through}
+use Rattle.distance.specs.Ways.{Near, Left, Zeroed, lesser, Through}
+
+-- ---- switches that arcs leave
+
+module _ (tl : ℕ → ℕ) (ok : ℕ → Bool) where
+  pub left-none : Left tl ok 0 (replicate maxSwitches false)
+  left-none = record { places = length-replicate maxSwitches false; told = λ b h. absurd (omega arith) }
+
+  module _ (a : ℕ) (flags : List Bool) (p : Left tl ok a flags) where
+    pub left-pass : ok a ≡ false → Left tl ok (a + 1) flags
+    left-pass e = record { places = p .places; told = upto {P = λ b. T (ok b) → flag flags (tl b) ≡ true} (p .told) (λ u. absurd (false-T (ok a) e u)) }
+
+    pub left-put : tl a < maxSwitches → Left tl ok (a + 1) (set flags (tl a) true)
+    left-put i =
+        let room : tl a < length flags = omega (arith, p .places) in
+        record {
+          places = length-set flags (tl a) true ∙ p .places;
+          told = upto {P = λ b. T (ok b) → flag (set flags (tl a) true) (tl b) ≡ true} (λ b h l. set-keeps flags (tl a) (tl b) room (p .told b h l))
+              (λ _. getD-set-same flags (tl a) true false room);
+        }
+
+-- ---- hops
 
 module _ (S n : ℕ) (tl hd : ℕ → ℕ) (ok : ℕ → Bool) where
   abbrev D : ℕ → ℕ → ℕ
@@ -111,6 +134,29 @@ module _ (S n : ℕ) (tl hd : ℕ → ℕ) (ok : ℕ → Bool) where
 
           low : (u v : ℕ) → v < maxSwitches → cell r u v ≤ cell t u v
           low u v i = ⊎-elim (λ l. omega (arith, is u v l i)) (λ l. omega (arith, rest u v l)) (below? u S)
+
+      -- a switch that no arc leaves need not be tried: it is no way to another
+      pub between-pass : k < S → (flags : List Bool) → Left tl ok n flags → flag flags k ≡ false → Between (k + 1) t
+      between-pass k-in flags left none = record {
+        near = p .near;
+        self = p .self;
+        ways = upto {P = λ x. (u v : ℕ) → u < S → v < maxSwitches → cell t u v ≤ cell t u x + cell t x v} (p .ways)
+            (λ u v i j. ⊎-elim (λ e. omega (arith, ap (cell t u) e))
+            (λ ne. omega (arith, p .near .top u v (omega (arith, few)) j, p .near .above k v k-at j, away v ne (D k v) refl (below? (D k v) S))) (eq? v k));
+      }
+        where
+          k-at : k < maxSwitches
+          k-at = omega (arith, few, k-in)
+
+          stays : (a : ℕ) → a < n → T (ok a) → tl a ≡ k → ⊥
+          stays a h l e = not-both (flag flags k) (subst (λ (x : ℕ). flag flags x ≡ true) e (left .told a h l)) none
+
+          away : (v : ℕ) → (v ≡ k → ⊥) → (d : ℕ) → D k v ≡ d → (D k v < S) ⊎ (S ≤ D k v) → S ≤ D k v
+          away v ne d e (inr l) = l
+          away v ne zero e (inl l) = absurd (ne (sym (dist-zero S n tl hd ok k v (omega arith) e)))
+          away v ne (suc m) e (inl l) =
+              let d = dist-down S n tl hd ok k v m e (omega arith) in
+              absurd (stays (d .0) (d .1 .0) (d .1 .1) (d .2))
 
       -- with every switch tried, no hops are more than the distance
       reached : k ≡ S → (j u v : ℕ) → D u v ≡ j → D u v < S → u < maxSwitches → v < maxSwitches → cell t u v ≤ D u v

@@ -1,11 +1,11 @@
 -- Inner: the table of distances on the way, as inner functions make it. No promise of a call needs it.
 use mathlib.Core.Path.{_≡_}
-use mathlib.Core.Bool.{Bool}
+use mathlib.Core.Bool.{Bool, true}
 use mathlib.Core.List.{List, []}
 use Prim.Native.Nat.{ℕ, _+_, _-_, _≤_, _<_}
 use lib.Dec.{T}
 use lib.ListN.{length, getD, set}
-use Rattle.lists.specs.Arrays.{at}
+use Rattle.lists.specs.Arrays.{flag, at}
 use Rattle.limits.specs.Limits.{maxSwitches}
 use Rattle.routes.specs.Distance.{dist}
 use Rattle.arcs.specs.Table.{cell, Shape}
@@ -24,6 +24,11 @@ pub record Near (S n : ℕ) (tl hd : ℕ → ℕ) (ok : ℕ → Bool) (a : ℕ) 
   pub above : (u v : ℕ) → u < maxSwitches → v < maxSwitches → dist S n tl hd ok u v ≤ cell t u v
   pub top : (u v : ℕ) → u < maxSwitches → v < maxSwitches → cell t u v ≤ S
   pub arcs : (b : ℕ) → b < a → T (ok b) → cell t (tl b) (hd b) ≤ 1
+
+-- there is a flag for each switch that there can be, and those that arcs in use below a leave have theirs set
+pub record Left (tl : ℕ → ℕ) (ok : ℕ → Bool) (a : ℕ) (flags : List Bool) : Type 0 where
+  pub places : length flags ≡ maxSwitches
+  pub told : (b : ℕ) → b < a → T (ok b) → flag flags (tl b) ≡ true
 
 -- the switches below i are 0 hops from themselves
 abbrev pub Zeroed : List (List ℕ) → ℕ → List (List ℕ) → Type 0

@@ -1,12 +1,13 @@
 // The fewest hops over arcs in use between every two switches, as a table by value. Inner: no call of document 01 is here.
 ghost use mathlib.Core.Path.{_≡_};
-ghost use Prim.Native.Nat.{_≤_, _<_};
+ghost use mathlib.Core.List.{List};
+ghost use Prim.Native.Nat.{ℕ, _≤_, _<_};
 ghost use lib.ListN.{replicate};
 ghost use Rattle.lists.specs.Arrays.{flag, at};
 ghost use Rattle.limits.specs.Limits.{maxSwitches};
 ghost use Rattle.arcs.specs.Net.{Within};
 ghost use Rattle.arcs.specs.Table.{distancesIn};
-ghost use Rattle.distance.specs.Ways.{Near, Zeroed, FewInRow, FewHops, lesser, ByWay, Through};
+ghost use Rattle.distance.specs.Ways.{Near, Left, Zeroed, FewInRow, FewHops, lesser, ByWay, Through};
 use arcs::Net;
 use plant::Plant;
 
@@ -65,6 +66,28 @@ fn diagonal(t0: [[u8; Plant::PLACES]; Plant::PLACES]) -> [[u8; Plant::PLACES]; P
     t
 }
 
+// A flag for each switch that a flagged arc leaves.
+fn left_by(
+    net: Net,
+    tails: &[u8; Plant::LABELS],
+    used: &[bool; Plant::LABELS],
+) -> [bool; Plant::PLACES]
+    requires { ⌜ ((heads : List ℕ) × Within net (now tails) heads (now used)) ⌝ }
+    ensures { λ r. ⌜ Left (at (now (tails .entry))) (flag (now (used .entry))) (net .labels) r ⌝ }
+{
+    let mut r = [false; Plant::PLACES];
+    let n = net.labels as usize;
+    let mut a: usize = 0;
+    while a < n {
+        if used[a] {
+            let x = tails[a] as usize;
+            r[x] = true;
+        }
+        a += 1;
+    }
+    r
+}
+
 // A row, or the hops to another switch and on from there, whichever are fewer: `on` is that switch's row, d the hops to it.
 fn by_way(row: [u8; Plant::PLACES], on: [u8; Plant::PLACES], d: u8) -> [u8; Plant::PLACES]
     requires { ⌜ d ≤ maxSwitches ⌝ }
@@ -99,7 +122,8 @@ fn through(t: &mut [[u8; Plant::PLACES]; Plant::PLACES], s: u8, k: usize)
     }
 }
 
-// The fewest hops from each switch to each over the arcs that are flagged; the number of switches where there is no walk. The switches are tried in turn as a way.
+// The fewest hops from each switch to each over the arcs that are flagged; the number of switches where there is no walk. The switches that an arc leaves are tried in turn as a
+// way.
 pub fn distances(
     net: Net,
     tails: &[u8; Plant::LABELS],
@@ -110,10 +134,13 @@ pub fn distances(
     ensures { λ r. ⌜ r ≡ distancesIn net (now (tails .entry)) (now (heads .entry)) (now (used .entry)) ⌝ }
 {
     let mut t = diagonal(adjacent(net, tails, heads, used));
+    let left = left_by(net, tails, used);
     let m = net.switches as usize;
     let mut k: usize = 0;
     while k < m {
-        through(&mut t, net.switches, k);
+        if left[k] {
+            through(&mut t, net.switches, k);
+        }
         k += 1;
     }
     t
