@@ -1,4 +1,4 @@
--- Parts of lists: the first members, and members of parts. Assumes nothing.
+-- Parts of lists: the first members, the part between two places, and members of parts. Assumes nothing.
 use mathlib.Core.Path.{_≡_, sym, ap, _∙_}
 use mathlib.Core.Logic.{_⊎_, inl, inr, _↔_}
 use mathlib.Core.Bool.{Bool, true}

@@ -358,15 +358,15 @@ pub fn compare(x: Parts, t: &[[u8; Plant::PLACES]; Plant::PLACES], lent: &[u16])
     requires { ⌜ Plan x (now t) ⌝ }
     ensures { λ r. ⌜ Tells (now (lent .entry)) (trailOf (x .plant)) r ⌝ }
 {
-    let n = x.count as usize;
-    let mut at: usize = 0;
-    let mut i: usize = 0;
     let tails = x.tails;
     let heads = x.heads;
     let first = x.first;
     let after = x.after;
     let aims = x.legs.aims;
     let list = x.legs.list;
+    let n = x.count as usize;
+    let mut at: usize = 0;
+    let mut i: usize = 0;
     while i < n {
         let net = arcs::net_from(x.net, x.roots[i]);
         let legs = legs_at(&aims, list[i]);

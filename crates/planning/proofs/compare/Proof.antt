@@ -13,10 +13,10 @@ use Rattle.planning.proofs.compare.Statement.{statement}
 use Rattle.planning.proofs.compare.Tie as tie
 
 abbrev Inv-loop : tie.InvT-loop
-Inv-loop t lent x n at₀ i₀ tails heads first after aims list at i = TellsFrom 0 lent (firstOf (trailFrom (x .plant)) (roots (x .plant)) i) (Same at)
+Inv-loop t lent x tails heads first after aims list n at₀ i₀ at i = TellsFrom 0 lent (firstOf (trailFrom (x .plant)) (roots (x .plant)) i) (Same at)
 
 abbrev μ-loop : tie.MeasureT-loop
-μ-loop t lent x n at₀ i₀ tails heads first after aims list at i = n - i
+μ-loop t lent x tails heads first after aims list n at₀ i₀ at i = n - i
 
 -- there is such a component
 inside : (c : tie.In-loop Inv-loop μ-loop) → let k = c .before in k .loop .i < length (roots (k .before .before .before .before .before .before .before .before .args .t1 .plant))
