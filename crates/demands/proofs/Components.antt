@@ -22,7 +22,7 @@ use Rattle.limits.specs.Sound.{Sound}
 use Rattle.answers.specs.declared.Refusal.the-variants as is
 use Rattle.answers.specs.Answers.{given}
 use Rattle.answers.specs.Checks.{answer}
-use Rattle.answers.proofs.Checks.{gives-so, given-given, goes-on, came-from}
+use Rattle.answers.proofs.Checks.{gives-so, goes-on}
 use Rattle.codec.specs.Field.{Bytes}
 use Rattle.listing.specs.Listing.{reading}
 use Rattle.listing.proofs.RoundTrip.{decode-sound}
@@ -44,14 +44,14 @@ use Rattle.rings.proofs.Packet.{run-none}
 use Rattle.rings.proofs.Injection.{ring-labels}
 use Rattle.planning.specs.Components.{zeroComponent, componentsWith, componentAt, componentsOf}
 use Rattle.planning.specs.Planning.{planningAt}
-use Rattle.planning.proofs.Plans.{given-at, at-given}
+use Rattle.planning.proofs.Plans.{given-at}
 use Rattle.judging.specs.Conditions.{statesShort}
 use Rattle.judging.proofs.Lent.{trail-own}
 use Rattle.planner.specs.Calls.{parting}
 use Rattle.search.specs.Search.{newSearch}
-use Rattle.probing.specs.Calls.{checkIn, checking, link, nameIn, naming, beginning}
+use Rattle.probing.specs.Calls.{checkIn, checking, beginning}
 use Rattle.probing.proofs.Injection.{trail-links, order-links, order-length, round-links}
-use Rattle.probing.proofs.NamedLinks.{named-within}
+use Rattle.probing.proofs.NamedLinks.{naming-within}
 use Rattle.demands.specs.Demands.{ComponentsAre, NeverNine, Parted, Elsewhere, NoLinks, OneComponent}
 use Rattle.demands.proofs.Packets.{in-long, injection-is}
 use Rattle.demands.proofs.Rounds.{taken-run}
@@ -193,13 +193,8 @@ module _ (s : List ℕ) (b : Bytes s) (p : Plant) (g : answer (reading s) ≡ gi
       no-crossing w f (inr i) = away (subst (λ (k : ℕ). T (linkWith p x k)) (odd-half l) (f (2 * l + 1) i))
 
       pub elsewhere : Elsewhere s p x l
-      unfolding naming
       elsewhere = record {
-        not-named = λ w q e.
-            let r = came-from (planningAt s x) (nameIn x w q) (link l) e in
-            let at = at-given s x (r .0) (r .1) in
-            let same : r .0 ≡ p = given-given (r .0) p (sym (at .0) ∙ g) in
-            away (named-within p ok x x-in w q (link l) (rw same at (r .2)));
+        not-named = λ w q e. away (naming-within s p g ok x w q l e);
         no-order = λ i. away (order-links p ok x x-in l .0 i);
         no-ring = no-crossing (ringOf p (trailWith p x) x) (λ a i. trail-links p ok x x-in a (ring-labels p (trailWith p x) x a .0 i));
         no-round = no-crossing (ringOf p (roundWith p x) x) (λ a i. round-links p ok x x-in a (ring-labels p (roundWith p x) x a .0 i));

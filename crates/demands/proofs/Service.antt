@@ -17,7 +17,7 @@ use Rattle.plant.specs.Links.{first, outOfService, live}
 use Rattle.limits.specs.Sound.{Sound}
 use Rattle.answers.specs.Answers.{given}
 use Rattle.answers.specs.Checks.{answer}
-use Rattle.answers.proofs.Checks.{given-given, goes-on, came-from}
+use Rattle.answers.proofs.Checks.{given-given, goes-on}
 use Rattle.codec.specs.Field.{Bytes}
 use Rattle.listing.specs.Listing.{reading}
 use Rattle.listing.specs.Listing as listing
@@ -39,13 +39,13 @@ use Rattle.rings.specs.Rules.{upBy}
 use Rattle.rings.specs.Injection.{orderOf, probeOf}
 use Rattle.rings.proofs.Injection.{probe-arcs}
 use Rattle.planning.specs.Planning.{planningAt}
-use Rattle.planning.proofs.Plans.{given-at, at-given}
+use Rattle.planning.proofs.Plans.{given-at}
 use Rattle.judging.specs.Conditions.{statesShort}
 use Rattle.judging.proofs.Lent.{trail-own, hops-own}
-use Rattle.probing.specs.Calls.{runIn, running, checkIn, checking, roundIn, roundRunning, probeIn, probing, link, nameIn, naming}
+use Rattle.probing.specs.Calls.{runIn, running, checkIn, checking, roundIn, roundRunning, probeIn, probing}
 use Rattle.probing.specs.Searches.{NoneBroken}
 use Rattle.probing.proofs.Injection.{ring-at, order-links}
-use Rattle.probing.proofs.NamedLinks.{named-within}
+use Rattle.probing.proofs.NamedLinks.{naming-within}
 use Rattle.probing.proofs.StateBytes.{ByLinkAlike, ByLabelAlike, running-bytes, checking-bytes, probing-bytes, rounding-bytes}
 use Rattle.demands.specs.Demands.{Marks, OutOfService, SameByLink, SameByLabel, StatesOf, AllInService}
 use Rattle.demands.proofs.Packets.{rules-are}
@@ -95,7 +95,7 @@ module _ (p : Plant) (l : ℕ) (out : outOfService p l ≡ true) where
     ok = decode-sound s p b g
 
     pub out-of-service : OutOfService s p l
-    unfolding bridge naming
+    unfolding bridge
     out-of-service = record {
       no-bridge = rw (dead-marked p l out) refl;
       no-trail = no-crossing (trailOf p) trail-arc;
@@ -108,11 +108,7 @@ module _ (p : Plant) (l : ℕ) (out : outOfService p l ≡ true) where
         not-true-false _ (λ t. no-arc a e (rules-are p .all at a .0 t .0)),
       );
       no-order = λ x h i. dead (of-live p x l (order-links p ok x h l .0 i));
-      not-named = λ x w q e.
-          let r = came-from (planningAt s x) (nameIn x w q) (link l) e in
-          let at = at-given s x (r .0) (r .1) in
-          let same : r .0 ≡ p = given-given (r .0) p (sym (at .0) ∙ g) in
-          dead (of-live p x l (named-within p ok x (rw same at (at .1)) w q (link l) (rw same at (r .2))));
+      not-named = λ x w q e. dead (of-live p x l (naming-within s p g ok x w q l e));
     }
       where
         trail-arc : (a : ℕ) → In a (trailOf p) → Arc p a

@@ -10,10 +10,10 @@ use Rattle.answers.specs.Checks.{answer}
 use Rattle.answers.proofs.Checks.{then-assoc, then-is, goes-on, stops, came-from, result-given}
 use Rattle.codec.specs.Field.{Bytes}
 use Rattle.listing.specs.Listing.{reading}
+use Rattle.listing.proofs.RoundTrip.{decode-sound}
 use Rattle.sheet.specs.declared.Sheet.{Sheet}
 use Rattle.sheet.specs.Page.{buyingPage, pageLength, writingPage, pageLeft}
 use Rattle.sheet.specs.Shown.{Shown}
-use Rattle.planning.proofs.Plans.{plan-sound}
 use Rattle.quoting.specs.Quotes.{pricing, quoting}
 use Rattle.quoting.proofs.Counts.{priced-shown}
 use Rattle.planner.specs.Calls.{quotingFor, buying, boughtOut}
@@ -54,7 +54,7 @@ pub quoted-shown : (s : List ℕ) (spare : ℕ) (c : Sheet) → Bytes s → answ
 unfolding quotingFor
 quoted-shown s spare c bytes e =
     let g = came-from (reading s) (λ p. pricing p spare) c e in
-    priced-shown (g .0) (plan-sound s (g .0) bytes (g .1)) spare c (g .2)
+    priced-shown (g .0) (decode-sound s (g .0) bytes (g .1)) spare c (g .2)
 
 module _ (s : List ℕ) (spare : ℕ) (b : List ℕ) where
   buying-is : answer (buying s spare b) ≡ (answer (quotingFor s spare) >>= λ c. answer (writingPage c b))

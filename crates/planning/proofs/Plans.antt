@@ -10,8 +10,8 @@ use Rattle.answers.specs.declared.Refusal.{Refusal}
 use Rattle.answers.specs.declared.Verdict.{Verdict}
 use Rattle.answers.specs.declared.Verdict.the-variants as verdict
 use Rattle.answers.specs.Answers.{given, refused, numberOf, Beside}
-use Rattle.answers.specs.Checks.{check, answer}
-use Rattle.answers.proofs.Checks.{given-refused, given-given, refuse-given, goes-on, came-from}
+use Rattle.answers.specs.Checks.{Checked, check, answer, _then_}
+use Rattle.answers.proofs.Checks.{given-refused, given-given, refuse-given, goes-on, came-from, result-given}
 use Rattle.answers.proofs.Beside.{beside-given, beside-as, accepted, was-refused, off-beside}
 use Rattle.limits.specs.Sound.{Sound}
 use Rattle.codec.specs.Field.{Bytes}
@@ -25,10 +25,6 @@ use Rattle.planning.specs.Plans.{Plan}
 use Rattle.planning.specs.Planning.{switchOutOfRange, planningAt, Plots, Ready}
 
 -- ---- refusals 1 to 8
-
--- what is read is sound
-pub plan-sound : (s : List ℕ) (p : Plant) → Bytes s → answer (reading s) ≡ given p → Sound p
-plan-sound s p b e = decode-sound s p b e
 
 module _ (s : List ℕ) (r : Decoded) (q : Reads (answer (reading s)) r) (w : Verdict) (x : Plant) where
   pub plan-on : r .verdict ≡ verdict.Accepted → Beside emptyPlant (given (r .plant)) w x → Beside emptyPlant (answer (reading s)) w x
@@ -61,6 +57,14 @@ module _ (s : List ℕ) (x : ℕ) where
       let u = refuse-given 11 (leb (q .0 .switches) x) (given (q .0)) p (q .2) in
       let same = given-given (q .0) p (u .1) in
       (q .1 ∙ ap given same, subst (λ (r : Plant). x < r .switches) same (leb-false (q .0 .switches) x (u .0)))
+
+  -- where a call that goes on from there gives a result, the plant is sound, it has the switch, and the result is what the call gives of it
+  pub at-result : {A : Type 0} (f : Plant → Checked A) (a : A) → Bytes s → answer (planningAt s x then f) ≡ given a
+      → Sound (planningAt s x .result) × (x < planningAt s x .result .switches) × (answer (f (planningAt s x .result)) ≡ given a)
+  at-result f a b e =
+      let u = came-from (planningAt s x) f a e in
+      let h = at-given (u .0) (u .1) in
+      subst (λ (p : Plant). Sound p × (x < p .switches) × (answer (f p) ≡ given a)) (sym (result-given (planningAt s x) (u .0) (u .1))) (decode-sound s (u .0) b (h .0), h .1, u .2)
 
   module _ (r : Planned) (t : List (List ℕ)) (q : Plots (answer (reading s)) r) (ready : Ready r t) where
     module _ (e : r .verdict ≡ verdict.Accepted) where

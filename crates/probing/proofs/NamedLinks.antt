@@ -1,5 +1,5 @@
 -- The order of links has each link of the component of a switch once, and a link that is named is one of these. Assumes a sound plant and one of its switches.
-use mathlib.Core.Path.{_≡_, sym, subst}
+use mathlib.Core.Path.{_≡_, sym, _∙_, subst}
 use mathlib.Core.Logic.{_↔_}
 use mathlib.Core.List.{List, [], _∷_}
 use Prim.Native.Nat.{ℕ, _-_, _<_}
@@ -12,7 +12,7 @@ use Rattle.plant.specs.declared.Plant.{Plant}
 use Rattle.answers.specs.Answers.{given}
 use Rattle.answers.specs.Checks.{answer}
 use Rattle.limits.specs.Sound.{Sound}
-use Rattle.answers.proofs.Checks.{given-exactly}
+use Rattle.answers.proofs.Checks.{given-exactly, given-given, came-from}
 use Rattle.walks.specs.Components.{linkWith, linksWith}
 use Rattle.plan.specs.Plan.{trailWith}
 use Rattle.rings.specs.Order.{nth}
@@ -28,7 +28,10 @@ use Rattle.search.specs.Search.{says}
 use Rattle.search.specs.Sound.{SaysIn}
 use Rattle.search.proofs.Sound.{says-in}
 use Rattle.judging.specs.Conditions.{trailDiffers, searchUnsound}
-use Rattle.probing.specs.Calls.{orderIn, Name, link, none, unknown, namedIn, nameIn}
+use Rattle.listing.specs.Listing.{reading}
+use Rattle.planning.specs.Planning.{planningAt}
+use Rattle.planning.proofs.Plans.{at-given}
+use Rattle.probing.specs.Calls.{orderIn, Name, link, none, unknown, namedIn, nameIn, naming}
 use Rattle.probing.proofs.Injection.{order-links, order-length}
 use Rattle.judging.proofs.Searching.{good-here}
 
@@ -75,3 +78,13 @@ module _ (p : Plant) (ok : Sound p) (x : ℕ) (x-in : x < p .switches) where
       go (Down k) g =
           let inside : k - 1 < length ls = omega (arith, g, order-length p ok x x-in) in
           order-links p ok x x-in (nth ls k) .0 (getD-in ls (k - 1) inside)
+
+-- so of a listing that is read as the plant
+pub naming-within : (s : List ℕ) (p : Plant) → answer (reading s) ≡ given p → Sound p → (x : ℕ) (w : List ℕ) (q : Search) (l : ℕ) → answer (naming s x w q) ≡ given (link l)
+    → T (linkWith p x l)
+unfolding naming
+naming-within s p g ok x w q l e =
+    let r = came-from (planningAt s x) (nameIn x w q) (link l) e in
+    let at = at-given s x (r .0) (r .1) in
+    let same : r .0 ≡ p = given-given (r .0) p (sym (at .0) ∙ g) in
+    named-within p ok x (rw same at (at .1)) w q (link l) (rw same at (r .2))

@@ -1,6 +1,6 @@
 -- The parts of the lent trail that the call names are the outward labels; the labels of a probe are these and the way back; and the full check is probe E.
 -- Assumes a sound plant and one of its switches where it says so.
-use mathlib.Core.Path.{_≡_, refl, sym, ap, ap₂, _∙_, subst}
+use mathlib.Core.Path.{_≡_, refl, sym, ap, ap₂, _∙_}
 use mathlib.Core.Bool.{Bool, true, false}
 use mathlib.Core.List.{List, [], _++_, append-nil}
 use Prim.Native.Nat.{ℕ, _+_, _≤_, _<_}
@@ -11,7 +11,7 @@ use Rattle.lists.specs.Tests.{choose}
 use Rattle.plant.specs.declared.Plant.{Plant}
 use Rattle.answers.specs.Answers.{Answer, given}
 use Rattle.answers.specs.Checks.{check, answer}
-use Rattle.answers.proofs.Checks.{refuse-given, given-exactly, came-from, result-given}
+use Rattle.answers.proofs.Checks.{refuse-given, given-exactly}
 use Rattle.limits.specs.Sound.{Sound}
 use Rattle.walks.specs.Components.{componentOf, linksWith, used}
 use Rattle.plan.specs.Plan.{trailOf, trailWith, trailBegin}
@@ -27,9 +27,8 @@ use Rattle.search.specs.declared.Search.{Search}
 use Rattle.judging.specs.Conditions.{trailDiffers, lentChecks, wantedChecks}
 use Rattle.probing.specs.Calls.{checkIn, probeEnd, outLabels, ownSpan, outSpan, outwardIn, outgoing, OutwardParts}
 use Rattle.planning.specs.Planning.{planningAt}
-use Rattle.planning.proofs.Plans.{at-given}
+use Rattle.planning.proofs.Plans.{at-result}
 use Rattle.codec.specs.Field.{Bytes}
-use Rattle.listing.proofs.RoundTrip.{decode-sound}
 use Rattle.search.specs.Search.{wanted}
 use Rattle.judging.proofs.Lent.{trail-same}
 
@@ -86,27 +85,17 @@ module _ (p : Plant) (x m : ℕ) where
 pub outward-parts : (s : List ℕ) → Bytes s → (x : ℕ) (w : List ℕ) (q : Search) (a : Answer Span) → a ≡ answer (outgoing s x w q) → OutwardParts s x w q a
 unfolding outgoing outwardIn
 outward-parts s bytes x w q a f b e =
-    ap₂ (λ (v : List ℕ) (c : Span). stretchOf v c ++ frontOf v c) (trail-same p w (d .0)) (sym (given-exactly (wantedChecks (linksWith p x) q) (outSpan p x (wanted q)) b .0 (d .1) .1)) ∙ out-labels p x (wanted q) sound inside
+    ap₂ (λ (v : List ℕ) (c : Span). stretchOf v c ++ frontOf v c) (trail-same p w (d .0)) (sym (given-exactly (wantedChecks (linksWith p x) q) (outSpan p x (wanted q)) b .0 (d .1) .1))
+    ∙ out-labels p x (wanted q) (u .0) (u .1)
   where
     p : Plant
     p = planningAt s x .result
 
-    u : (r : Plant) × (answer (planningAt s x) ≡ given r) × (answer (outwardIn x w q r) ≡ given b)
-    u = came-from (planningAt s x) (outwardIn x w q) b (sym f ∙ e)
-
-    planned : answer (planningAt s x) ≡ given p
-    planned = u .1 ∙ ap given (sym (result-given (planningAt s x) (u .0) (u .1)))
-
-    sound : Sound p
-    sound = decode-sound s p bytes (at-given s x p planned .0)
-
-    inside : x < p .switches
-    inside = at-given s x p planned .1
+    u : Sound p × (x < p .switches) × (answer (outwardIn x w q p) ≡ given b)
+    u = at-result s x (outwardIn x w q) b bytes (sym f ∙ e)
 
     d : (trailDiffers p w ≡ false) × (answer (check (wantedChecks (linksWith p x) q) (outSpan p x (wanted q))) ≡ given b)
-    d =
-        refuse-given 12 (trailDiffers p w) (answer (check (wantedChecks (linksWith p x) q) (outSpan p x (wanted q)))) b
-        (subst (λ (r : Plant). answer (outwardIn x w q r) ≡ given b) (sym (result-given (planningAt s x) (u .0) (u .1))) (u .2))
+    d = refuse-given 12 (trailDiffers p w) (answer (check (wantedChecks (linksWith p x) q) (outSpan p x (wanted q)))) b (u .2)
 
 -- ---- the full check is probe E
 

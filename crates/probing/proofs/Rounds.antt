@@ -1,5 +1,5 @@
 -- The shorter of the trail and the round trail of the component of a switch, in two lent trails. Assumes a listing of bytes.
-use mathlib.Core.Path.{_≡_, refl, sym, ap, _∙_, subst}
+use mathlib.Core.Path.{_≡_, refl, sym, ap, _∙_}
 use mathlib.Core.Bool.{Bool, true, false}
 use mathlib.Core.List.{List}
 use Prim.Native.Nat.{ℕ, _<_}
@@ -10,15 +10,14 @@ use Rattle.plant.specs.declared.Plant.{Plant}
 use Rattle.limits.specs.Sound.{Sound}
 use Rattle.answers.specs.Answers.{Answer, given}
 use Rattle.answers.specs.Checks.{answer}
-use Rattle.answers.proofs.Checks.{refuse-given, given-given, came-from, result-given}
+use Rattle.answers.proofs.Checks.{refuse-given, given-given}
 use Rattle.codec.specs.Field.{Bytes}
-use Rattle.listing.proofs.RoundTrip.{decode-sound}
 use Rattle.walks.specs.Components.{componentOf}
 use Rattle.plan.specs.Plan.{trailOf, trailWith, trailBegin, roundOf, roundWith, roundBegin}
 use Rattle.planning.specs.declared.Component.{Component}
 use Rattle.planning.specs.Components.{componentWith}
 use Rattle.planning.specs.Planning.{planningAt}
-use Rattle.planning.proofs.Plans.{at-given}
+use Rattle.planning.proofs.Plans.{at-result}
 use Rattle.choosing.specs.declared.Choice.{Choice}
 use Rattle.choosing.specs.declared.Choice.the-variants as choice
 use Rattle.choosing.specs.Choice.{shorterOf, choiceOf, hopsIn}
@@ -45,28 +44,16 @@ pub chosen-hops : (s : List ℕ) → Bytes s → (x : ℕ) (w v : List ℕ) (a :
 unfolding choosing choiceIn
 chosen-hops s bytes x w v a f c e =
     ap (hopsIn w v) (sym (given-given (choiceAt p x) c (g .1)))
-    ∙ shorter-hops (trailWith p x) (roundWith p x) w v (trailBegin p (componentOf p x)) (roundBegin p (componentOf p x)) (trail-stands p sound x inside w (d .0)) (round-stands p sound x inside v (g .0))
+    ∙ shorter-hops (trailWith p x) (roundWith p x) w v (trailBegin p (componentOf p x)) (roundBegin p (componentOf p x)) (trail-stands p (u .0) x (u .1) w (d .0)) (round-stands p (u .0) x (u .1) v (g .0))
   where
     p : Plant
     p = planningAt s x .result
 
-    u : (r : Plant) × (answer (planningAt s x) ≡ given r) × (answer (choiceIn x w v r) ≡ given c)
-    u = came-from (planningAt s x) (choiceIn x w v) c (sym f ∙ e)
-
-    planned : answer (planningAt s x) ≡ given p
-    planned = u .1 ∙ ap given (sym (result-given (planningAt s x) (u .0) (u .1)))
-
-    sound : Sound p
-    sound = decode-sound s p bytes (at-given s x p planned .0)
-
-    inside : x < p .switches
-    inside = at-given s x p planned .1
-
-    h : answer (choiceIn x w v p) ≡ given c
-    h = subst (λ (r : Plant). answer (choiceIn x w v r) ≡ given c) (sym (result-given (planningAt s x) (u .0) (u .1))) (u .2)
+    u : Sound p × (x < p .switches) × (answer (choiceIn x w v p) ≡ given c)
+    u = at-result s x (choiceIn x w v) c bytes (sym f ∙ e)
 
     d : (hopsDiffer (trailOf p) w ≡ false) × (answer (choiceFrom x v p) ≡ given c)
-    d = refuse-given 12 (hopsDiffer (trailOf p) w) (answer (choiceFrom x v p)) c h
+    d = refuse-given 12 (hopsDiffer (trailOf p) w) (answer (choiceFrom x v p)) c (u .2)
 
     g : (hopsDiffer (roundOf p) v ≡ false) × (given (choiceAt p x) ≡ given c)
     g = refuse-given 12 (hopsDiffer (roundOf p) v) (given (choiceAt p x)) c (d .1)

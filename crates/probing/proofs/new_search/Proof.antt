@@ -1,5 +1,5 @@
 -- The refusals of the plant, then what is answered in it. Assumes nothing.
-use mathlib.Core.Path.{ap, _∙_}
+use mathlib.Core.Path.{_≡_, ap, _∙_}
 use Rattle.answers.proofs.Beside.{on-giving, off-giving}
 use Rattle.walks.specs.Components.{linksWith}
 use Rattle.search.specs.Search.{newSearch}
@@ -16,7 +16,8 @@ returns c =
     let l = c .before in
     let m = l .before in
     let s = m .before .before .before .before .before .before .args in
-    on-giving _ (planningAt _ _) _ _ (m .before .before .plan-at .ensures .0) (λ p. newSearch (linksWith p (s .switch))) _ (m .enum-told .given .1) (c .new .ensures ∙ ap newSearch (l .links-with .ensures))
+    let begun : c .new .result ≡ newSearch (l .links-with .result) = c .new .ensures in
+    on-giving _ (planningAt _ _) _ _ (m .before .before .plan-at .ensures .0) (λ p. newSearch (linksWith p (s .switch))) _ (m .enum-told .given .1) (begun ∙ ap newSearch (l .links-with .ensures))
 
 returns-2 : tie.Need-returns-2
 unfolding beginning
