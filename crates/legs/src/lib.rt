@@ -124,19 +124,19 @@ fn legs_from(
     }
 }
 
-// The legs of the trails of a network from several roots, `count` of them, one trail after another.
+// The legs of the trails of a network from several roots, `count` of them, one trail after another. The table of distances is handed over.
 pub fn legs_of(
     net: Net,
     tails: &[u8; Plant::LABELS],
     heads: &[u8; Plant::LABELS],
     first: &[u16; Plant::PLACES],
     after: &[u16; Plant::LABELS],
-    t: &[[u8; Plant::PLACES]; Plant::PLACES],
+    t: [[u8; Plant::PLACES]; Plant::PLACES],
     roots: &[u8; Plant::PLACES],
     count: u8,
 ) -> AllLegs
-    requires { ⌜ Several net (now tails) (now heads) (now first) (now after) (now t) (now roots) count ⌝ }
-    ensures { λ r. ⌜ ((w : Several net (now (tails .entry)) (now (heads .entry)) (now (first .entry)) (now (after .entry)) (now (t .entry)) (now (roots .entry)) count) → LegsOfAll net (now (tails .entry)) (now (heads .entry)) (now (roots .entry)) (w .used) count (r .aims) (r .list)) ⌝ }
+    requires { ⌜ Several net (now tails) (now heads) (now first) (now after) t (now roots) count ⌝ }
+    ensures { λ r. ⌜ ((w : Several net (now (tails .entry)) (now (heads .entry)) (now (first .entry)) (now (after .entry)) t (now (roots .entry)) count) → LegsOfAll net (now (tails .entry)) (now (heads .entry)) (now (roots .entry)) (w .used) count (r .aims) (r .list)) ⌝ }
 {
     let mut aims = [0u16; Plant::MAX_RULES];
     let none = Legs {
@@ -150,7 +150,7 @@ pub fn legs_of(
     let mut i: usize = 0;
     while i < n {
         let one = arcs::net_from(net, roots[i]);
-        let legs = legs_from(one, tails, heads, first, after, t, &mut aims, from);
+        let legs = legs_from(one, tails, heads, first, after, &t, &mut aims, from);
         list[i] = legs;
         from = legs.to;
         i += 1;

@@ -166,7 +166,7 @@ fn drawn(p: Plant, t: &mut [[u8; Plant::PLACES]; Plant::PLACES]) -> Parts
     let d = distance::distances(net, &tails, &heads, &used);
     *t = d;
     let roots = f.roots;
-    let legs = legs::legs_of(net, &tails, &heads, &first, &after, t, &roots, f.count);
+    let legs = legs::legs_of(net, &tails, &heads, &first, &after, d, &roots, f.count);
     let home = f.home;
     let bridges = f.bridges;
     let components = Components::none();

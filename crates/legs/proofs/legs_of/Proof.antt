@@ -12,11 +12,11 @@ use Rattle.legs.proofs.legs_of.Statement.{statement}
 use Rattle.legs.proofs.legs_of.Tie as tie
 
 abbrev Inv-loop : tie.InvT-loop
-Inv-loop net tails heads first after t roots count aims₀ list₀ n from₀ i₀ aims list from i =
+Inv-loop net tails heads first after roots count t aims₀ list₀ n from₀ i₀ aims list from i =
     (length aims ≡ maxRules) × (length list ≡ maxSwitches) × ((w : Several net tails heads first after t roots count) → Listed w i aims list from)
 
 abbrev μ-loop : tie.MeasureT-loop
-μ-loop net tails heads first after t roots count aims₀ list₀ n from₀ i₀ aims list from i = n - i
+μ-loop net tails heads first after roots count t aims₀ list₀ n from₀ i₀ aims list from i = n - i
 
 loop-holds : tie.Need-loop-holds Inv-loop μ-loop
 loop-holds c = (length-replicate {A = ℕ} maxRules 0, length-replicate maxSwitches noLegs, λ w. listed-none w _ _)
@@ -27,7 +27,7 @@ inside c = omega (arith, c .loop-test .taken, c .before .before .pre .few)
 
 legs-from-requires : tie.Need-legs-from-requires Inv-loop μ-loop
 legs-from-requires c κs =
-    let net = c .before in
+    let net = c .before .before in
     let in-loop = net .before .before in
     let k = in-loop .before .loop in
     let w = in-loop .before .before .pre in
@@ -35,7 +35,7 @@ legs-from-requires c κs =
 
 loop-again : tie.Need-loop-again Inv-loop μ-loop
 loop-again c =
-    let net = c .before .before in
+    let net = c .before .before .before in
     let in-loop = net .before .before in
     let k = in-loop .before .loop in
     let w = in-loop .before .before .pre in (
@@ -54,9 +54,9 @@ legs-of-spec =
     inside
     (λ c κs. tt)
     legs-from-requires
-    (λ c. omega (arith, inside (c .before .before .before .before)))
-    (λ c. inside (c .before .before .before .before))
-    (λ c. omega (arith, inside (c .before .before .before .before)))
+    (λ c. omega (arith, inside (c .before .before .before .before .before)))
+    (λ c. inside (c .before .before .before .before .before))
+    (λ c. omega (arith, inside (c .before .before .before .before .before)))
     (λ c. search needs)
     loop-again
     (λ c w. listed-all w _ (c .loop-test .left) _ _ _ (c .before .loop .inv .2 w)))

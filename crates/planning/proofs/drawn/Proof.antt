@@ -21,7 +21,7 @@ distances-requires c κs =
 
 legs-of-requires : tie.Need-legs-of-requires
 legs-of-requires c κs =
-    let d = c .before .before .before .before .before .before .before in
+    let d = c .before .before .before .before .before .before in
     let k = d .before .before .before .before .before .before in
     let n = k .before .before .before in
     let f = n .before .before in
@@ -31,7 +31,7 @@ legs-of-requires c κs =
 returns : tie.Need-returns
 returns c =
     let l = c .before .before .before in
-    let d = l .before .before .before .before .before .before .before .before in
+    let d = l .before .before .before .before .before .before .before in
     let k = d .before .before .before .before .before .before in
     let n = k .before .before .before in
     let f = n .before .before in
