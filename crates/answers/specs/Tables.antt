@@ -3,10 +3,14 @@
 use mathlib.Core.Path.{_≡_, refl, ap, ap₂}
 use mathlib.Core.Bool.{Bool, true, false, _&&_, false≢true, and-eq-true-iff}
 use mathlib.Core.List.{List, [], _∷_, map}
-use Prim.Native.Nat.{ℕ}
+use Prim.Native.Nat.{ℕ, _+_, _*_}
 use lib.Dec.{eqb}
 use borrow.Author.Tests.{eqb-true}
 use Rattle.answers.specs.Answers.{Answer, given, refused}
+
+-- a byte in its two hexadecimal digits, as the papers write it
+abbrev pub byte : ℕ → ℕ → ℕ
+byte high low = 16 * high + low
 
 -- ---- the test
 

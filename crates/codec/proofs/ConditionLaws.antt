@@ -11,6 +11,7 @@ use lib.ListN.{length, take, drop, length-drop}
 use Rattle.lists.proofs.Tests.{bool?, not-both, or-true, true-or}
 use Rattle.codec.specs.declared.Field.{Field}
 use Rattle.codec.specs.Field.{number}
+use Rattle.codec.specs.Given.{bitAt, SomeGiven, EndsBefore, HoldsAbsent}
 use Rattle.codec.specs.Part.{taken, size, rest, valueOf, redundant, someRedundant, mapByte, mapMissing, mapUndefined, fieldMissing, fieldRedundant}
 
 -- ---- 1: a part's map byte is missing
@@ -21,11 +22,6 @@ map-missing [] = (λ e. refl, λ e. refl)
 map-missing (b ∷ s) = (λ e. absurd (omega (arith, eqb-true (suc (length s)) 0 e)), λ e. absurd (omega (arith, ap length e)))
 
 -- ---- 2: a map has an undefined bit
-
--- bit i of a map
-abbrev pub bitAt : ℕ → ℕ → ℕ
-bitAt m zero = m % 2
-bitAt m (suc i) = bitAt (m / 2) i
 
 -- a number that is not 0 has a bit that is set; n bounds the number
 some-bit : (n m : ℕ) → m ≤ n → 1 ≤ m → (i : ℕ) × (bitAt m i ≡ 1)
@@ -57,15 +53,6 @@ map-undefined fs s =
 
 -- ---- 3 and 4: of a field whose bit is set
 
--- some field has its bit set in the map m, and P holds of it and the bytes from its place on; s are the bytes after the map
-abbrev pub SomeGiven : (Field → List ℕ → Type 0) → ℕ → List Field → List ℕ → Type 0
-SomeGiven P m [] s = ⊥
-SomeGiven P m (f ∷ fs) s = ((m % 2 ≡ 1) × P f s) ⊎ SomeGiven P (m / 2) fs (drop (taken f (m % 2)) s)
-
--- the bytes end before its end
-abbrev pub EndsBefore : Field → List ℕ → Type 0
-EndsBefore f s = length s < f .width
-
 taken-given : (f : Field) (b n : ℕ) → b < 2 → n < taken f b → (b ≡ 1) × (n < f .width)
 unfolding taken
 taken-given f zero n c h = absurd (omega arith)
@@ -93,10 +80,6 @@ pub field-missing : (fs : List Field) (m : ℕ) (s : List ℕ) → (fieldMissing
 unfolding fieldMissing
 field-missing fs m s =
     (λ e. short-given m fs s (omega (arith, ltb-true (suc (length s)) (1 + size m fs) e)), λ h. lt-ltb (suc (length s)) (1 + size m fs) (omega (arith, given-short m fs s h)))
-
--- its bytes hold the value that its absence means
-abbrev pub HoldsAbsent : Field → List ℕ → Type 0
-HoldsAbsent f s = number (take (f .width) s) ≡ f .absent
 
 redundant-given : (f : Field) (b : ℕ) (s : List ℕ) → b < 2 → redundant f b s ≡ true → (b ≡ 1) × HoldsAbsent f s
 unfolding valueOf redundant

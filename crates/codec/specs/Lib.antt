@@ -1,3 +1,4 @@
 pub mod Field
 pub mod Part
+pub mod Given
 pub mod Layout

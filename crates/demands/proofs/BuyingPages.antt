@@ -33,7 +33,7 @@ use Rattle.listing.proofs.RoundTrip.{decode-sound}
 use Rattle.quoting.specs.Quotes.{sheetWith, pricing}
 use Rattle.planner.specs.Calls.{quotingFor}
 use Rattle.planner.proofs.Buying.{quoted-shown, buying-short, buying-given, buying-left}
-use Rattle.demands.specs.Demands.{PageWritten, PageForm}
+use Rattle.demands.specs.Order3.{PageWritten, PageForm}
 
 module _ (s : List ℕ) (bytes : Bytes s) (p : Plant) (e : answer (reading s) ≡ given p) (spare : ℕ) (c : Sheet) (q : answer (quotingFor s spare) ≡ given c) where
   shown : Shown c

@@ -19,7 +19,7 @@ use Rattle.quantity.proofs.Spare.{quantity-sum}
 use Rattle.plan.specs.Plan.{rulesOf, tableOf}
 use Rattle.plan.proofs.Totals.{same-totals, totals}
 use Rattle.planner.specs.Calls.{tabling, counting}
-use Rattle.demands.specs.Demands.{SameTotals, BySwitches}
+use Rattle.demands.specs.Order2.{SameTotals, BySwitches}
 
 module _ (p : Plant) where
   over-held : bySwitch (tableOf p) .total ≡ overSwitches (rulesOf p)

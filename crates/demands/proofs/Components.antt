@@ -52,7 +52,8 @@ use Rattle.search.specs.Search.{newSearch}
 use Rattle.probing.specs.Calls.{checkIn, checking, beginning}
 use Rattle.probing.proofs.Injection.{trail-links, order-links, order-length, round-links}
 use Rattle.probing.proofs.NamedLinks.{naming-within}
-use Rattle.demands.specs.Demands.{ComponentsAre, NeverNine, Parted, Elsewhere, NoLinks, OneComponent}
+use Rattle.demands.specs.Demand2.{ComponentsAre}
+use Rattle.demands.specs.Order9.{NeverNine, Parted, Elsewhere, NoLinks, OneComponent}
 use Rattle.demands.proofs.Packets.{in-long, injection-is}
 use Rattle.demands.proofs.Rounds.{taken-run}
 
@@ -117,6 +118,7 @@ module _ (p : Plant) (ok : Sound p) where
           (subst (λ (r : ℕ). T (reachedFrom p r y)) (sym e) (components.root-reaches p valid (ok .start-in) y i))),
       λ t. components.root-same p valid (ok .start-in) x y h (reach x y h .1 t),
     );
+    only = components.in-roots p valid (ok .start-in);
     own = λ x h. (
       components.root-listed p valid (ok .start-in) x h,
       reach (rootOf p x) x (components.root-in p valid (ok .start-in) x h) .0 (components.root-reaches p valid (ok .start-in) x h),

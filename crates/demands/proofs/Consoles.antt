@@ -27,7 +27,7 @@ use Rattle.consoles.specs.Calls.{newSet, start, outcome}
 use Rattle.consoles.specs.Lists.{afterAll, unknown}
 use Rattle.consoles.proofs.Isolation.{answerOf, nextOf, asks-so, own-by, own-after, others-after, same-answers, same-after}
 use Rattle.consoles.proofs.Fed.{FedBy, fed-keeps}
-use Rattle.demands.specs.Demands.{Sets, ConsoleCalls, Isolated, Agreeing, ConsoleSearches}
+use Rattle.demands.specs.Order8.{Sets, ConsoleCalls, Isolated, Agreeing, ConsoleSearches}
 
 pub sets : Sets
 sets = record {

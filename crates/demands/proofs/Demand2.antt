@@ -13,21 +13,23 @@ use Rattle.answers.proofs.Checks.{goes-on, gives-so}
 use Rattle.limits.specs.Sound.{Sound}
 use Rattle.listing.specs.Listing.{encode, reading}
 use Rattle.listing.specs.Writing.{writing}
+use Rattle.listing.proofs.Longest.{longestPlant, longest, longest-attained}
 use Rattle.listing.proofs.RoundTrip.{read-write, write-read, decode-sound}
 use Rattle.listing.proofs.WriteRoundTrip.{sound-written, buffer-written}
 use Rattle.walks.proofs.Valid.{sound-valid}
 use Rattle.walks.proofs.Tests.{bridge-is}
 use Rattle.walks.proofs.ByLinks.{visited-by-links}
-use Rattle.walks.proofs.Components.{listed-in}
+use Rattle.walks.proofs.Components.{used-arc, listed-in}
 use Rattle.plan.specs.Plan.{trailOf}
 use Rattle.plan.proofs.Plan.{distance-fewest}
 use Rattle.plan.proofs.Trails.{trails-are, trails-closed}
 use Rattle.planning.proofs.Plans.{at-given}
 use Rattle.planner.specs.Calls.{rewriting, rewritten, rereading, trailLeft, trailing, laidOut}
 use Rattle.planner.proofs.Trailing.{lay-enough, trail-given, left-given}
-use Rattle.demands.specs.Demands.{PlanIs, Demand2}
+use Rattle.demands.specs.Demand2.{PlanIs, Demand2}
 use Rattle.demands.proofs.Packets.{run-is, rules-are, injection-is}
 use Rattle.demands.proofs.Components.{components-are}
+use Rattle.demands.proofs.InUse.{in-use}
 
 rewrites : (s b : List ℕ) (p : Plant) → answer (reading s) ≡ given p → length s ≤ length b → answer (rewriting s b) ≡ given (length s)
 unfolding rewriting
@@ -45,6 +47,8 @@ plan-is p ok =
       components = components-are p ok;
       bridges = λ l h. bridge-is p valid l h;
       visit = λ r i. visited-by-links p valid r (p .switches) (listed-in p valid (ok .start-in) r i) (omega arith);
+      in-use = in-use p ok;
+      in-service = used-arc p;
       distances = distance-fewest p ok;
       trails = trails-are p ok;
       closed = trails-closed p ok;
@@ -53,10 +57,13 @@ plan-is p ok =
 pub demand-2 : Demand2
 unfolding rewritten trailing laidOut
 demand-2 = record {
+  most-hops = refl;
   read-write = read-write;
   write-read = write-read;
   rewrite = λ s b p _ e h. let r = rewrites s b p e h in (r, ap (leaves (λ n. s ++ drop n b) b) r);
   reread = λ p b ok h. (rereads p b ok h, buffer-written p b (length (encode p)) (sound-written p b ok h));
+  longest = longest;
+  as-long = (longestPlant, longest-attained .0, longest-attained .1);
   sound = decode-sound;
   plan = λ s p b e. plan-is p (decode-sound s p b e);
   laid = λ s b p e h.

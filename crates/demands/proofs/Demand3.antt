@@ -16,8 +16,10 @@ use Rattle.planning.specs.Planning.{planningAt}
 use Rattle.planning.proofs.Plans.{given-at}
 use Rattle.planner.specs.Calls.{tabling}
 use Rattle.probing.specs.Calls.{beginning, performedIn, performing}
-use Rattle.demands.specs.Demands.{Demand3}
+use Rattle.demands.specs.Demand3.{Demand3}
 use Rattle.demands.proofs.RulePages.{rule-page}
+use Rattle.demands.proofs.Reached.{reached}
+use Rattle.demands.proofs.Naming.{names}
 use Rattle.probing.proofs.Searching.{searches}
 
 pub demand-3 : (s : List ℕ) → Bytes s → (p : Plant) → answer (reading s) ≡ given p → Demand3 s p
@@ -30,4 +32,6 @@ demand-3 s b p e =
       begins = λ x h. gives-so (planningAt s x) (λ q. newSearch (linksWith q x)) p (given-at s x p e h);
       performs = λ x h cs. gives-so (planningAt s x) (performedIn x cs) p (given-at s x p e h);
       searches = λ x h. searches p ok x h;
+      reached = λ x h. reached p ok x h;
+      names = λ x h. names s b p e x h;
     }

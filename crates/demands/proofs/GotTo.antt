@@ -35,7 +35,7 @@ use Rattle.planning.proofs.Plans.{given-at}
 use Rattle.probing.specs.Calls.{runIn, running, checkIn, checking, outLabels, probeEnd, probeIn, probing}
 use Rattle.probing.proofs.Injection.{trail-used, ring-at}
 use Rattle.probing.specs.Searches.{actualOutcome}
-use Rattle.demands.specs.Demands.{GotTo, ProbeGotTo, PacketsTell}
+use Rattle.demands.specs.Order1.{GotTo, ProbeGotTo, PacketsTell}
 
 -- ---- any run
 

@@ -37,7 +37,7 @@ use Rattle.order.specs.Span.{shiftedBy}
 use Rattle.probing.specs.Calls.{outSpan}
 use Rattle.probing.proofs.OutwardLabels.{own-stands, own-from}
 use Rattle.probing.proofs.Injection.{ring-at, trail-links, order-links, order-length}
-use Rattle.demands.specs.Demands.{RunIs, RulesAre, StandsIn, InjectionIs}
+use Rattle.demands.specs.Demand2.{RunIs, RulesAre, StandsIn, InjectionIs}
 
 -- a list with a member is not empty
 pub in-long : (a : ℕ) (l : List ℕ) → In a l → 1 ≤ length l

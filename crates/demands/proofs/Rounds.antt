@@ -27,15 +27,14 @@ use Rattle.walks.specs.Components.{rootOf, linkWith, linksWith, used}
 use Rattle.walks.proofs.Components.{listed-in, links-with}
 use Rattle.walks.proofs.Round.{round-visits, first-met}
 use Rattle.walks.proofs.Valid.{sound-valid}
-use Rattle.walks.proofs.Labels.{even-half, odd-half, even-arc, odd-arc}
+use Rattle.walks.proofs.Labels.{even-half, odd-half}
 use Rattle.plan.specs.Plan.{trailOf, trailWith, roundOf, roundWith}
 use Rattle.plan.specs.Rounds.{IsRound, AreRounds}
-use Rattle.plan.proofs.Plan.{used-arc}
 use Rattle.plan.proofs.Places.{round-place}
 use Rattle.plan.proofs.Rounds as rounds
 use Rattle.plan.proofs.Rounds.{round-from, rounds-are}
 use Rattle.rings.specs.Packet.{End}
-use Rattle.rings.specs.Rules.{upBy, inAll}
+use Rattle.rings.specs.Rules.{upBy, upByLink, inAll}
 use Rattle.rings.specs.Ring.{FirstHop}
 use Rattle.rings.specs.Injection.{placeOf, ringOf}
 use Rattle.rings.specs.Round.{upByLabel, EveryUp, roundRun, Together, linkBytes}
@@ -59,7 +58,8 @@ use Rattle.probing.specs.Searches.{actualOutcome, sentOver}
 use Rattle.probing.proofs.Injection.{root-among, ring-at, trail-links, order-links, round-exactly}
 use Rattle.probing.proofs.Rounds.{chosen-hops}
 use Rattle.probing.proofs.Searching.{searches}
-use Rattle.demands.specs.Demands.{GotTo, RoundTrail, RoundRun, ShorterTrail, endByLabel, ByLabel}
+use Rattle.demands.specs.Order1.{GotTo}
+use Rattle.demands.specs.Order6.{RoundTrail, RoundRun, ShorterTrail, endByLabel, ByLabel}
 use Rattle.demands.proofs.GotTo.{got-to}
 
 -- the links of a component are in service
@@ -127,15 +127,15 @@ module _ (p : Plant) (ok : Sound p) (x : ℕ) (x-in : x < p .switches) where
 
   -- ---- searches by states of labels
 
-  module _ (states : List ℕ) (together : Together p states) where
-    links : (l : ℕ) → T (live p l) → (upBy (linkBytes p states) l ≡ upByLabel states (2 * l)) × (upBy (linkBytes p states) l ≡ upByLabel states (2 * l + 1))
-    links l h = (
-      sym (rw (even-half l) at (label-link p states together (2 * l) (even-arc p l h))),
-      sym (rw (odd-half l) at (label-link p states together (2 * l + 1) (odd-arc p l h))),
-    )
+  module _ (states : List ℕ) (together : Together (linkWith p x) states) where
+    tells : (a : ℕ) → T (linkWith p x (a / 2)) → upByLabel states a ≡ upByLink (linkBytes p states) a
+    tells = label-link p (linkWith p x) (alive p x) states together
+
+    links : (l : ℕ) → T (linkWith p x l) → (upBy (linkBytes p states) l ≡ upByLabel states (2 * l)) × (upBy (linkBytes p states) l ≡ upByLabel states (2 * l + 1))
+    links l h = (sym (rw (even-half l) at (tells (2 * l) (rw (even-half l) h))), sym (rw (odd-half l) at (tells (2 * l + 1) (rw (odd-half l) h))))
 
     runs : (m : ℕ) → endByLabel p x states m ≡ probeEnd p x (linkBytes p states) m
-    runs m = probe-together p states together (used p) (used-arc p) (trailWith p x) x (linksWith p x) m
+    runs m = probe-together p (linkWith p x) (alive p x) states together (used p) (trailWith p x) (trail-links p ok x x-in) x (linksWith p x) m
 
     same : endByLabel p x states ≡ probeEnd p x (linkBytes p states)
     same = λ j m. runs m j

@@ -2,14 +2,15 @@
 use mathlib.Core.Path.{_≡_, refl, sym, ap, subst, _∙_}
 use mathlib.Core.Logic.{_↔_}
 use mathlib.Core.List.{List, [], _∷_, map}
-use Prim.Native.Nat.{ℕ, _*_, _/_}
+use Prim.Native.Nat.{ℕ, _*_, _/_, _<_}
 use native.Mathlib.Omega.{arith}
 use lib.Dec.{T}
-use lib.ListN.{length}
+use lib.ListN.{length, getD}
 use Rattle.lists.specs.Members.{In, memb, Distinct}
 use Rattle.lists.proofs.Members.{memb→in, in→memb}
 use Rattle.lists.proofs.Count.{count-both}
 use Rattle.lists.specs.Numbers.{range, keep}
+use Rattle.lists.proofs.Rising.{keep-rises}
 use Rattle.lists.proofs.Numbers.{in-range, keep-in, in-keep, range-distinct, keep-distinct}
 use Rattle.plant.specs.declared.Plant.{Plant}
 use Rattle.limits.specs.Sound.{Sound}
@@ -21,7 +22,7 @@ use Rattle.walks.specs.Components.{used, arcsUsed}
 use Rattle.plan.specs.Plan.{trailOf, ruleOf, rulesOf}
 use Rattle.plan.proofs.Plan.{used-arc, rules-by-label, rules-number}
 use Rattle.plan.proofs.Trails.{trails-are, trails-closed, trails-cross}
-use Rattle.demands.specs.Demands.{ruleLabels, arcsCrossed, RulePage}
+use Rattle.demands.specs.Demand3.{ruleLabels, arcsCrossed, RulePage}
 
 module _ (p : Plant) where
   label-rule : (ls : List ℕ) → map (λ r. r .label) (map (ruleOf p) ls) ≡ ls
@@ -59,6 +60,7 @@ module _ (p : Plant) where
       of-arcs = own-rules;
       crossed = λ a. (λ h. exactly a .1 (labels-used a .0 h), λ h. labels-used a .1 (exactly a .0 h));
       once = subst Distinct (sym labels-are) (keep-distinct (used p) (range 0 (2 * p .count)) (range-distinct 0 (2 * p .count)));
+      rising = subst (λ (ls : List ℕ). (i j : ℕ) → i < j → j < length ls → getD ls i 0 < getD ls j 0) (sym labels-are) (keep-rises (used p) 0 (2 * p .count));
       number = rules-number p ok;
       fewest = λ ws c h. omega (arith, rules-number p ok, fewest-together p (sound-valid p ok) ws c h);
       fewest-one = λ w c h. omega (arith, rules-number p ok, fewest p (sound-valid p ok) w c h);

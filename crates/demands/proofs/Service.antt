@@ -47,7 +47,7 @@ use Rattle.probing.specs.Searches.{NoneBroken}
 use Rattle.probing.proofs.Injection.{ring-at, order-links}
 use Rattle.probing.proofs.NamedLinks.{naming-within}
 use Rattle.probing.proofs.StateBytes.{ByLinkAlike, ByLabelAlike, running-bytes, checking-bytes, probing-bytes, rounding-bytes}
-use Rattle.demands.specs.Demands.{Marks, OutOfService, SameByLink, SameByLabel, StatesOf, AllInService}
+use Rattle.demands.specs.Order7.{Marks, OutOfService, SameByLink, SameByLabel, StatesOf, AllInService}
 use Rattle.demands.proofs.Packets.{rules-are}
 use Rattle.demands.proofs.RulePages.{rule-page}
 

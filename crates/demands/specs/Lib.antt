@@ -1,1 +1,15 @@
-pub mod Demands
+pub mod Names
+pub mod Tried
+pub mod Conditions
+pub mod Demand1
+pub mod Demand2
+pub mod Demand3
+pub mod Order1
+pub mod Order2
+pub mod Order3
+pub mod Order4
+pub mod Order6
+pub mod Order7
+pub mod Order8
+pub mod Order9
+pub mod Promises

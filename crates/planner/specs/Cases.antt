@@ -8,7 +8,7 @@ use Rattle.plant.specs.declared.Link.{Link}
 use Rattle.plant.specs.Links.{plantWith, live}
 use Rattle.answers.specs.Answers.{Answer, given, refused, _>>=_}
 use Rattle.answers.specs.Checks.{answer}
-use Rattle.answers.specs.Tables.{agreed}
+use Rattle.answers.specs.Tables.{byte, agreed}
 use Rattle.codec.specs.Part.{taken, valueOf, redundant, mapMissing, mapUndefined, fieldMissing, fieldRedundant, fieldValues, afterPart, part}
 use Rattle.listing.specs.Listing.{valueOutOfRange, endOutOfRange, selfLink, bytesRemain, soundLink, header, link, links, withLinks, linked, ended, reading, linksOf}
 use Rattle.limits.specs.Limits.{maxSwitches, maxLinks}
@@ -71,7 +71,8 @@ readings =
     ∷ reads (1 ∷ []) (refused 3)
     ∷ reads (1 ∷ 1 ∷ []) (refused 4)
     ∷ reads (1 ∷ 0 ∷ []) (refused 5)
-    ∷ reads (1 ∷ (maxSwitches + 1) ∷ []) (refused 5)
+    ∷ reads (1 ∷ byte 4 1 ∷ []) (refused 5)
+    ∷ reads (1 ∷ byte 4 0 ∷ []) (given (byte 4 0 ∷ 0 ∷ 0 ∷ []))
     ∷ reads (3 ∷ 2 ∷ 1 ∷ 0 ∷ 0 ∷ []) (refused 7)
     ∷ reads (0 ∷ 0 ∷ []) (refused 8)
     ∷ reads twoSwitches (given (2 ∷ 1 ∷ 0 ∷ 0 ∷ 1 ∷ 0 ∷ []))
@@ -117,9 +118,9 @@ tables s a = record { got = answer (tabling s) >>= λ t. given (t .count ∷ [])
 abbrev trails : List ℕ → ℕ → Answer (List ℕ) → Row
 trails s places a = record { got = answer (trailing s (replicate places 0)) >>= λ n. given (take n (laidOut s (replicate places 0))); said = a }
 
--- document 02's order 9: as many switches as there can be, and no links
+-- document 02's order 9, `01 40`: as many switches as there can be, and no links
 abbrev noLinks : List ℕ
-noLinks = 1 ∷ maxSwitches ∷ []
+noLinks = 1 ∷ byte 4 0 ∷ []
 
 -- two switches, and the link between them out of service
 abbrev apart : List ℕ
@@ -171,7 +172,7 @@ summed =
     sums triangle (given (3 ∷ 3 ∷ 0 ∷ 3 ∷ 3 ∷ []))
     ∷ sums openTriangle (given (3 ∷ 2 ∷ 2 ∷ 4 ∷ 6 ∷ []))
     ∷ sums oneOfTwo (given (2 ∷ 1 ∷ 1 ∷ 2 ∷ 2 ∷ []))
-    ∷ sums noLinks (given (maxSwitches ∷ 0 ∷ 0 ∷ 0 ∷ 0 ∷ []))
+    ∷ sums noLinks (given (byte 4 0 ∷ 0 ∷ 0 ∷ 0 ∷ 0 ∷ []))
     ∷ sums apart (given (2 ∷ 0 ∷ 0 ∷ 0 ∷ 0 ∷ []))
     ∷ sums pairBeside (given (3 ∷ 1 ∷ 1 ∷ 2 ∷ 2 ∷ []))
     ∷ sums triangles (given (7 ∷ 6 ∷ 0 ∷ 6 ∷ 6 ∷ []))
@@ -190,7 +191,7 @@ abbrev parted : List Row
 parted =
     parts (8 ∷ []) (refused 2)
     ∷ parts (0 ∷ []) (given (1 ∷ 0 ∷ 0 ∷ 0 ∷ 0 ∷ 0 ∷ []))
-    ∷ parts noLinks (given (maxSwitches ∷ flatten (map (λ x. x ∷ 0 ∷ 0 ∷ 0 ∷ 0 ∷ []) (range 0 maxSwitches))))
+    ∷ parts noLinks (given (byte 4 0 ∷ flatten (map (λ x. x ∷ 0 ∷ 0 ∷ 0 ∷ 0 ∷ []) (range 0 (byte 4 0)))))
     ∷ parts openTriangle (given (1 ∷ 0 ∷ 0 ∷ 6 ∷ 0 ∷ 4 ∷ []))
     ∷ parts apart (given (2 ∷ 0 ∷ 0 ∷ 0 ∷ 0 ∷ 0 ∷ 1 ∷ 0 ∷ 0 ∷ 0 ∷ 0 ∷ []))
     ∷ parts pairBeside (given (2 ∷ 2 ∷ 0 ∷ 0 ∷ 0 ∷ 0 ∷ 0 ∷ 0 ∷ 2 ∷ 0 ∷ 2 ∷ []))

@@ -21,8 +21,8 @@ use Rattle.listing.specs.Answers.{emptyPlant, Reads}
 use Rattle.listing.proofs.RoundTrip.{decode-sound}
 use Rattle.planning.specs.declared.Parts.{Parts}
 use Rattle.planning.specs.declared.Planned.{Planned}
-use Rattle.planning.specs.Plans.{Plan}
-use Rattle.planning.specs.Planning.{switchOutOfRange, planningAt, Plots, Ready}
+use Rattle.planning.specs.Plans.{Plan, Plots, Ready}
+use Rattle.planning.specs.Planning.{switchOutOfRange, planningAt}
 
 -- ---- refusals 1 to 8
 

@@ -1,4 +1,4 @@
--- Inner: what the parts of a plan are: each is what the definitions say of the plant, over all its components. Inner functions ask for it. Assumes nothing.
+-- Inner: what the parts of a plan are: each is what the definitions say of the plant, over all its components; and what a plan answers. Inner functions ask for it. Assumes nothing.
 use mathlib.Core.Path.{_≡_}
 use mathlib.Core.Bool.{Bool}
 use mathlib.Core.List.{List, map}
@@ -21,6 +21,10 @@ use Rattle.arcs.specs.Flags.{Flags}
 use Rattle.arcs.specs.Legs.{noLegs, LegsIn}
 use Rattle.planning.specs.declared.Parts.{Parts}
 use Rattle.planning.specs.Components.{componentsOf}
+use Rattle.answers.specs.declared.Verdict.the-variants as verdict
+use Rattle.answers.specs.Answers.{Answer, Beside}
+use Rattle.listing.specs.Answers.{emptyPlant}
+use Rattle.planning.specs.declared.Planned.{Planned}
 
 -- the network of a plant from the root r, and flags of its arcs in use from there, which no code holds
 abbrev pub netOf : Plant → ℕ → Net
@@ -74,3 +78,11 @@ module _ (x : Parts) where
   pub record Plan (t : List (List ℕ)) : Type 0 where
     pub laying : Laying t
     pub measured : Measured
+
+-- what a plan answers, where a is its meaning: the plant beside its verdict
+abbrev pub Plots : Answer Plant → Planned → Type 0
+Plots a r = Beside emptyPlant a (r .verdict) (r .parts .plant)
+
+-- where a plan is not refused, its parts and the table beside them are those of its plant
+abbrev pub Ready : Planned → List (List ℕ) → Type 0
+Ready r t = r .verdict ≡ verdict.Accepted → Plan (r .parts) t

@@ -24,8 +24,8 @@ ghost use Rattle.plan.specs.Plan.{trailOf, roundOf, tableOf};
 ghost use Rattle.trail.specs.Filled.{filledWith, Tells};
 ghost use Rattle.round.specs.Round.{labelsOf};
 ghost use Rattle.planning.specs.Components.{componentsWith, componentWith};
-ghost use Rattle.planning.specs.Plans.{netOf, Placed, Charted, OfPlant, LinksBy, Legged, Laying, Plan};
-ghost use Rattle.planning.specs.Planning.{planningAt, Plots, Ready};
+ghost use Rattle.planning.specs.Plans.{netOf, Placed, Charted, OfPlant, LinksBy, Legged, Laying, Plan, Plots, Ready};
+ghost use Rattle.planning.specs.Planning.{planningAt};
 ghost use Rattle.planning.specs.Numbers.{numbersOf};
 
 // A component of a plant: its root, where its trail begins among the trails of all and its hops, and where its round trail begins among the round trails of all and its

@@ -2,7 +2,7 @@
 // lengths that follow from them, a place for each switch and one for each label. With it: a plant without links, the two ends of an arc by its label, and whether a link is in service.
 ghost use mathlib.Core.Path.{_≡_};
 ghost use mathlib.Core.Bool.{not};
-ghost use Prim.Native.Nat.{_%_};
+ghost use Prim.Native.Nat.{_+_, _-_, _*_, _%_};
 ghost use Rattle.plant.specs.Links.{zeroLink, plantWith, side};
 
 // A two-way link between two switches, with its cable tag. Label 2 * l crosses link l from its first end to its second, and 2 * l + 1 crosses it back. A link can be
@@ -115,8 +115,10 @@ pub fn most_links() -> usize
     Plant::MAX_LINKS
 }
 
+// Each arc in use, of which there are at most as many as rules, has a way of fewer hops than switches before it and is crossed itself, and fewer lead home.
 pub fn most_hops() -> usize
     ensures { λ r. do ⌜ r ≡ (← ⟦Plant::MAX_HOPS⟧ .entry) ⌝ }
+    ensures { λ r. do ⌜ r ≡ (← ⟦Plant::MAX_RULES⟧ .entry) * (← ⟦Plant::PLACES⟧ .entry) + ((← ⟦Plant::PLACES⟧ .entry) - 1) ⌝ }
 {
     Plant::MAX_HOPS
 }

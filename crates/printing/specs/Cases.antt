@@ -7,8 +7,8 @@ use lib.ListN.{take}
 use Rattle.lists.specs.Count.{count}
 use Rattle.lists.specs.Least.{leastFrom}
 use Rattle.lists.specs.Numbers.{range}
-use Rattle.limits.specs.Limits.{maxSwitches}
 use Rattle.plant.specs.Links.{plantWith, live}
+use Rattle.answers.specs.Tables.{byte}
 use Rattle.codec.specs.Part.{taken, valueOf, redundant, mapMissing, mapUndefined, fieldMissing, fieldRedundant, fieldValues, afterPart, part}
 use Rattle.listing.specs.Listing.{valueOutOfRange, endOutOfRange, selfLink, bytesRemain, soundLink, header, link, links, withLinks, linked, ended, reading}
 use Rattle.walks.specs.Visit.{scan, visit}
@@ -41,6 +41,6 @@ unfolding plantWith taken valueOf redundant mapMissing mapUndefined fieldMissing
 as-said = refl
 
 -- "64 empty trails and 0 rules"
-no-links : printed (1 ∷ maxSwitches ∷ []) ≡ summaryLine maxSwitches 0 0 0 0 ++ each (λ x. trailLine []) (range 0 maxSwitches)
+no-links : printed (1 ∷ byte 4 0 ∷ []) ≡ summaryLine (byte 4 0) 0 0 0 0 ++ each (λ x. trailLine []) (range 0 (byte 4 0))
 unfolding plantWith taken valueOf redundant mapMissing mapUndefined fieldMissing fieldRedundant fieldValues afterPart part valueOutOfRange endOutOfRange selfLink bytesRemain soundLink header link links withLinks linked ended reading trail legs nearest near route hops hop dist within sources leastFrom count usedFrom bridge visitFrom arcs others visit scan tail head live rootOf begunAt roots used arcsUsed flatten trailsOf rulesIn liveLinks bridges digits decimal line pageOf plantOutput
 no-links = refl

@@ -37,8 +37,8 @@ use Rattle.search.specs.Sound.{SaysIn}
 use Rattle.search.proofs.Sound.{says-in}
 use Rattle.planning.specs.declared.Parts.{Parts}
 use Rattle.planning.specs.declared.Planned.{Planned}
-use Rattle.planning.specs.Plans.{OfPlant, Plan}
-use Rattle.planning.specs.Planning.{planningAt, Plots}
+use Rattle.planning.specs.Plans.{OfPlant, Plan, Plots}
+use Rattle.planning.specs.Planning.{planningAt}
 use Rattle.planning.proofs.Plans.{at-given}
 use Rattle.judging.specs.Conditions.{hopsDiffer, searchUnsound, lentChecks, roundChecks}
 use Rattle.judging.proofs.Lent.{states-enough, trail-same, hops-begin}

@@ -81,7 +81,7 @@ module _ (p : Plant) (x : ℕ) (states : List ℕ) where
 
 -- what holds of r, where the calls cs led to after a new search from injection switch x, over the E links of its component
 pub record Searches (p : Plant) (x : ℕ) (cs : List Call) (r : Progress) : Type 0 where
-  -- what is counted, by the sendings alone: a probe is told by its m, and counts if one of its sendings returned or three were lost; each sending is a packet
+  -- what is counted, by the sendings alone: a probe is told by its m, and counts if one of its sendings returned or three in a row were lost; each sending is a packet
   pub probes-are : r .probes ≡ count (linksWith p x + 1) (countedIn (sentOver p x cs))
   pub packets-are : r .packets ≡ length (sentOver p x cs)
   -- "whatever fates are given, the probes number at most 1 + ⌈log2 E⌉, or none for E = 0, and with that many the search has ended"

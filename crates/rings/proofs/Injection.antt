@@ -12,7 +12,6 @@ use native.Mathlib.Nat.{zero-add}
 use lib.Dec.{T, eqb, ltb}
 use lib.ListN.{length, getD, take}
 use borrow.Author.Tests.{eq-eqb, ne-eqb}
-use Rattle.lists.specs.Tests.{choose}
 use Rattle.lists.proofs.Tests.{bool?}
 use Rattle.lists.specs.Members.{In, all, Distinct}
 use Rattle.plant.specs.declared.Plant.{Plant}
@@ -29,7 +28,6 @@ use Rattle.rings.specs.Probe.{outward, back, probe}
 use Rattle.rings.proofs.FirstDown.{firstDown, first-take}
 use Rattle.rings.specs.Injection.{probeRules, placeOf, ringOf, orderOf, probeOf, probeRun}
 use Rattle.rings.proofs.Packet.{run-ended, run-clear, lost-at}
-use Rattle.rings.proofs.Rules.{rule-arc, all-arc, run-agrees}
 use Rattle.rings.proofs.Ring.{place-first, ring-empty, read-labels, read-walk}
 use Rattle.rings.proofs.Order.{order-distinct, label-order, order-label}
 use Rattle.rings.proofs.Probe.{probe-clear, probe-all, probe-walk}
@@ -65,16 +63,6 @@ module _ (p : Plant) (w : List ℕ) (s : ℕ) where
     pub back-run : (m : ℕ) → (m ≡ e → ⊥) → probeRun p table w s e up m ≡ run (inAll p) up (head p) s 0 (outward m (ringOf p w s) ++ back (outward m (ringOf p w s)))
     unfolding probeRun probeRules probeOf probe
     back-run m n = rw (ne-eqb m e n)
-
-  module _ (table : ℕ → Bool) (arcs : (a : ℕ) → T (table a) → Arc p a) (e : ℕ) where
-    -- two tests of what is up that agree on arcs of the plant give one run
-    pub probe-agrees : (up up′ : ℕ → Bool) → ((a : ℕ) → Arc p a → up a ≡ up′ a) → (m : ℕ) → probeRun p table w s e up m ≡ probeRun p table w s e up′ m
-    unfolding probeRun probeRules
-    probe-agrees up up′ agree m = run-agrees p (probeRules p table e m) (arc (eqb m e)) up up′ agree (head p) (probeOf p w s e m) s 0
-      where
-        arc : (t : Bool) (x a : ℕ) → choose t (rulesFor table (tail p)) (inAll p) x a ≡ true → Arc p a
-        arc true = rule-arc p table arcs
-        arc false = all-arc p
 
 -- ---- a closed walk and an injection switch
 

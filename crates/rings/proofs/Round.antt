@@ -1,6 +1,6 @@
 -- The round run, by a state byte for each label (document 02, order 6). The ring of a switch on a closed walk that has each arc of some links, and no other label, comes home
--- exactly if every direction of these is up, and no labels of which that holds are fewer than two to each of them; where the two directions of each link are up or down together, a
--- run by label is the run by link. Assumes nothing more of the plant.
+-- exactly if every direction of these is up, and no labels of which that holds are fewer than two to each of them; where the two directions of each of these are up or down together, a
+-- probe by label is the probe by link. Assumes nothing more of the plant.
 use mathlib.Core.Path.{_≡_, refl, sym, ap, _∙_, subst}
 use mathlib.Core.Logic.{_⊎_, ⊎-elim, _↔_}
 use mathlib.Core.Bool.{Bool, true, false, not}
@@ -23,16 +23,17 @@ use Rattle.plant.specs.Links.{live}
 use Rattle.walks.specs.Walk.{Walk}
 use Rattle.walks.specs.Arcs.{tail, head, Arc}
 use Rattle.walks.proofs.Live.{live-below}
-use Rattle.walks.proofs.Labels.{even-or-odd, even-half, odd-half, arc-below}
+use Rattle.walks.proofs.Labels.{even-or-odd, even-half, odd-half, opposite-half, arc-below}
 use Rattle.rings.specs.Packet.{End, ends, run}
 use Rattle.rings.specs.Rules.{upBy, upByLink, inAll}
 use Rattle.rings.specs.Ring.{readFrom, ring}
-use Rattle.rings.specs.Injection.{placeOf, ringOf, probeRun}
+use Rattle.rings.specs.Injection.{placeOf, ringOf, probeRules, probeOf, probeRun}
 use Rattle.rings.specs.Round.{upByLabel, EveryUp, Vouches, roundRun, Together, linkBytes}
 use Rattle.rings.proofs.Packet.{run-ended, run-clear, run-same}
 use Rattle.rings.proofs.Ring.{place-is, ring-empty}
 use Rattle.rings.proofs.Rules.{all-arc}
-use Rattle.rings.proofs.Injection.{RingAt, ring-labels, ring-closed, probe-agrees}
+use Rattle.rings.proofs.Probe.{probe-all}
+use Rattle.rings.proofs.Injection.{RingAt, ring-labels, ring-closed}
 
 -- the ring has as many labels as the walk
 ring-length : (p : Plant) (w : List ℕ) (s : ℕ) → length (ringOf p w s) ≡ length w
@@ -141,18 +142,22 @@ module _ (p : Plant) where
           count-memb (2 * p .count) w,
         )
 
-  -- ---- links whose two directions are up or down together
+  -- ---- some links in service whose two directions are up or down together
 
-  module _ (states : List ℕ) (together : Together p states) where
-    -- of each link the byte of either label tells
-    pub label-link : (a : ℕ) → Arc p a → upByLabel states a ≡ upByLink (linkBytes p states) a
+  module _ (links : ℕ → Bool) (alive : (l : ℕ) → T (links l) → T (live p l)) (states : List ℕ) (together : Together links states) where
+    -- of each the byte of either label tells
+    pub label-link : (a : ℕ) → T (links (a / 2)) → upByLabel states a ≡ upByLink (linkBytes p states) a
     unfolding upBy linkBytes
     label-link a h = ⊎-elim (λ e. ap (upBy states) e) (λ e. ap (upBy states) e ∙ sym (together (a / 2) h)) (even-or-odd a) ∙ sym first-byte
       where
         first-byte : upByLink (linkBytes p states) a ≡ upByLabel states (2 * (a / 2))
-        first-byte = ap (λ (b : ℕ). not (eqb b 0)) (values-at (λ l. getD states (2 * l) 0) 0 (p .count) (a / 2) (live-below p (a / 2) h))
+        first-byte = ap (λ (b : ℕ). not (eqb b 0)) (values-at (λ l. getD states (2 * l) 0) 0 (p .count) (a / 2) (live-below p (a / 2) (alive (a / 2) h)))
 
-    -- a run by label is the run by link
-    pub probe-together : (table : ℕ → Bool) → ((a : ℕ) → T (table a) → Arc p a) → (w : List ℕ) (s e m : ℕ)
+    -- over a trail of no other links, the run of a probe by label is the run by link
+    pub probe-together : (table : ℕ → Bool) (w : List ℕ) → ((a : ℕ) → In a w → T (links (a / 2))) → (s e m : ℕ)
         → probeRun p table w s e (upByLabel states) m ≡ probeRun p table w s e (upByLink (linkBytes p states)) m
-    probe-together table arcs w s e = probe-agrees p w s table arcs e (upByLabel states) (upByLink (linkBytes p states)) label-link
+    unfolding probeRun probeOf
+    probe-together table w of s e m =
+        let rule = probeRules p table e m in
+        run-same rule rule (upByLabel states) (upByLink (linkBytes p states)) (head p) (probeOf p w s e m) s 0 (λ x a i. refl)
+        (λ x a i t. label-link a (probe-all (λ b. T (links (b / 2))) (λ b u. subst (λ (l : ℕ). T (links l)) (sym (opposite-half b)) u) e m (ringOf p w s) (λ b j. of b (ring-labels p w s b .0 j)) a i))

@@ -8,7 +8,6 @@ use lib.Dec.{T}
 use lib.ListN.{length, getD}
 use Rattle.lists.specs.Numbers.{range}
 use Rattle.plant.specs.declared.Plant.{Plant}
-use Rattle.plant.specs.Links.{live}
 use Rattle.walks.specs.Arcs.{head}
 use Rattle.rings.specs.Packet.{End, ends, run}
 use Rattle.rings.specs.Rules.{upBy, inAll}
@@ -17,6 +16,10 @@ use Rattle.rings.specs.Injection.{ringOf}
 -- "with a state byte for each label": a label is up if its byte is not 0, whatever that of the opposite one is
 abbrev pub upByLabel : List ℕ → ℕ → Bool
 upByLabel states a = upBy states a
+
+-- "links whose two directions are up or down together": each of these links
+abbrev pub Together : (ℕ → Bool) → List ℕ → Type 0
+Together links states = (l : ℕ) → T (links l) → upByLabel states (2 * l) ≡ upByLabel states (2 * l + 1)
 
 module _ (p : Plant) where
   -- every direction of these links is up
@@ -31,11 +34,6 @@ module _ (p : Plant) where
   -- the run over the round trail w from the place of switch s: its ring
   unfoldable pub roundRun : List ℕ → ℕ → List ℕ → End
   roundRun w s states = run (inAll p) (upByLabel states) (head p) s 0 (ringOf p w s)
-
-  -- ---- "links whose two directions are up or down together"
-
-  abbrev pub Together : List ℕ → Type 0
-  Together states = (l : ℕ) → T (live p l) → upByLabel states (2 * l) ≡ upByLabel states (2 * l + 1)
 
   -- one byte for each link, that of its first label
   unfoldable pub linkBytes : List ℕ → List ℕ

@@ -1,13 +1,13 @@
 -- What the sendings of a list tell of its probes: one m is one probe, which is sent three times at most, and not again once it is settled; and the probes that a search
--- counts are those of which one sending returned or three were lost. Assumes that a plant can have the links that the search is over.
+-- counts are those of which one sending returned or three in a row were lost. Assumes that a plant can have the links that the search is over.
 use mathlib.Core.Path.{_≡_, refl, sym, ap, ap₂, subst, _∙_}
 use mathlib.Core.Logic.{_⊎_, inl, inr, _↔_}
 use mathlib.Core.Bool.{Bool, true, false, _||_}
 use mathlib.Core.List.{List, [], _∷_, _++_}
 use Prim.Native.Nat.{ℕ, _+_, _/_, _≤_, _<_}
 use native.Mathlib.Omega.{arith}
-use lib.Dec.{T, eqb, leb, ltb, ltb→lt, leb→le, lt→ltb, le→leb}
-use borrow.Author.Tests.{eq-eqb, ne-eqb}
+use lib.Dec.{T, eqb, leb, ltb, ltb→lt, lt→ltb, le→leb}
+use borrow.Author.Tests.{eq-eqb, ne-eqb, lt-leb}
 use Rattle.lists.specs.Tests.{choose}
 use Rattle.lists.specs.Count.{bit, count}
 use Rattle.lists.proofs.Tests.{eq?, not-both, or-left, or-right, or-cases}
@@ -19,7 +19,7 @@ use Rattle.search.specs.declared.Outcome.{Outcome}
 use Rattle.search.specs.declared.Outcome.the-variants.{Returned, Lost}
 use Rattle.search.specs.declared.Progress.{Progress}
 use Rattle.search.specs.Search.{tries, ended, wanted, lostSoFar, settles, settled, onceMore, next}
-use Rattle.search.specs.Calls.{Call, asks, gives, step, perform, begun, Sending, sent, sendings, sendingBy, returnsOf, lossesOf, countedIn}
+use Rattle.search.specs.Calls.{Call, asks, gives, step, perform, begun, Sending, sent, sendings, sendingBy, returnsOf, lossesOf, lostInRow, countedIn}
 use Rattle.search.specs.Limit.{limit}
 use Rattle.search.specs.Sound.{Good}
 use Rattle.search.proofs.Intervals.{new-lost, narrowed-as, next-as, last-loss, earlier-loss, settled-lost, once-more-same, once-more-lost, good-lost}
@@ -138,36 +138,56 @@ prior-most s m n h = go (eqb m (wanted s))
 
 -- is m counted by the list, with these?
 abbrev countedFrom : Search → List Sending → ℕ → Bool
-countedFrom s l m = ltb 0 (returnsOf m l) || leb 3 (lossesOf m l + prior s m)
+countedFrom s l m = ltb 0 (returnsOf m l) || lostInRow m (prior s m) l
 
--- it goes by the two numbers
-counted-as : (s t : Search) (l k : List Sending) (m : ℕ) → returnsOf m l ≡ returnsOf m k → lossesOf m l + prior s m ≡ lossesOf m k + prior t m
+-- it goes by the returns and the losses in a row
+counted-as : (s t : Search) (l k : List Sending) (m : ℕ) → returnsOf m l ≡ returnsOf m k → lostInRow m (prior s m) l ≡ lostInRow m (prior t m) k
     → T (countedFrom s l m) ↔ T (countedFrom t k m)
 counted-as s t l k m a b =
-    let e : countedFrom s l m ≡ countedFrom t k m = ap₂ (λ (x y : ℕ). ltb 0 x || leb 3 y) a b in
+    let e : countedFrom s l m ≡ countedFrom t k m = ap₂ (λ (x : ℕ) (y : Bool). ltb 0 x || y) a b in
     (subst T e, subst T (sym e))
 
-not-counted : (s : Search) (l : List Sending) (m : ℕ) → returnsOf m l ≡ 0 → lossesOf m l + prior s m < 3 → T (countedFrom s l m) → ⊥
-not-counted s l m a b t = go (or-cases (ltb 0 (returnsOf m l)) (leb 3 (lossesOf m l + prior s m)) t)
+-- fewer than three losses, those before the list included, are no three in a row
+row-few : (m n : ℕ) (l : List Sending) → lossesOf m l + n < tries → lostInRow m n l ≡ false
+row-few m n [] h = lt-leb tries n (omega arith)
+row-few m n (sent k Returned ∷ l) h = rw (lt-leb tries n (omega arith)) (row-few m 0 l (omega arith))
+row-few m n (sent k Lost ∷ l) h = rw (lt-leb tries n (omega arith)) (go (eqb m k) h (λ i. row-few m i l))
   where
-    go : T (ltb 0 (returnsOf m l)) ⊎ T (leb 3 (lossesOf m l + prior s m)) → ⊥
-    go (inl h) = omega (arith, ltb→lt 0 (returnsOf m l) h)
-    go (inr h) = omega (arith, leb→le 3 (lossesOf m l + prior s m) h)
+    go : (b : Bool) → bit b + lossesOf m l + n < tries → ((i : ℕ) → lossesOf m l + i < tries → lostInRow m i l ≡ false) → lostInRow m (choose b (n + 1) 0) l ≡ false
+    go true i f = f (n + 1) (omega arith)
+    go false i f = f 0 (omega arith)
 
--- a sending of k is none of another m
-other-sending : (m k : ℕ) (o : Outcome) (l : List Sending) → (m ≡ k → ⊥) → (returnsOf m (sent k o ∷ l) ≡ returnsOf m l) × (lossesOf m (sent k o ∷ l) ≡ lossesOf m l)
-other-sending m k Returned l d = (rw (ne-eqb m k d) (omega arith), refl)
-other-sending m k Lost l d = (refl, rw (ne-eqb m k d) (omega arith))
+-- three before it are
+row-reached : (m n : ℕ) (l : List Sending) → tries ≤ n → T (lostInRow m n l)
+row-reached m n [] h = le→leb tries n h
+row-reached m n (sent k Returned ∷ l) h = or-left (leb tries n) (lostInRow m 0 l) (le→leb tries n h)
+row-reached m n (sent k Lost ∷ l) h = or-left (leb tries n) (lostInRow m (choose (eqb m k) (n + 1) 0) l) (le→leb tries n h)
+
+not-counted : (s : Search) (l : List Sending) (m : ℕ) → returnsOf m l ≡ 0 → lossesOf m l + prior s m < 3 → T (countedFrom s l m) → ⊥
+not-counted s l m a b t = go (or-cases (ltb 0 (returnsOf m l)) (lostInRow m (prior s m) l) t)
+  where
+    go : T (ltb 0 (returnsOf m l)) ⊎ T (lostInRow m (prior s m) l) → ⊥
+    go (inl h) = omega (arith, ltb→lt 0 (returnsOf m l) h)
+    go (inr h) = subst T (row-few m (prior s m) l b) h
+
+-- a sending of k is none of another m, and leaves it no row
+other-sending : (m k : ℕ) (o : Outcome) (l : List Sending) → (m ≡ k → ⊥) → returnsOf m (sent k o ∷ l) ≡ returnsOf m l
+other-sending m k Returned l d = rw (ne-eqb m k d) (omega arith)
+other-sending m k Lost l d = refl
+
+other-row : (m k : ℕ) (o : Outcome) (l : List Sending) → (m ≡ k → ⊥) → lostInRow m 0 (sent k o ∷ l) ≡ lostInRow m 0 l
+other-row m k Returned l d = refl
+other-row m k Lost l d = rw (ne-eqb m k d) refl
 
 -- a sending that settles its probe counts it
 settling : (s : Search) (o : Outcome) (l : List Sending) → settles s o ≡ true → T (countedFrom s (sent (wanted s) o ∷ l) (wanted s))
 settling s Returned l z =
     let w = wanted s in
-    or-left (ltb 0 (returnsOf w (sent w Returned ∷ l))) (leb 3 (lossesOf w l + prior s w)) (lt→ltb 0 (returnsOf w (sent w Returned ∷ l)) (rw (eq-eqb w w refl) (omega arith)))
+    or-left (ltb 0 (returnsOf w (sent w Returned ∷ l))) (lostInRow w (prior s w) (sent w Returned ∷ l)) (lt→ltb 0 (returnsOf w (sent w Returned ∷ l)) (rw (eq-eqb w w refl) (omega arith)))
 settling s Lost l z =
     let w = wanted s in
-    or-right (ltb 0 (returnsOf w l)) (leb 3 (lossesOf w (sent w Lost ∷ l) + prior s w))
-    (le→leb 3 (lossesOf w (sent w Lost ∷ l) + prior s w) (rw (prior-wanted s, eq-eqb w w refl) (omega (arith, last-loss s z))))
+    or-right (ltb 0 (returnsOf w l)) (lostInRow w (prior s w) (sent w Lost ∷ l))
+    (rw (prior-wanted s, eq-eqb w w refl) (or-right (leb tries (lostSoFar s)) (lostInRow w (lostSoFar s + 1) l) (row-reached w (lostSoFar s + 1) l (last-loss s z))))
 
 module _ (e : ℕ) where
   -- an accepted outcome: its probe is counted if it settles it, and what else is counted stays
@@ -190,8 +210,8 @@ module _ (e : ℕ) where
           let below : w < e + 1 = omega (arith, wanted-in e s g q) in
           let others : (m : ℕ) → (m ≡ w → ⊥) → T (countedFrom s x m) ↔ T (countedFrom t l m) =
           λ m d.
-          let k = other-sending m w o l d in
-          counted-as s t x l m (k .0) (omega (arith, k .1, prior-other s m d, prior-most t m 0 (omega arith)))
+          let none : prior t m ≡ 0 = omega (arith, prior-most t m 0 (omega arith)) in
+          counted-as s t x l m (other-sending m w o l d) (rw (prior-other s m d, none) (other-row m w o l d))
           in
           let new : T (countedFrom t l w) → ⊥ = not-counted t l w (omega arith) (omega (arith, prior-most t w 0 (omega arith))) in
           omega (
@@ -226,10 +246,10 @@ module _ (e : ℕ) where
           go : (m ≡ wanted s) ⊎ (m ≡ wanted s → ⊥) → T (countedFrom s (sent (wanted s) Lost ∷ l) m) ↔ T (countedFrom (onceMore s) l m)
           go (inl j) =
               counted-as s (onceMore s) (sent (wanted s) Lost ∷ l) l m refl
-              (rw (eq-eqb m (wanted s) j, eq-eqb m (wanted (onceMore s)) (j ∙ sym still)) (omega (arith, once-more-lost e s q)))
+              (rw (eq-eqb m (wanted s) j, eq-eqb m (wanted (onceMore s)) (j ∙ sym still), once-more-lost e s q, lt-leb tries (lostSoFar s) (omega (arith, earlier-loss s o z .1))) refl)
           go (inr d) =
               counted-as s (onceMore s) (sent (wanted s) Lost ∷ l) l m refl
-              (rw (ne-eqb m (wanted s) d, ne-eqb m (wanted (onceMore s)) (λ j. d (j ∙ still))) (omega arith))
+              (rw (ne-eqb m (wanted s) d, ne-eqb m (wanted (onceMore s)) (λ j. d (j ∙ still))) refl)
 
   module _ (fits : e ≤ maxLinks) (most : ℕ) where
     counted-step : (p : Progress) (c : Call) (rest : List Sending) → Kept e most p → Room e (wanted (p .state)) (step p c .state) (times (wanted (p .state)) rest)
@@ -251,7 +271,7 @@ module _ (e : ℕ) where
         let k′ = kept-step e fits most p c k in
         counted-all cs (step p c) k′ ∙ counted-step p c (sendings (step p c) cs) k (room-all e fits most (wanted (p .state)) cs (step p c) k′)
 
--- the probes are those of which one sending returned or three were lost
+-- the probes are those of which one sending returned or three in a row were lost
 pub probes-counted : (e : ℕ) → e ≤ maxLinks → (cs : List Call) → perform (begun e) cs .probes ≡ count (e + 1) (countedIn (sendings (begun e) cs))
 unfolding begun
 probes-counted e fits cs =
@@ -262,6 +282,6 @@ probes-counted e fits cs =
     fresh : (m : ℕ) → T (countedFrom (begun e .state) (sendings (begun e) cs) m) ↔ T (countedIn (sendings (begun e) cs) m)
     fresh m =
         let l = sendings (begun e) cs in
-        let z : lossesOf m l + prior (begun e .state) m ≡ lossesOf m l = omega (arith, prior-most (begun e .state) m 0 (omega (arith, new-lost e))) in
-        let b : countedFrom (begun e .state) l m ≡ countedIn l m = ap (λ (y : ℕ). ltb 0 (returnsOf m l) || leb 3 y) z in
+        let z : prior (begun e .state) m ≡ 0 = omega (arith, prior-most (begun e .state) m 0 (omega (arith, new-lost e))) in
+        let b : countedFrom (begun e .state) l m ≡ countedIn l m = ap (λ (n : ℕ). ltb 0 (returnsOf m l) || lostInRow m n l) z in
         (subst T b, subst T (sym b))

@@ -15,7 +15,7 @@ use Rattle.search.specs.declared.Search.{Search}
 use Rattle.search.specs.declared.Outcome.{Outcome}
 use Rattle.search.specs.declared.Outcome.the-variants.{Returned, Lost}
 use Rattle.search.specs.declared.Progress.{Progress}
-use Rattle.search.specs.Search.{newSearch, settles, ask, give}
+use Rattle.search.specs.Search.{tries, newSearch, settles, ask, give}
 
 pub data Call : Type 0 where
   asks : Call
@@ -81,9 +81,15 @@ lossesOf m [] = 0
 lossesOf m (sent k Returned ∷ l) = lossesOf m l
 lossesOf m (sent k Lost ∷ l) = bit (eqb m k) + lossesOf m l
 
+-- were three sendings in a row of probe m lost, where n in a row were lost just before the list? A sending that returned, or of another probe, ends a row
+abbrev pub lostInRow : ℕ → ℕ → List Sending → Bool
+lostInRow m n [] = leb tries n
+lostInRow m n (sent k Returned ∷ l) = leb tries n || lostInRow m 0 l
+lostInRow m n (sent k Lost ∷ l) = leb tries n || lostInRow m (choose (eqb m k) (n + 1) 0) l
+
 -- is probe m counted? "As lost when three sendings in a row were lost, and as home at the first that returns"
 abbrev pub countedIn : List Sending → ℕ → Bool
-countedIn l m = ltb 0 (returnsOf m l) || leb 3 (lossesOf m l)
+countedIn l m = ltb 0 (returnsOf m l) || lostInRow m 0 l
 
 -- ---- what can be assumed of them, where `home m` is that the packet rule brings probe m home
 

@@ -1,0 +1,128 @@
+-- What the condition of each refusal says. Assumes nothing.
+use mathlib.Core.Path.{_≡_, refl, sym, ap, _∙_, subst}
+use mathlib.Core.Logic.{_⊎_, inl, inr, _↔_}
+use mathlib.Core.Bool.{Bool, true, false, not, _&&_}
+use mathlib.Core.List.{List, [], _∷_, _++_}
+use Prim.Native.Nat.{ℕ, _≤_, _<_}
+use native.Mathlib.Omega.{arith}
+use borrow.Author.Tests.{lt-ltb, ltb-true, le-leb, leb-true, eq-eqb}
+use lib.Dec.{leb, ltb}
+use lib.ListN.{length, take, drop, take-append-drop}
+use Rattle.lists.proofs.Tests.{bool?, not-both, true-exactly}
+use Rattle.answers.specs.Answers.{given, refused}
+use Rattle.answers.specs.Checks.{answer}
+use Rattle.answers.proofs.Checks.{given-refused}
+use Rattle.plant.specs.declared.Plant.{Plant}
+use Rattle.limits.specs.Limits.{maxSwitches, maxLinks}
+use Rattle.codec.proofs.ConditionLaws.{map-missing, map-undefined, field-missing, field-redundant}
+use Rattle.listing.specs.Listing.{valueOutOfRange, encode}
+use Rattle.listing.specs.Writing.{bufferShort}
+use Rattle.listing.proofs.SoundLaws.{InRange}
+use Rattle.listing.proofs.ConditionLaws.{value-out-of-range, end-out-of-range, self-link, bytes-remain}
+use Rattle.quantity.specs.Quantity.{maxSpare, orderQuantity}
+use Rattle.plan.specs.Plan.{trailOf}
+use Rattle.planning.specs.Planning.{switchOutOfRange}
+use Rattle.planner.specs.Calls.{placesShort}
+use Rattle.search.specs.declared.Search.{Search}
+use Rattle.search.specs.declared.Search.the-variants.{Checking, Halving, AllUp, Down}
+use Rattle.search.specs.Search.{tries, sound, soundFor, ended}
+use Rattle.search.specs.Sound.{Good}
+use Rattle.judging.specs.Conditions.{trailDiffers, hopsDiffer, statesShort, searchUnsound}
+use Rattle.judging.proofs.Lent.{trail-same, trail-own, hops-begin, hops-own}
+use Rattle.judging.proofs.Searching.{good-here}
+use Rattle.consoles.specs.Calls.{consoleOutOfRange}
+use Rattle.demands.specs.Conditions.{ConditionsAre}
+
+-- tests of numbers
+less : (a b : ℕ) → (ltb a b ≡ true) ↔ (a < b)
+less a b = (ltb-true a b, lt-ltb a b)
+
+most : (a b : ℕ) → (leb a b ≡ true) ↔ (a ≤ b)
+most a b = (leb-true a b, le-leb a b)
+
+five : (a b c : ℕ) → (valueOutOfRange a b c ≡ true) ↔ ((1 ≤ a) × (a ≤ maxSwitches) × (b ≤ maxLinks) × (c < a) → ⊥)
+five a b c = (
+  λ e q. value-out-of-range a b c .0 e (record { some-switch = q .0; few-switches = q .1; few-links = q .2; start-in = q .3 }),
+  λ n. value-out-of-range a b c .1 (λ r. n (r .some-switch, r .few-switches, r .few-links, r .start-in)),
+)
+
+ten : (w b : List ℕ) → (placesShort w b ≡ true) ↔ (length b < length w)
+unfolding placesShort
+ten w b = less (length b) (length w)
+
+eleven : (p : Plant) (x : ℕ) → (switchOutOfRange p x ≡ true) ↔ (p .switches ≤ x)
+unfolding switchOutOfRange
+eleven p x = most (p .switches) x
+
+twelve : (p : Plant) (lent : List ℕ) → (trailDiffers p lent ≡ true) ↔ (lent ≡ trailOf p → ⊥)
+twelve p lent = true-exactly (trailDiffers p lent) (trail-same p lent, λ e. subst (λ (w : List ℕ). trailDiffers p w ≡ false) (sym e) (trail-own p))
+
+twelve-hops : (w lent : List ℕ) → (hopsDiffer w lent ≡ true) ↔ ((spare : List ℕ) × (lent ≡ w ++ spare) → ⊥)
+twelve-hops w lent = true-exactly (hopsDiffer w lent) (
+  λ f. (drop (length w) lent, sym (take-append-drop (length w) lent) ∙ ap (λ (v : List ℕ). v ++ drop (length w) lent) (hops-begin w lent f)),
+  λ q. subst (λ (v : List ℕ). hopsDiffer w v ≡ false) (sym (q .1)) (hops-own w (q .0)),
+)
+
+thirteen : (e : ℕ) (states : List ℕ) → (statesShort e states ≡ true) ↔ (length states < e)
+unfolding statesShort
+thirteen e states = less (length states) e
+
+-- a good state is sound, and sound for the listing
+fine : (e : ℕ) (q : Search) → e ≤ maxLinks → Good e q → searchUnsound e q ≡ false
+unfolding searchUnsound
+fine e (Checking count lost) h g = rw (lt-ltb 0 count (omega arith), le-leb count maxLinks (omega arith), lt-ltb lost tries (g .2), eq-eqb count e (g .0))
+fine e (Halving low high lost) h g =
+    rw (lt-ltb 0 low (omega arith), lt-ltb low high (g .1), le-leb high maxLinks (omega arith), lt-ltb lost tries (g .3), le-leb high e (g .2))
+fine e AllUp h g = refl
+fine e (Down place) h g = rw (lt-ltb 0 place (omega arith), le-leb place maxLinks (omega arith), le-leb place e (g .1))
+
+fifteen : (q : Search) → (ended q ≡ true) ↔ ((q ≡ AllUp) ⊎ ((k : ℕ) × (q ≡ Down k)))
+fifteen q = (to q, from)
+  where
+    to : (r : Search) → ended r ≡ true → (r ≡ AllUp) ⊎ ((k : ℕ) × (r ≡ Down k))
+    to (Checking count lost) e = absurd (not-both false e refl)
+    to (Halving low high lost) e = absurd (not-both false e refl)
+    to AllUp e = inl refl
+    to (Down k) e = inr (k, refl)
+
+    from : (q ≡ AllUp) ⊎ ((k : ℕ) × (q ≡ Down k)) → ended q ≡ true
+    from (inl e) = ap ended e
+    from (inr r) = ap ended (r .1)
+
+sixteen : (p : Plant) (b : List ℕ) → (bufferShort p b ≡ true) ↔ (length b < length (encode p))
+unfolding bufferShort
+sixteen p b = less (length b) (length (encode p))
+
+seventeen : (rules spare : ℕ) → (answer (orderQuantity rules spare) ≡ refused 17) ↔ (maxSpare < spare)
+unfolding orderQuantity
+seventeen rules spare = (λ e. go (bool? (ltb maxSpare spare)) e, λ h. rw (lt-ltb maxSpare spare h) refl)
+  where
+    go : (ltb maxSpare spare ≡ true) ⊎ (ltb maxSpare spare ≡ false) → answer (orderQuantity rules spare) ≡ refused 17 → maxSpare < spare
+    go (inl t) e = ltb-true maxSpare spare t
+    go (inr f) e = absurd (given-refused _ 17 (rw f at e))
+
+nineteen : (k : ℕ) → (consoleOutOfRange k ≡ true) ↔ (3 < k)
+unfolding consoleOutOfRange
+nineteen k = less 3 k
+
+pub conditions-are : ConditionsAre
+conditions-are = record {
+  one = map-missing;
+  two = map-undefined;
+  three = field-missing;
+  four = field-redundant;
+  five = five;
+  six = end-out-of-range;
+  seven = self-link;
+  eight = bytes-remain;
+  ten = ten;
+  eleven = eleven;
+  twelve = twelve;
+  twelve-hops = twelve-hops;
+  thirteen = thirteen;
+  fourteen = λ e q h. true-exactly (searchUnsound e q) (good-here e q, fine e q h);
+  fifteen = fifteen;
+  sixteen = sixteen;
+  seventeen = seventeen;
+  nineteen = nineteen;
+}

@@ -1,0 +1,60 @@
+-- A search that has ended with Down, under demand 3's two premises, is at the first broken link, and the call that names a link answers it. Assumes a listing that is read as a
+-- plant, and one of its switches.
+use mathlib.Core.Path.{_≡_, refl, sym, ap, _∙_, subst}
+use mathlib.Core.Bool.{true, false}
+use mathlib.Core.List.{List}
+use Prim.Native.Nat.{ℕ, _≤_, _<_}
+use native.Mathlib.Omega.{arith}
+use borrow.Author.Tests.{lt-ltb, le-leb}
+use Rattle.plant.specs.declared.Plant.{Plant}
+use Rattle.answers.specs.Answers.{given}
+use Rattle.answers.specs.Checks.{answer}
+use Rattle.answers.proofs.Checks.{goes-on}
+use Rattle.codec.specs.Field.{Bytes}
+use Rattle.limits.specs.Limits.{maxLinks}
+use Rattle.limits.specs.Sound.{Sound}
+use Rattle.listing.specs.Listing.{reading}
+use Rattle.listing.proofs.RoundTrip.{decode-sound}
+use Rattle.walks.specs.Components.{linksWith}
+use Rattle.plan.specs.Plan.{trailOf}
+use Rattle.rings.specs.Rules.{upBy}
+use Rattle.rings.specs.Order.{nth}
+use Rattle.rings.specs.FirstDown.{FirstDown}
+use Rattle.judging.specs.Conditions.{searchUnsound}
+use Rattle.judging.proofs.Lent.{trail-own}
+use Rattle.search.specs.declared.Search.{Search}
+use Rattle.search.specs.declared.Search.the-variants.{AllUp, Down}
+use Rattle.search.specs.Search.{ended}
+use Rattle.search.specs.Calls.{Call, perform, begun}
+use Rattle.planning.specs.Planning.{planningAt}
+use Rattle.planning.proofs.Plans.{given-at}
+use Rattle.probing.specs.Calls.{link, nameIn, naming}
+use Rattle.probing.specs.Searches.{AllTrue, OneOfThree}
+use Rattle.probing.proofs.Injection.{order-length, links-few}
+use Rattle.probing.proofs.Searching.{searches}
+use Rattle.demands.specs.Names.{orderAt}
+
+down-up : (k : ℕ) → Down k ≡ AllUp → ⊥
+down-up k e = let z : _≡_ {A = ℕ} 0 1 = cc in omega arith
+
+down-down : (j k : ℕ) → Down j ≡ Down k → j ≡ k
+down-down j k e = cc
+
+module _ (s : List ℕ) (b : Bytes s) (p : Plant) (g : answer (reading s) ≡ given p) (x : ℕ) (x-in : x < p .switches) where
+  ok : Sound p
+  ok = decode-sound s p b g
+
+  -- a place in the order is named
+  named : (k : ℕ) → 1 ≤ k → k ≤ linksWith p x → answer (naming s x (trailOf p) (Down k)) ≡ given (link (nth (orderAt p x) k))
+  unfolding naming nameIn searchUnsound
+  named k h l =
+      goes-on (planningAt s x) (nameIn x (trailOf p) (Down k)) p (given-at s x p g x-in)
+      ∙ rw (trail-own p, lt-ltb 0 k h, le-leb k maxLinks (omega (arith, links-few p ok x x-in)), le-leb k (linksWith p x) l) refl
+
+  pub names : (cs : List Call) (states : List ℕ) → AllTrue p x states cs → OneOfThree p x states cs → (k : ℕ) → perform (begun (linksWith p x)) cs .state ≡ Down k
+      → (answer (naming s x (trailOf p) (Down k)) ≡ given (link (nth (orderAt p x) k))) × FirstDown (upBy states) (orderAt p x) k
+  names cs states t o k e =
+      let says = searches p ok x x-in cs .says states t o (ap ended e) in
+      let r = says .first-broken (λ n. down-up k (sym e ∙ says .all-up .1 n)) in
+      let f = subst (FirstDown (upBy states) (orderAt p x)) (down-down (r .0) k (sym (r .1) ∙ e)) (r .2) in
+      (named k (f .from-one) (omega (arith, f .to-last, order-length p ok x x-in)), f)

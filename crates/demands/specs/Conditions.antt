@@ -1,0 +1,66 @@
+-- What the condition of each refusal says, in the papers' words ("Refusals in checking order" of document 01; document 02). Which of them a
+-- call tries, and in which order, is in its field of `Demand1`.
+use mathlib.Core.Path.{_≡_}
+use mathlib.Core.Logic.{_⊎_, _↔_}
+use mathlib.Core.Bool.{Bool, true, false, not, _||_}
+use mathlib.Core.List.{List, [], _∷_, _++_}
+use Prim.Native.Nat.{ℕ, _^_, _≤_, _<_}
+use lib.ListN.{length, drop}
+use Rattle.lists.specs.Members.{Each}
+use Rattle.answers.specs.Answers.{given, refused}
+use Rattle.answers.specs.Checks.{answer}
+use Rattle.plant.specs.declared.Link.{Link}
+use Rattle.plant.specs.declared.Plant.{Plant}
+use Rattle.limits.specs.Limits.{maxSwitches, maxLinks}
+use Rattle.codec.specs.declared.Field.{Field}
+use Rattle.codec.specs.Part.{mapByte, mapMissing, mapUndefined, fieldMissing, fieldRedundant}
+use Rattle.codec.specs.Given.{bitAt, SomeGiven, EndsBefore, HoldsAbsent}
+use Rattle.listing.specs.Listing.{valueOutOfRange, endOutOfRange, selfLink, bytesRemain, encode}
+use Rattle.listing.specs.Writing.{bufferShort}
+use Rattle.quantity.specs.Quantity.{maxSpare, orderQuantity}
+use Rattle.plan.specs.Plan.{trailOf}
+use Rattle.planning.specs.Planning.{switchOutOfRange}
+use Rattle.planner.specs.Calls.{placesShort}
+use Rattle.search.specs.declared.Search.{Search}
+use Rattle.search.specs.declared.Search.the-variants.{AllUp, Down}
+use Rattle.search.specs.Search.{ended}
+use Rattle.search.specs.Sound.{Good}
+use Rattle.judging.specs.Conditions.{trailDiffers, hopsDiffer, statesShort, searchUnsound}
+use Rattle.consoles.specs.Calls.{consoleOutOfRange}
+
+pub record ConditionsAre : Type 0 where
+  -- 1: "a part's map byte is missing"
+  pub one : (s : List ℕ) → (mapMissing s ≡ true) ↔ (s ≡ [])
+  -- 2: "a map has an undefined bit": one that is none of its fields
+  pub two : (fs : List Field) (s : List ℕ) → (mapUndefined fs s ≡ true) ↔ ((i : ℕ) × (length fs ≤ i) × (bitAt (mapByte s) i ≡ 1))
+  -- 3: the bytes end before the end of a field whose bit is set; 4: such a field holds the value that its absence means
+  pub three : (fs : List Field) (m : ℕ) (s : List ℕ) → (fieldMissing fs (m ∷ s) ≡ true) ↔ SomeGiven EndsBefore m fs s
+  pub four : (fs : List Field) (m : ℕ) (s : List ℕ) → (fieldRedundant fs (m ∷ s) ≡ true) ↔ SomeGiven HoldsAbsent m fs s
+  -- 5: "a header value is outside its range", or the start is not below S
+  pub five : (switches count start : ℕ)
+      → (valueOutOfRange switches count start ≡ true)
+      ↔ ((1 ≤ switches) × (switches ≤ maxSwitches) × (count ≤ maxLinks) × (start < switches) → ⊥)
+  -- 6: an end is not below S; 7: a link joins a switch to itself; 8: bytes remain
+  pub six : (switches : ℕ) (l : Link) → (endOutOfRange switches l ≡ true) ↔ ((switches ≤ l .first) ⊎ (switches ≤ l .second))
+  pub seven : (l : Link) → (selfLink l ≡ true) ↔ (l .first ≡ l .second)
+  pub eight : (s : List ℕ) → (bytesRemain s ≡ true) ↔ (s ≡ [] → ⊥)
+  -- 10: a lent buffer b has fewer places than the trail w has hops
+  pub ten : (w b : List ℕ) → (placesShort w b ≡ true) ↔ (length b < length w)
+  -- 11: a named switch is not below S
+  pub eleven : (p : Plant) (x : ℕ) → (switchOutOfRange p x ≡ true) ↔ (p .switches ≤ x)
+  -- 12: the lent trail is not the listing's trails; in the calls of order 6, it does not begin with the hops w, whatever comes after them
+  pub twelve : (p : Plant) (lent : List ℕ) → (trailDiffers p lent ≡ true) ↔ (lent ≡ trailOf p → ⊥)
+  pub twelve-hops : (w lent : List ℕ) → (hopsDiffer w lent ≡ true) ↔ ((spare : List ℕ) × (lent ≡ w ++ spare) → ⊥)
+  -- 13: there are fewer state bytes than e, the links of the listing or in the round run its labels
+  pub thirteen : (e : ℕ) (states : List ℕ) → (statesShort e states ≡ true) ↔ (length states < e)
+  -- 14: the state is unsound, or unsound for a listing with e links
+  pub fourteen : (e : ℕ) (q : Search) → e ≤ maxLinks → (searchUnsound e q ≡ true) ↔ (Good e q → ⊥)
+  -- 15: a probe is asked of All up or Down
+  pub fifteen : (q : Search) → (ended q ≡ true) ↔ ((q ≡ AllUp) ⊎ ((k : ℕ) × (q ≡ Down k)))
+  -- 16: a lent buffer b is shorter than the listing
+  pub sixteen : (p : Plant) (b : List ℕ) → (bufferShort p b ≡ true) ↔ (length b < length (encode p))
+  -- 17: the spare is above 100
+  pub seventeen : (rules spare : ℕ) → (answer (orderQuantity rules spare) ≡ refused 17) ↔ (maxSpare < spare)
+  -- 18 is `PageForm` and `PageWritten` of order 3, 20 and 21 `Sets` of order 8
+  -- 19: "console above 3"
+  pub nineteen : (k : ℕ) → (consoleOutOfRange k ≡ true) ↔ (3 < k)

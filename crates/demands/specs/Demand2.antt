@@ -1,0 +1,168 @@
+-- Demand 2: the definitions are document 01's, the round trips and the trail.
+use mathlib.Core.Path.{_≡_}
+use mathlib.Core.Logic.{_↔_}
+use mathlib.Core.Bool.{Bool, true, false}
+use mathlib.Core.List.{List, [], _∷_, _++_, map}
+use Prim.Native.Nat.{ℕ, suc, _+_, _-_, _*_, _/_, _≤_, _<_}
+use lib.Dec.{T}
+use lib.ListN.{length, getD, take, drop}
+use Rattle.lists.specs.Members.{In, Distinct}
+use Rattle.lists.specs.Count.{count}
+use Rattle.lists.specs.Arrays.{at}
+use Rattle.lists.specs.Numbers.{range, keep}
+use Rattle.answers.specs.Answers.{given}
+use Rattle.answers.specs.Checks.{answer}
+use Rattle.plant.specs.declared.Plant.{Plant}
+use Rattle.plant.specs.Links.{live}
+use Rattle.limits.specs.Limits.{maxSwitches, maxRules, maxHops}
+use Rattle.limits.specs.Sound.{Sound}
+use Rattle.codec.specs.Field.{Bytes}
+use Rattle.listing.specs.Listing.{encode, reading}
+use Rattle.listing.specs.Writing.{bufferAfter}
+use Rattle.walks.specs.Arcs.{tail, head, Arc}
+use Rattle.walks.specs.Graph.{To, ClosedWalks, Bridge, bridge, liveLinks, bridges, visitedFrom, enteredFrom, earlierFrom}
+use Rattle.walks.specs.Components.{rootOf, roots, componentOf, linkWith, linksWith, used}
+use Rattle.walks.specs.ByLinks.{visitLinks}
+use Rattle.routes.specs.Meaning.{Fewest}
+use Rattle.routes.specs.Plants.{trailFrom}
+use Rattle.rings.specs.Packet.{run}
+use Rattle.rings.specs.Rules.{inAll, allRules}
+use Rattle.rings.specs.Ring.{FirstHop}
+use Rattle.rings.specs.Order.{nth}
+use Rattle.rings.specs.Probe.{upTo, back}
+use Rattle.plan.specs.Plan.{distanceOf, trailOf, trailWith, trailBegin, inTable}
+use Rattle.plan.specs.Trails.{AreTrails}
+use Rattle.order.specs.declared.Span.{Span}
+use Rattle.search.specs.declared.Search.the-variants.{AllUp}
+use Rattle.search.specs.Search.{newSearch, ended}
+use Rattle.planning.specs.Planning.{planningAt}
+use Rattle.planner.specs.Calls.{rewriting, rewritten, rereading, trailing, laidOut}
+use Rattle.probing.specs.Calls.{outSpan}
+use Rattle.consoles.specs.Calls.{start}
+use Rattle.demands.specs.Names.{ringAt, orderAt, placeAt, probeRunAt}
+
+-- the components of a plant: what is joined over links in service, and in which order they are planned (document 02, order 9)
+pub record ComponentsAre (p : Plant) : Type 0 where
+  -- switches are of one component exactly if a walk over links in service leads from one to the other
+  pub joined : (x y : ℕ) → x < p .switches → y < p .switches → (rootOf p x ≡ rootOf p y) ↔ To p (Arc p) x y
+  -- each has one root, which is a switch of it, and no other switch is a root
+  pub only : (r : ℕ) → In r (roots p) ↔ ((r < p .switches) × (rootOf p r ≡ r))
+  pub own : (x : ℕ) → x < p .switches → In (rootOf p x) (roots p) × To p (Arc p) (rootOf p x) x
+  pub once : Distinct (roots p)
+  pub few : length (roots p) ≤ maxSwitches
+  -- "the start's first, begun at the start, the rest by their lowest switch, begun there"
+  pub first : getD (roots p) 0 0 ≡ p .start
+  pub lowest : (i x : ℕ) → 1 ≤ i → i < length (roots p) → x < p .switches → To p (Arc p) (getD (roots p) i 0) x → getD (roots p) i 0 ≤ x
+  pub rising : (i j : ℕ) → 1 ≤ i → i < j → j < length (roots p) → getD (roots p) i 0 < getD (roots p) j 0
+
+-- which arcs are in use, of an arc a of a link in service, by the visit from r, the root of its component
+pub record InUse (p : Plant) (r a : ℕ) : Type 0 where
+  -- "both arcs of a bridge are in use"
+  pub of-bridge : Bridge p (a / 2) → T (used p a)
+  -- "of an entered link that is no bridge, the arc from earlier to later visited"
+  pub of-entered : (Bridge p (a / 2) → ⊥) → T (enteredFrom p r (a / 2)) → T (used p a) ↔ T (earlierFrom p r (tail p a) (head p a))
+  -- "of every other link, the arc from later to earlier"
+  pub of-other : (Bridge p (a / 2) → ⊥) → (T (enteredFrom p r (a / 2)) → ⊥) → T (used p a) ↔ T (earlierFrom p r (head p a) (tail p a))
+
+-- what components, bridges, the visits, distances and the trails of a plant are, in the papers' words
+pub record PlanIs (p : Plant) : Type 0 where
+  pub sound : Sound p
+  pub components : ComponentsAre p
+  -- "a bridge is a link without which its two ends are not joined"
+  pub bridges : (l : ℕ) → T (live p l) → T (bridge p l) ↔ Bridge p l
+  -- "at each switch the links are tried by rising number, and a link to an unvisited switch is entered before the next is tried": so from
+  -- each root
+  pub visit : (r : ℕ) → In r (roots p)
+      → visitLinks p (keep (live p) (range 0 (p .count))) (p .switches) r (record { ord = r ∷ []; ent = [] }) ≡ visitedFrom p r
+  -- the arcs in use: of links in service alone
+  pub in-use : (a : ℕ) → Arc p a → InUse p (rootOf p (tail p a)) a
+  pub in-service : (a : ℕ) → T (used p a) → Arc p a
+  -- "the fewest hops over arcs in use between every two switches"
+  pub distances : (u v : ℕ) → u < p .switches → v < p .switches
+      → Fewest (p .switches) (2 * p .count) (tail p) (head p) (used p) u v (distanceOf p u v)
+  -- each trail, which is defined leg by leg, is a closed walk from its root over exactly the arcs in use of its component, and all have at
+  -- most 20,479 hops
+  pub trails : AreTrails p
+  pub closed : ClosedWalks p (map (trailFrom p) (roots p))
+
+-- what the run of a packet is, under any rules and by the labels that are up, those whose link is: from switch `at`, after n hops
+pub record RunIs (rule : ℕ → ℕ → Bool) (up : ℕ → Bool) (hd : ℕ → ℕ) : Type 0 where
+  -- "at a switch with a rule for the next label, and that label's link up, it crosses"
+  pub crosses : (at n a : ℕ) (w : List ℕ) → rule at a ≡ true → up a ≡ true → run rule up hd at n (a ∷ w) ≡ run rule up hd (hd a) (suc n) w
+  -- "with the list empty it has ended there"
+  pub ends : (at n : ℕ) → run rule up hd at n [] ≡ record { ended = true; hops = n; last = at }
+  -- "otherwise it is lost"
+  pub no-rule : (at n a : ℕ) (w : List ℕ) → rule at a ≡ false → run rule up hd at n (a ∷ w) ≡ record { ended = false; hops = n; last = at }
+  pub link-down : (at n a : ℕ) (w : List ℕ) → up a ≡ false → run rule up hd at n (a ∷ w) ≡ record { ended = false; hops = n; last = at }
+
+-- the rules that packets run under
+pub record RulesAre (p : Plant) : Type 0 where
+  -- the rule page: one for each arc in use, at the switch that it leaves
+  pub table : (at a : ℕ) → (inTable p at a ≡ true) ↔ (T (used p a) × (tail p a ≡ at))
+  -- "opposite arcs have rules of their own: 2×E rules in all"
+  pub all : (at a : ℕ) → (inAll p at a ≡ true) ↔ (T (live p (a / 2)) × (tail p a ≡ at))
+  pub number : allRules p ≡ 2 * liveLinks p
+
+-- both parts that a span names stand between places i and j of a lent trail
+pub record StandsIn (i j : ℕ) (b : Span) : Type 0 where
+  pub stretch : (i ≤ b .from) × (b .from + b .len ≤ j)
+  pub front : (i ≤ b .begin) × (b .begin + b .front ≤ j)
+
+-- injection at switch x: its place, its ring, the order of links, and probes, all in the component of x
+pub record InjectionIs (p : Plant) (x : ℕ) : Type 0 where
+  -- the trail of the component stands among the trails of all, from the hops of those before it on
+  pub stretch : take (length (trailWith p x)) (drop (trailBegin p (componentOf p x)) (trailOf p)) ≡ trailWith p x
+  -- "the place is the first hop of the trail that leaves it (0 if the trail is empty)"
+  pub place : 1 ≤ linksWith p x → FirstHop (tail p) x (trailWith p x) (placeAt p x)
+  pub place-empty : trailWith p x ≡ [] → placeAt p x ≡ 0
+  -- so it is in the whole lent trail, where the place is this number after the hops of the components before; and the outward labels of a
+  -- probe, the whole ring among them, are answered as parts of it that begin there and stand within the stretch of the component
+  pub place-lent : 1 ≤ linksWith p x → FirstHop (tail p) x (trailOf p) (trailBegin p (componentOf p x) + placeAt p x)
+  pub span-from : (m : ℕ) → outSpan p x m .from ≡ trailBegin p (componentOf p x) + placeAt p x
+  pub span-within : (m : ℕ)
+      → StandsIn (trailBegin p (componentOf p x)) (trailBegin p (componentOf p x) + length (trailWith p x)) (outSpan p x m)
+  -- "the ring is read from there to the trail's end, then from its front"
+  pub ring : ringAt p x ≡ drop (placeAt p x) (trailWith p x) ++ take (placeAt p x) (trailWith p x)
+  -- "an island without links has an empty ring and is All up"
+  pub no-links : linksWith p x ≡ 0 → (ringAt p x ≡ []) × (newSearch (linksWith p x) ≡ AllUp)
+  -- "the order of links is by first crossing from that place": each link of the component once, and the earlier in the order is the earlier
+  -- crossed
+  pub order-each : (l : ℕ) → In l (orderAt p x) ↔ T (linkWith p x l)
+  pub order-once : Distinct (orderAt p x)
+  pub order-rises : (i j : ℕ) → 1 ≤ i → i < j → j ≤ linksWith p x
+      → length (upTo (nth (orderAt p x) i) (ringAt p x)) < length (upTo (nth (orderAt p x) j) (ringAt p x))
+  -- E is how many these are
+  pub links : linksWith p x ≡ count (p .count) (linkWith p x)
+  -- "probe m, for 1 ≤ m < E, goes out up to the first crossing of the m-th link and then back over the opposite arcs", under the rules of
+  -- all arcs
+  pub probe : (up : ℕ → Bool) (m : ℕ) → m < linksWith p x
+      → probeRunAt p x up m
+      ≡ run (inAll p) up (head p) x 0 (upTo (nth (orderAt p x) m) (ringAt p x) ++ back (upTo (nth (orderAt p x) m) (ringAt p x)))
+  -- "the full check, m = E, is the whole ring", under the rule page alone
+  pub full-check : (up : ℕ → Bool) → probeRunAt p x up (linksWith p x) ≡ run (inTable p) up (head p) x 0 (ringAt p x)
+
+pub record Demand2 : Type 0 where
+  -- "it has at most 20,479 hops: 319 arcs × 64 + 63"; a field of the plan has the rest
+  pub most-hops : maxHops ≡ maxRules * maxSwitches + (maxSwitches - 1)
+  -- what was read is written as the bytes that were read, and what was written is read as the plant that was written
+  pub read-write : (s : List ℕ) (p : Plant) → Bytes s → answer (reading s) ≡ given p → encode p ≡ s
+  pub write-read : (p : Plant) → Sound p → answer (reading (encode p)) ≡ given p
+  -- so it is with the calls: the buffer begins with the listing, bytes past it stay, and they read it back
+  pub rewrite : (s b : List ℕ) (p : Plant) → Bytes s → answer (reading s) ≡ given p → length s ≤ length b
+      → (answer (rewriting s b) ≡ given (length s)) × (rewritten s b ≡ s ++ drop (length s) b)
+  pub reread : (p : Plant) (b : List ℕ) → Sound p → length (encode p) ≤ length b
+      → (answer (rereading p b) ≡ given p) × (bufferAfter p b ≡ encode p ++ drop (length (encode p)) b)
+  -- "the longest sound listing has 1,285 bytes": none has more, and one has as many
+  pub longest : (s : List ℕ) (p : Plant) → answer (reading s) ≡ given p → length s ≤ 1285
+  pub as-long : (p : Plant) × (length (encode p) ≡ 1285) × (answer (reading (encode p)) ≡ given p)
+  -- what is read is sound
+  pub sound : (s : List ℕ) (p : Plant) → Bytes s → answer (reading s) ≡ given p → Sound p
+  -- the plan of a listing is document 01's, component by component
+  pub plan : (s : List ℕ) (p : Plant) → Bytes s → answer (reading s) ≡ given p → PlanIs p
+  -- "trails follow one another in the buffer": one with enough places begins with them, and places past them stay
+  pub laid : (s b : List ℕ) (p : Plant) → answer (reading s) ≡ given p → length (trailOf p) ≤ length b
+      → (answer (trailing s b) ≡ given (length (trailOf p))) × (laidOut s b ≡ trailOf p ++ drop (length (trailOf p)) b)
+  -- packets, rules and probes are document 01's
+  pub run : (rule : ℕ → ℕ → Bool) (up : ℕ → Bool) (hd : ℕ → ℕ) → RunIs rule up hd
+  pub rules : (p : Plant) → RulesAre p
+  pub injection : (s : List ℕ) (x : ℕ) (p : Plant) → Bytes s → answer (planningAt s x) ≡ given p → InjectionIs p x

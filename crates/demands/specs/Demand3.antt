@@ -1,0 +1,76 @@
+-- Demand 3: the rule page and the search.
+use mathlib.Core.Path.{_≡_}
+use mathlib.Core.Logic.{_↔_}
+use mathlib.Core.Bool.{true}
+use mathlib.Core.List.{List, map, flatten}
+use Prim.Native.Nat.{ℕ, _+_, _*_, _≤_, _<_}
+use lib.Dec.{T}
+use lib.ListN.{length, getD}
+use Rattle.lists.specs.Members.{In, memb, Distinct}
+use Rattle.lists.specs.Count.{count}
+use Rattle.answers.specs.Answers.{given}
+use Rattle.answers.specs.Checks.{answer}
+use Rattle.plant.specs.declared.Plant.{Plant}
+use Rattle.plant.specs.Links.{live}
+use Rattle.walks.specs.Graph.{Crosses, ClosedWalk, ClosedWalks, liveLinks, bridges}
+use Rattle.walks.specs.Components.{roots, linksWith}
+use Rattle.routes.specs.Plants.{trailFrom}
+use Rattle.rings.specs.Rules.{upBy}
+use Rattle.rings.specs.Order.{nth}
+use Rattle.rings.specs.FirstDown.{FirstDown}
+use Rattle.table.specs.Rules.{tableWith}
+use Rattle.plan.specs.Plan.{trailOf, ruleOf, rulesOf}
+use Rattle.search.specs.declared.Search.the-variants.{Down}
+use Rattle.search.specs.Search.{newSearch, ended}
+use Rattle.search.specs.Calls.{Call, perform, begun}
+use Rattle.planner.specs.Calls.{tabling}
+use Rattle.probing.specs.Calls.{link, naming, beginning, performing}
+use Rattle.probing.specs.Searches.{AllTrue, OneOfThree, Searches}
+use Rattle.demands.specs.Names.{orderAt}
+
+-- the labels of the rules
+abbrev pub ruleLabels : Plant → List ℕ
+ruleLabels p = map (λ r. r .label) (rulesOf p)
+
+-- how many different arcs a walk crosses
+abbrev pub arcsCrossed : Plant → List ℕ → ℕ
+arcsCrossed p w = count (2 * p .count) (λ a. memb a w)
+
+-- "its rules are those for the arcs that the trail crosses, they number its links plus its bridges", and they are "the fewest that any set
+-- of closed walks crossing every link in service can use"
+pub record RulePage (p : Plant) : Type 0 where
+  -- a rule is the sending switch, the label and the receiving switch of its arc; there is one for each arc that the trails cross, and no
+  -- other
+  pub of-arcs : rulesOf p ≡ map (ruleOf p) (ruleLabels p)
+  pub crossed : (a : ℕ) → In a (ruleLabels p) ↔ In a (trailOf p)
+  pub once : Distinct (ruleLabels p)
+  -- "by rising label"
+  pub rising : (i j : ℕ) → i < j → j < length (ruleLabels p) → getD (ruleLabels p) i 0 < getD (ruleLabels p) j 0
+  pub number : length (rulesOf p) ≡ liveLinks p + bridges p
+  -- every list of closed walks which together cross every link in service, either way, uses at least as many different directed arcs; one
+  -- closed walk is such a list
+  pub fewest : (ws : List (List ℕ)) → ClosedWalks p ws → ((l : ℕ) → T (live p l) → Crosses l (flatten ws))
+      → length (rulesOf p) ≤ arcsCrossed p (flatten ws)
+  pub fewest-one : (w : List ℕ) → ClosedWalk p w → ((l : ℕ) → T (live p l) → Crosses l w) → length (rulesOf p) ≤ arcsCrossed p w
+  -- the trails are such a list, and use just as many
+  pub attained : ClosedWalks p (map (trailFrom p) (roots p)) × ((l : ℕ) → T (live p l) → Crosses l (trailOf p))
+      × (arcsCrossed p (trailOf p) ≡ length (rulesOf p))
+
+-- for every listing that is read as a plant
+pub record Demand3 (s : List ℕ) (p : Plant) : Type 0 where
+  -- "the rule page is document 01's"
+  pub page : answer (tabling s) ≡ given (tableWith (rulesOf p))
+  pub rules : RulePage p
+  -- "for every list of calls that ask for a probe or give a fate, refused ones included, after a new search over E links from any injection
+  -- switch": the search begins, the calls lead to r, and what holds of r is one statement, `Searches` of probing/specs/Searches
+  pub begins : (x : ℕ) → x < p .switches → answer (beginning s x) ≡ given (newSearch (linksWith p x))
+  pub performs : (x : ℕ) → x < p .switches → (cs : List Call) → answer (performing s x cs) ≡ given (perform (begun (linksWith p x)) cs)
+  pub searches : (x : ℕ) → x < p .switches → (cs : List Call) → Searches p x cs (perform (begun (linksWith p x)) cs)
+  -- both premises can hold of a search that ends, whatever the states are
+  pub reached : (x : ℕ) → x < p .switches → (states : List ℕ)
+      → (cs : List Call) × AllTrue p x states cs × OneOfThree p x states cs × (ended (perform (begun (linksWith p x)) cs .state) ≡ true)
+  -- "names the first broken link in the trail's order from the injection switch": with Down k under both premises, the call that names a
+  -- link answers that one
+  pub names : (x : ℕ) → x < p .switches → (cs : List Call) (states : List ℕ) → AllTrue p x states cs → OneOfThree p x states cs
+      → (k : ℕ) → perform (begun (linksWith p x)) cs .state ≡ Down k
+      → (answer (naming s x (trailOf p) (Down k)) ≡ given (link (nth (orderAt p x) k))) × FirstDown (upBy states) (orderAt p x) k

@@ -1,0 +1,32 @@
+-- Document 02, order 2: rules for each switch.
+use mathlib.Core.Path.{_≡_}
+use mathlib.Core.List.{List}
+use Prim.Native.Nat.{ℕ, _*_, _≤_}
+use Rattle.lists.specs.Count.{count}
+use Rattle.lists.specs.Arrays.{at}
+use Rattle.lists.specs.Sum.{sum}
+use Rattle.answers.specs.Answers.{given}
+use Rattle.answers.specs.Checks.{answer}
+use Rattle.plant.specs.declared.Plant.{Plant}
+use Rattle.walks.specs.Components.{used}
+use Rattle.senders.specs.Senders.{sentBy, pastSenders, bySwitch}
+use Rattle.plan.specs.Plan.{rulesOf, tableOf}
+use Rattle.plan.specs.Totals.{Totals}
+use Rattle.quantity.specs.Quantity.{orderQuantity}
+use Rattle.planner.specs.Calls.{counting}
+
+-- for every plant value, sound or not: `tableOf p` is its forwarding table, and `bySwitch` what is answered of it
+pub record SameTotals (p : Plant) : Type 0 where
+  -- the total is over switches, each with the number of rules in the table which have it as sending switch, up to the last that sends
+  pub total : bySwitch (tableOf p) .total ≡ sum (pastSenders (rulesOf p)) (sentBy (rulesOf p))
+  -- "both totals must be the same number for every plant": that over switches, and that over labels
+  pub same : sum (pastSenders (rulesOf p)) (sentBy (rulesOf p)) ≡ count (2 * p .count) (used p)
+
+-- for every listing that is read as a plant
+pub record BySwitches (s : List ℕ) (p : Plant) : Type 0 where
+  pub answers : answer (counting s) ≡ given (bySwitch (tableOf p))
+  -- a number for each of the S switches, zeros from S on; the total over the S switches is that over labels, and links plus bridges
+  pub totals : Totals p (bySwitch (tableOf p))
+  -- "the spare is still laid on the total, since rounding per switch can give more": it never gives less
+  pub spare-on-total : (spare : ℕ)
+      → orderQuantity (bySwitch (tableOf p) .total) spare .result ≤ sum (p .switches) (λ x. orderQuantity (at (bySwitch (tableOf p) .counts) x) spare .result)

@@ -1,0 +1,56 @@
+-- Document 02, order 3: the buying page.
+use mathlib.Core.Path.{_≡_}
+use mathlib.Core.Logic.{_↔_}
+use mathlib.Core.Bool.{true, false}
+use mathlib.Core.List.{List, _++_}
+use Prim.Native.Nat.{ℕ, _+_, _*_, _≤_, _<_}
+use lib.ListN.{length, drop}
+use Rattle.lists.specs.Arrays.{at}
+use Rattle.lists.specs.Sum.{sum}
+use Rattle.answers.specs.Answers.{given, refused}
+use Rattle.answers.specs.Checks.{answer}
+use Rattle.plant.specs.declared.Plant.{Plant}
+use Rattle.walks.specs.Graph.{liveLinks, bridges, linksAt}
+use Rattle.senders.specs.Senders.{sentBy}
+use Rattle.plan.specs.Plan.{rulesOf}
+use Rattle.quantity.specs.Quantity.{orderQuantity}
+use Rattle.sheet.specs.declared.Sheet.{Sheet}
+use Rattle.sheet.specs.Columns.{lineColumns}
+use Rattle.sheet.specs.Page.{switchLine, totalLine, buyingPage}
+use Rattle.sheet.specs.Form.{formed, readingPage}
+use Rattle.sheet.specs.Shown.{ThreeDigits, Shown}
+use Rattle.planner.specs.Calls.{buying, boughtOut}
+
+-- for every listing s that is read as a plant p, and every spare that is not refused: what the page of the counts c is
+pub record PageWritten (s : List ℕ) (p : Plant) (spare : ℕ) (c : Sheet) : Type 0 where
+  -- the rules of each switch are order 2's, and the links at it the plant's own; each link is at two switches
+  pub switches : c .switches ≡ p .switches
+  pub rules : (x : ℕ) → x < p .switches → at (c .rules) x ≡ sentBy (rulesOf p) x
+  pub links : (x : ℕ) → x < p .switches → at (c .links) x ≡ linksAt p x
+  pub links-twice : sum (p .switches) (at (c .links)) ≡ 2 * liveLinks p
+  -- "then all rules and the order quantity"
+  pub total : c .total ≡ liveLinks p + bridges p
+  pub quantity : c .quantity ≡ orderQuantity (liveLinks p + bridges p) spare .result
+  -- three digits suffice for each number, so "each line is 32 bytes"
+  pub digits : ThreeDigits c
+  pub lines : (x : ℕ) → x < p .switches → length (switchLine c x) ≡ lineColumns
+  pub last-line : length (totalLine c) ≡ lineColumns
+  -- "the page is S + 1 lines, and bytes after it stay untouched"; 18 "if the lent page is too short"
+  pub size : length (buyingPage c) ≡ lineColumns * (p .switches + 1)
+  pub written : (b : List ℕ) → lineColumns * (p .switches + 1) ≤ length b
+      → (answer (buying s spare b) ≡ given (length (buyingPage c))) × (boughtOut s spare b ≡ buyingPage c ++ drop (length (buyingPage c)) b)
+  pub too-short : (b : List ℕ) → length b < lineColumns * (p .switches + 1) → answer (buying s spare b) ≡ refused 18
+  -- "a reader gets the counts back exactly"
+  pub read-back : answer (readingPage (buyingPage c)) ≡ given c
+
+-- for any bytes b: what the reader accepts
+pub record PageForm (b : List ℕ) : Type 0 where
+  -- 18 exactly outside the form, whose parts are those of `formed`
+  pub refused-outside : (answer (readingPage b) ≡ refused 18) ↔ (formed b ≡ false)
+  -- the form is that of the pages of the counts that a page can hold, and of nothing else
+  pub such-pages : (formed b ≡ true) ↔ ((c : Sheet) × Shown c × (buyingPage c ≡ b))
+  -- the counts that are read are such: of at most three digits each, with rules that add up
+  pub counts-shown : (c : Sheet) → answer (readingPage b) ≡ given c → Shown c
+  -- what is accepted is written back as the same bytes, so that it is the only page with its counts
+  pub written-back : (c : Sheet) → answer (readingPage b) ≡ given c → buyingPage c ≡ b
+  pub only-one : (b′ : List ℕ) (c : Sheet) → answer (readingPage b) ≡ given c → answer (readingPage b′) ≡ given c → b ≡ b′

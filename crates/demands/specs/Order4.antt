@@ -1,0 +1,25 @@
+-- Document 02, order 4: packets that vanish. What a search does with them is in `Searches` of probing/specs/Searches; here what counts as a
+-- probe, of any list of sendings.
+use mathlib.Core.Path.{_≡_}
+use mathlib.Core.Logic.{_⊎_, _↔_}
+use mathlib.Core.List.{List, _∷_, _++_}
+use Prim.Native.Nat.{ℕ}
+use lib.Dec.{T}
+use Rattle.search.specs.declared.Outcome.the-variants.{Returned, Lost}
+use Rattle.search.specs.Calls.{Sending, sent, countedIn}
+
+-- a sending of probe m returned
+pub record ReturnedIn (m : ℕ) (l : List Sending) : Type 0 where
+  pub before : List Sending
+  pub after : List Sending
+  pub there : l ≡ before ++ (sent m Returned ∷ after)
+
+-- three sendings in a row of probe m were lost
+pub record LostInRow (m : ℕ) (l : List Sending) : Type 0 where
+  pub before : List Sending
+  pub after : List Sending
+  pub there : l ≡ before ++ (sent m Lost ∷ sent m Lost ∷ sent m Lost ∷ after)
+
+-- "a probe counts as lost when three sendings in a row were lost, and as home at the first that returns"
+abbrev pub Counted : Type 0
+Counted = (l : List Sending) (m : ℕ) → T (countedIn l m) ↔ (ReturnedIn m l ⊎ LostInRow m l)

@@ -1,0 +1,104 @@
+-- Document 02, order 6: links that fail one way.
+use mathlib.Core.Path.{_≡_}
+use mathlib.Core.Logic.{_↔_}
+use mathlib.Core.Bool.{true}
+use mathlib.Core.List.{List, _∷_, _++_}
+use Prim.Native.Nat.{ℕ, _+_, _*_, _/_, _≤_, _<_}
+use lib.Dec.{T}
+use lib.ListN.{length, take, drop}
+use Rattle.lists.specs.Members.{In, Each}
+use Rattle.lists.specs.Count.{count}
+use Rattle.answers.specs.Answers.{given, refused}
+use Rattle.answers.specs.Checks.{answer}
+use Rattle.plant.specs.declared.Plant.{Plant}
+use Rattle.plant.specs.Links.{live}
+use Rattle.walks.specs.Arcs.{opposite, tail, head}
+use Rattle.walks.specs.Graph.{ClosedWalk, liveLinks, visitedFrom, enteredFrom, earlierFrom}
+use Rattle.walks.specs.Components.{rootOf, roots, componentOf, linkWith, linksWith}
+use Rattle.walks.specs.Round.{tourFrom, roundFrom}
+use Rattle.rings.specs.Packet.{End}
+use Rattle.rings.specs.Rules.{upBy, inAll}
+use Rattle.rings.specs.Ring.{FirstHop}
+use Rattle.rings.specs.Round.{upByLabel, EveryUp, Vouches, linkBytes}
+use Rattle.plan.specs.Plan.{trailOf, trailWith, roundOf, roundWith, roundBegin}
+use Rattle.plan.specs.Rounds.{AreRounds}
+use Rattle.choosing.specs.declared.Choice.{Choice}
+use Rattle.choosing.specs.Choice.{hopsIn}
+use Rattle.packet.specs.Outcome.{outcomeOf}
+use Rattle.search.specs.declared.Outcome.the-variants.{Returned}
+use Rattle.search.specs.Search.{ended}
+use Rattle.search.specs.Calls.{Call, perform, begun, TrueSending, OneReturns}
+use Rattle.planner.specs.Calls.{roundTrailing, roundLaidOut}
+use Rattle.probing.specs.Calls.{roundRunning, choosing, probeEnd}
+use Rattle.probing.specs.Searches.{sentOver, Says}
+use Rattle.demands.specs.Names.{probeRunAt, roundRingAt, roundPlaceAt}
+use Rattle.demands.specs.Order1.{GotTo}
+
+-- for every listing s that is read as a plant p: its round trails, of two hops to each link in service
+pub record RoundTrail (s : List ℕ) (p : Plant) : Type 0 where
+  -- "visit as in document 01": the switches and the entered arcs that each goes by are those of the plan
+  pub visit : (r : ℕ) → In r (roots p) → tourFrom p r .seen ≡ visitedFrom p r
+  -- a link that is not entered "is crossed and crossed back from the end where it is first met": its later visited end, and at once
+  pub first-met : (r : ℕ) → In r (roots p) → (x y : List ℕ) (a : ℕ) → roundFrom p r ≡ x ++ (a ∷ y) → (In (opposite a) x → ⊥)
+      → (T (enteredFrom p r (a / 2)) → ⊥)
+      → T (earlierFrom p r (head p a) (tail p a)) × ((z : List ℕ) × (y ≡ opposite a ∷ z))
+  -- "a round trail that crosses each of the 2×E arcs just once": so each of its component, and all together of the plant
+  pub are : AreRounds p
+  -- "no closed walk with that property", that its packet comes home exactly if every direction of a component is up, "has fewer hops",
+  -- wherever the packet is injected
+  pub fewest : (x y : ℕ) (w : List ℕ) → x < p .switches → ClosedWalk p w → Vouches p (linkWith p x) y w → length (roundWith p x) ≤ length w
+  -- "round trails are made and laid likewise": a buffer with enough places begins with them, and places past them stay; one with fewer is
+  -- 10
+  pub laid : (b : List ℕ) → 2 * liveLinks p ≤ length b
+      → (answer (roundTrailing s b) ≡ given (2 * liveLinks p)) × (roundLaidOut s b ≡ roundOf p ++ drop (2 * liveLinks p) b)
+  pub too-short : (b : List ℕ) → length b < 2 * liveLinks p → answer (roundTrailing s b) ≡ refused 10
+
+-- for every switch x of it: the round run, over the round trail of its component
+pub record RoundRun (s : List ℕ) (p : Plant) (x : ℕ) : Type 0 where
+  -- that stands among the round trails of all, from the hops of those before it on
+  pub stretch : take (length (roundWith p x)) (drop (roundBegin p (componentOf p x)) (roundOf p)) ≡ roundWith p x
+  -- it begins at the place of the switch on it; at the root that is the round trail itself
+  pub place : 1 ≤ linksWith p x → FirstHop (tail p) x (roundWith p x) (roundPlaceAt p x)
+  pub place-lent : 1 ≤ linksWith p x → FirstHop (tail p) x (roundOf p) (roundBegin p (componentOf p x) + roundPlaceAt p x)
+  pub at-root : x ≡ rootOf p x → roundRingAt p x ≡ roundWith p x
+  -- "its packet comes home exactly if every direction is up": it "vouches for its island alone"
+  pub vouches : Vouches p (linkWith p x) x (roundRingAt p x)
+  -- "a lent trail may have spare places here": the round trails with any places after them are taken, with a byte for each label at least
+  pub taken : (spare states : List ℕ) → 2 * p .count ≤ length states
+      → (e : End) × (answer (roundRunning s x (roundOf p ++ spare) states) ≡ given e)
+  -- and whatever was lent, the answer is of the component's own hops
+  pub home : (w states : List ℕ) (e : End) → answer (roundRunning s x w states) ≡ given e
+      → (e .ended ≡ true) ↔ EveryUp p (linkWith p x) states
+  pub back-home : (w states : List ℕ) (e : End) → answer (roundRunning s x w states) ≡ given e → e .ended ≡ true
+      → e ≡ record { ended = true; hops = 2 * linksWith p x; last = x }
+  pub got-to : (w states : List ℕ) (e : End) → answer (roundRunning s x w states) ≡ given e
+      → GotTo (inAll p) (upByLabel states) (head p) x (roundRingAt p x) e
+
+-- the choice "for the ordinary check", from a switch x, "within a named switch's island"
+pub record ShorterTrail (s : List ℕ) (p : Plant) (x : ℕ) : Type 0 where
+  -- the trails and the round trails of all components are taken with any places after them
+  pub taken : (spare spare′ : List ℕ) → (c : Choice) × (answer (choosing s x (trailOf p ++ spare) (roundOf p ++ spare′)) ≡ given c)
+  -- what is handed back of two lent trails is "the trail's own stretch of whichever of the two lent trails has fewer hops, document 01's if
+  -- equal", and no spare place
+  pub trail : (w v : List ℕ) (c : Choice) → answer (choosing s x w v) ≡ given c → length (trailWith p x) ≤ length (roundWith p x)
+      → hopsIn w v c ≡ trailWith p x
+  pub round : (w v : List ℕ) (c : Choice) → answer (choosing s x w v) ≡ given c → length (roundWith p x) < length (trailWith p x)
+      → hopsIn w v c ≡ roundWith p x
+
+-- how probe m comes out by a byte for each label
+abbrev pub endByLabel : Plant → ℕ → List ℕ → ℕ → End
+endByLabel p x states m = probeRunAt p x (upByLabel states) m
+
+-- "searches keep one byte a link, and their verdicts hold for links whose two directions are up or down together": from injection switch x,
+-- by states of labels that are so for the links of its component (`Together` of rings/specs/Round)
+pub record ByLabel (p : Plant) (x : ℕ) (states : List ℕ) : Type 0 where
+  -- a byte for each link tells of both its directions
+  pub links : (l : ℕ) → T (linkWith p x l)
+      → (upBy (linkBytes p states) l ≡ upByLabel states (2 * l)) × (upBy (linkBytes p states) l ≡ upByLabel states (2 * l + 1))
+  -- so a run by label is the run by link
+  pub runs : (m : ℕ) → endByLabel p x states m ≡ probeEnd p x (linkBytes p states) m
+  -- and after any list of calls, with demand 3's two premises on its sendings by the runs by label, the verdict is demand 3's
+  pub says : (cs : List Call)
+      → Each (TrueSending (λ m. outcomeOf (endByLabel p x states m) ≡ Returned)) (sentOver p x cs)
+      → OneReturns (λ m. outcomeOf (endByLabel p x states m) ≡ Returned) (sentOver p x cs)
+      → ended (perform (begun (linksWith p x)) cs .state) ≡ true → Says p x (linkBytes p states) (perform (begun (linksWith p x)) cs .state)

@@ -1,0 +1,90 @@
+-- Document 02, order 8: four consoles, each with its own switches.
+use mathlib.Core.Path.{_≡_}
+use mathlib.Core.Logic.{_↔_}
+use mathlib.Core.Bool.{true, false}
+use mathlib.Core.List.{List}
+use Prim.Native.Nat.{ℕ, _^_, _≤_, _<_}
+use Rattle.answers.specs.Answers.{Answer, given, refused, _>>=_}
+use Rattle.answers.specs.Checks.{answer}
+use Rattle.plant.specs.declared.Plant.{Plant}
+use Rattle.limits.specs.Limits.{maxSwitches}
+use Rattle.codec.specs.Field.{Bytes}
+use Rattle.walks.specs.Components.{linksWith}
+use Rattle.search.specs.declared.Search.{Search}
+use Rattle.search.specs.declared.Outcome.{Outcome}
+use Rattle.search.specs.Search.{newSearch, soundFor, give}
+use Rattle.search.specs.Calls.{Call, perform, begun}
+use Rattle.planning.specs.Planning.{planningAt}
+use Rattle.probing.specs.Searches.{Searches}
+use Rattle.desk.specs.declared.Held.{Held}
+use Rattle.desk.specs.declared.Held.the-variants.{Nothing, From}
+use Rattle.desk.specs.declared.Console.{Console}
+use Rattle.desk.specs.declared.Desk.{Desk}
+use Rattle.desk.specs.Console.{has, setOutOfRange, consoleWith, idle}
+use Rattle.desk.specs.Desk.{freshDesk, consoleOf}
+use Rattle.consoles.specs.Calls.{Request, newSet, start, outcome, switchOf, asking, calling}
+use Rattle.consoles.specs.Lists.{DeskCall, answerTo, after, afterAll, callsOf, answersOf, since, fedIn}
+
+-- sets of switches, and a fresh desk
+pub record Sets : Type 0 where
+  -- 20: "a bit at or above S in the calling console's set"
+  pub beyond : (s set : ℕ) → (setOutOfRange s set ≡ true) ↔ ((x : ℕ) × (s ≤ x) × (has set x ≡ true))
+  -- with as many switches as a plant can have, no set of 64 bits has one
+  pub none-beyond : (set : ℕ) → set < 2 ^ maxSwitches → setOutOfRange maxSwitches set ≡ false
+  -- "a fresh desk has empty sets and no search"
+  pub fresh : (k : ℕ) → k ≤ 3 → consoleOf freshDesk k ≡ idle
+  pub empty : (x : ℕ) → has (idle .set) x ≡ false
+
+-- for a console k of the four, and a listing s that is read as a plant p: what a call does goes by S of p, and by E of the component of the
+-- switch that it goes by, that of a start or of its search
+pub record ConsoleCalls (k : ℕ) (s : List ℕ) (p : Plant) : Type 0 where
+  pub asks : (r : Request) (c : Console) → answer (calling k s r c) ≡ answer (asking (p .switches) (linksWith p (switchOf r c)) r c)
+  -- "a console replaces its set": its search stays as it is, whatever it is
+  pub keeps-search : (set : ℕ) (c a : Console) → answer (calling k s (newSet set) c) ≡ given a → a ≡ consoleWith set (c .search)
+  -- "starts a search, which replaces its own", whatever that is; "injection must be at a switch of its set"
+  pub replaces : (x set : ℕ) (h h′ : Held)
+      → answer (calling k s (start x) (consoleWith set h)) ≡ answer (calling k s (start x) (consoleWith set h′))
+  pub in-set : (x : ℕ) (c a : Console) → answer (calling k s (start x) c) ≡ given a
+      → (x < p .switches) × (has (c .set) x ≡ true) × (a ≡ consoleWith (c .set) (From x (newSearch (linksWith p x))))
+  -- "or gives a fate to it": a search at a switch of the set that is sound for the listing is fed as by its own call, 14 and 15 included
+  pub feeds : (o : Outcome) (set x : ℕ) (q : Search) → setOutOfRange (p .switches) set ≡ false → x < p .switches → has set x ≡ true
+      → soundFor (linksWith p x) q ≡ true
+      → answer (calling k s (outcome o) (consoleWith set (From x q))) ≡ (answer (give q o) >>= λ r. given (consoleWith set (From x r)))
+  -- "refusal 15 if it has none", right after 20
+  pub no-search : (o : Outcome) (set : ℕ) → setOutOfRange (p .switches) set ≡ false
+      → answer (calling k s (outcome o) (consoleWith set Nothing)) ≡ refused 15
+
+-- "a call touches only its console's set and search, and answers with both as they then stand"
+pub record Isolated : Type 0 where
+  -- what a call answers, and its console's set and search afterwards, are a function of that console's set and search and of the call
+  pub own : (q : DeskCall) → (f : Console → Answer Console × Console)
+      × ((d : Desk) → (answerTo d q ≡ f (consoleOf d (q .console)) .0) × (consoleOf (after d q) (q .console) ≡ f (consoleOf d (q .console)) .1))
+  -- "as they then stand"
+  pub stands : (d : Desk) (q : DeskCall) (c : Console) → answerTo d q ≡ given c → consoleOf (after d q) (q .console) ≡ c
+  -- the other three are equal before and after
+  pub others : (d : Desk) (q : DeskCall) (k : ℕ) → k ≤ 3 → (q .console ≡ k → ⊥) → consoleOf (after d q) k ≡ consoleOf d k
+
+-- "two desks that agree on one console's set and search give that console equal answers for equal calls, whatever the other three hold":
+-- for all lists of calls that have the same calls of console k, with any calls of the others between, on desks d and e; and they agree on
+-- it afterwards
+pub record Agreement (k : ℕ) (d e : Desk) (cs ds : List DeskCall) : Type 0 where
+  pub answers : answersOf k d cs ≡ answersOf k e ds
+  pub afterwards : consoleOf (afterAll d cs) k ≡ consoleOf (afterAll e ds) k
+
+abbrev pub Agreeing : Type 0
+Agreeing = (k : ℕ) → k ≤ 3 → (d e : Desk) (cs ds : List DeskCall) → consoleOf d k ≡ consoleOf e k → callsOf k cs ≡ callsOf k ds
+    → Agreement k d e cs ds
+
+-- demand 3 of a console's search, for every list cs of calls on a desk d: where the calls that start and feed the search of console k are
+-- the start at switch x with the listing s, and then the outcomes os, they do what demand 3 says of them, whatever the other consoles do
+-- between
+pub record ConsoleSearch (k : ℕ) (d : Desk) (cs : List DeskCall) (s : List ℕ) (x : ℕ) (os : List Call) : Type 0 where
+  pub plant : Plant
+  pub planned : answer (planningAt s x) ≡ given plant
+  -- the console has the search from x to which the outcomes lead
+  pub stands : consoleOf (afterAll d cs) k .search ≡ From x (perform (begun (linksWith plant x)) os .state)
+  pub searches : Searches plant x os (perform (begun (linksWith plant x)) os)
+
+abbrev pub ConsoleSearches : Type 0
+ConsoleSearches = (k : ℕ) → k ≤ 3 → (d : Desk) (cs : List DeskCall) (s : List ℕ) (x : ℕ) (os : List Call) → Bytes s
+    → fedIn k d cs ≡ since s x os → ConsoleSearch k d cs s x os

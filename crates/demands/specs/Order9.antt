@@ -1,0 +1,84 @@
+-- Document 02, order 9: plants in several islands, here components.
+use mathlib.Core.Path.{_≡_}
+use mathlib.Core.Bool.{true}
+use mathlib.Core.List.{List, [], _∷_, _++_, map}
+use Prim.Native.Nat.{ℕ, suc, _+_, _*_, _≤_, _<_}
+use lib.ListN.{length, getD}
+use Rattle.lists.specs.Members.{In}
+use Rattle.lists.specs.Count.{count}
+use Rattle.lists.specs.Sum.{sumOf}
+use Rattle.answers.specs.declared.Refusal.{Refusal}
+use Rattle.answers.specs.Answers.{given, numberOf}
+use Rattle.answers.specs.Checks.{answer}
+use Rattle.plant.specs.declared.Plant.{Plant}
+use Rattle.plant.specs.Links.{live}
+use Rattle.walks.specs.Graph.{Crosses, liveLinks, bridges, usedFrom, switchesFrom, linksFrom, bridgesFrom, arcsUsedFrom}
+use Rattle.walks.specs.Components.{rootOf, roots, componentOf, linkWith, linksWith, used, arcsUsed}
+use Rattle.walks.specs.Round.{roundFrom}
+use Rattle.routes.specs.Plants.{distanceFrom, trailFrom}
+use Rattle.plan.specs.Plan.{distanceOf, trailOf, trailWith, trailBegin, roundOf, roundWith, roundBegin}
+use Rattle.search.specs.declared.Search.{Search}
+use Rattle.search.specs.declared.Search.the-variants.{AllUp}
+use Rattle.search.specs.Search.{ended}
+use Rattle.planning.specs.Components.{zeroComponent, componentsOf}
+use Rattle.planner.specs.Calls.{parting}
+use Rattle.probing.specs.Calls.{checking, roundRunning, link, naming, beginning}
+use Rattle.consoles.specs.Calls.{start}
+use Rattle.demands.specs.Names.{ringAt, orderAt, roundRingAt}
+
+-- "9 never occurs": no refusal has its number, so that no call can answer it
+abbrev pub NeverNine : Type 0
+NeverNine = (k : Refusal) → numberOf k ≡ 9 → ⊥
+
+-- for every listing s that is read as a plant p: its components as a call answers them
+pub record Parted (s : List ℕ) (p : Plant) : Type 0 where
+  pub answers : answer (parting s) ≡ given (componentsOf p)
+  -- how many, and for each its root, where its trail begins among the trails of all and its hops, and the same of its round trail; the
+  -- places past them are zero
+  pub number : componentsOf p .count ≡ length (roots p)
+  pub each : (i : ℕ) → i < length (roots p) → getD (componentsOf p .list) i zeroComponent ≡ record {
+    first = getD (roots p) i 0;
+    begin = trailBegin p i;
+    hops = length (trailFrom p (getD (roots p) i 0));
+    «round_begin» = roundBegin p i;
+    «round_hops» = length (roundFrom p (getD (roots p) i 0));
+  }
+  pub zeros : (i : ℕ) → length (roots p) ≤ i → getD (componentsOf p .list) i zeroComponent ≡ zeroComponent
+  -- each begins where those before it end, the first at 0
+  pub begin-first : (trailBegin p 0 ≡ 0) × (roundBegin p 0 ≡ 0)
+  pub begin-next : (i : ℕ) → i < length (roots p)
+      → (trailBegin p (suc i) ≡ trailBegin p i + length (trailFrom p (getD (roots p) i 0)))
+      × (roundBegin p (suc i) ≡ roundBegin p i + length (roundFrom p (getD (roots p) i 0)))
+  -- the component of a switch, by its number
+  pub component : (x : ℕ) → x < p .switches → (componentOf p x < length (roots p)) × (getD (roots p) (componentOf p x) 0 ≡ rootOf p x)
+  -- "bridges and totals are over all": the links, the bridges, the arcs in use and the switches of the components are those of the plant
+  pub sums : (sumOf (map (linksFrom p) (roots p)) ≡ liveLinks p) × (sumOf (map (bridgesFrom p) (roots p)) ≡ bridges p)
+      × (sumOf (map (arcsUsedFrom p) (roots p)) ≡ arcsUsed p) × (sumOf (map (switchesFrom p) (roots p)) ≡ p .switches)
+
+-- a link l that is not of the component of a switch x, be it of another or out of service
+pub record Elsewhere (s : List ℕ) (p : Plant) (x l : ℕ) : Type 0 where
+  -- "a link elsewhere or laid up is never its broken one"
+  pub not-named : (w : List ℕ) (q : Search) → answer (naming s x w q) ≡ given (link l) → ⊥
+  pub no-order : In l (orderAt p x) → ⊥
+  pub no-ring : Crosses l (ringAt p x) → ⊥
+  pub no-round : Crosses l (roundRingAt p x) → ⊥
+
+-- a switch x whose component has no links: "an empty ring", "All up", and a full check that ends at once
+pub record NoLinks (s : List ℕ) (p : Plant) (x : ℕ) : Type 0 where
+  pub all-up : answer (beginning s x) ≡ given AllUp
+  pub full-check : (states : List ℕ) → p .count ≤ length states
+      → answer (checking s x (trailOf p) states) ≡ given (record { ended = true; hops = 0; last = x })
+  pub round-run : (spare states : List ℕ) → 2 * p .count ≤ length states
+      → answer (roundRunning s x (roundOf p ++ spare) states) ≡ given (record { ended = true; hops = 0; last = x })
+
+-- "for a connected plant every earlier output remains": its one component is the plant, and every definition that this order changed is
+-- what it was, from the start and over all links in service
+pub record OneComponent (p : Plant) : Type 0 where
+  pub one-root : roots p ≡ p .start ∷ []
+  pub in-use : used p ≡ usedFrom p (p .start)
+  pub distances : (u v : ℕ) → distanceOf p u v ≡ distanceFrom p (p .start) u v
+  pub trail : trailOf p ≡ trailFrom p (p .start)
+  pub round : roundOf p ≡ roundFrom p (p .start)
+  pub trail-with : (x : ℕ) → x < p .switches → (trailWith p x ≡ trailOf p) × (trailBegin p (componentOf p x) ≡ 0)
+  pub round-with : (x : ℕ) → x < p .switches → (roundWith p x ≡ roundOf p) × (roundBegin p (componentOf p x) ≡ 0)
+  pub links : (x : ℕ) → x < p .switches → (linksWith p x ≡ liveLinks p) × ((l : ℕ) → linkWith p x l ≡ live p l)

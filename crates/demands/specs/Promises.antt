@@ -1,0 +1,78 @@
+-- All that is promised, each as a statement that has its premises here: the three demands, and the promises of document 02's orders.
+-- `promises` of proofs/Promises has this type and no other, which the gate holds: so nothing of it can be left out or weakened in a proof.
+-- Document 01's links are those in service (document 02, order 7): `live p l` says whether link l is, `liveLinks p` counts them, and `p
+-- .count` all links of the listing. What document 01 says of a connected plant is said of each component (order 9): `roots p` has the
+-- switch at which each begins, `trailOf p` their trails one after another; of a named switch x, `trailWith p x` is the trail of its
+-- component, `linkWith p x l` says whether link l is one of it, and `linksWith p x` is E.
+use mathlib.Core.Path.{_≡_}
+use mathlib.Core.Bool.{Bool, true, false}
+use mathlib.Core.List.{List}
+use Prim.Native.Nat.{ℕ, _≤_, _<_}
+use lib.Dec.{T}
+use Rattle.answers.specs.Answers.{given}
+use Rattle.answers.specs.Checks.{answer}
+use Rattle.plant.specs.declared.Plant.{Plant}
+use Rattle.plant.specs.Links.{outOfService}
+use Rattle.listing.specs.Listing.{reading}
+use Rattle.walks.specs.Components.{linkWith, linksWith}
+use Rattle.rings.specs.Packet.{run}
+use Rattle.rings.specs.Round.{Together}
+use Rattle.plan.specs.Plan.{Connected}
+use Rattle.sheet.specs.declared.Sheet.{Sheet}
+use Rattle.planner.specs.Calls.{quotingFor}
+use Rattle.demands.specs.Names.{ReadAs}
+use Rattle.demands.specs.Conditions.{ConditionsAre}
+use Rattle.demands.specs.Demand1.{Demand1}
+use Rattle.demands.specs.Demand2.{Demand2}
+use Rattle.demands.specs.Demand3.{Demand3}
+use Rattle.demands.specs.Order1.{GotTo, PacketsTell}
+use Rattle.demands.specs.Order2.{SameTotals, BySwitches}
+use Rattle.demands.specs.Order3.{PageWritten, PageForm}
+use Rattle.demands.specs.Order4.{Counted}
+use Rattle.demands.specs.Order6.{RoundTrail, RoundRun, ShorterTrail, ByLabel}
+use Rattle.demands.specs.Order7.{Marks, OutOfService, StatesOf, AllInService}
+use Rattle.demands.specs.Order8.{Sets, ConsoleCalls, Isolated, Agreeing, ConsoleSearches}
+use Rattle.demands.specs.Order9.{NeverNine, Parted, Elsewhere, NoLinks, OneComponent}
+
+pub record Promises : Type 0 where
+  pub demand-1 : Demand1
+  -- what the conditions that it tries say
+  pub conditions : ConditionsAre
+  pub demand-2 : Demand2
+  -- "the rule page is document 01's", and what a search does; order 4's and order 5's promises with it
+  pub demand-3 : (s : List ℕ) (p : Plant) → ReadAs s p → Demand3 s p
+  -- order 1: where a packet got to, whatever the rules are; and what the calls tell
+  pub got-to : (rule : ℕ → ℕ → Bool) (up : ℕ → Bool) (hd : ℕ → ℕ) (at : ℕ) (w : List ℕ) → GotTo rule up hd at w (run rule up hd at 0 w)
+  pub packets-tell : (s : List ℕ) (p : Plant) → ReadAs s p → (x : ℕ) → x < p .switches → PacketsTell s p x
+  -- order 2: rules for each switch; "both totals must be the same number for every plant", sound or not
+  pub same-totals : (p : Plant) → SameTotals p
+  pub by-switches : (s : List ℕ) (p : Plant) → ReadAs s p → BySwitches s p
+  -- order 3: the buying page of the counts c, for every spare that is not refused; and what a reader accepts
+  pub page-written : (s : List ℕ) (p : Plant) → ReadAs s p → (spare : ℕ) (c : Sheet) → answer (quotingFor s spare) ≡ given c
+      → PageWritten s p spare c
+  pub page-form : (b : List ℕ) → PageForm b
+  -- order 4: what counts as a probe
+  pub counted : Counted
+  -- order 6: links that fail one way
+  pub round-trail : (s : List ℕ) (p : Plant) → ReadAs s p → RoundTrail s p
+  pub round-run : (s : List ℕ) (p : Plant) → ReadAs s p → (x : ℕ) → x < p .switches → RoundRun s p x
+  pub shorter-trail : (s : List ℕ) (p : Plant) → ReadAs s p → (x : ℕ) → x < p .switches → ShorterTrail s p x
+  pub by-label : (s : List ℕ) (p : Plant) → ReadAs s p → (x : ℕ) → x < p .switches → (states : List ℕ) → Together (linkWith p x) states
+      → ByLabel p x states
+  -- order 7: links out of service
+  pub marks : Marks
+  pub out-of-service : (s : List ℕ) (p : Plant) → ReadAs s p → (l : ℕ) → outOfService p l ≡ true → OutOfService s p l
+  pub states-of : (s : List ℕ) (p : Plant) → ReadAs s p → (x : ℕ) → x < p .switches → StatesOf s p x
+  pub all-in-service : (p : Plant) → ((l : ℕ) → l < p .count → outOfService p l ≡ false) → AllInService p
+  -- order 8: four consoles
+  pub sets : Sets
+  pub console-calls : (k : ℕ) → k ≤ 3 → (s : List ℕ) (p : Plant) → answer (reading s) ≡ given p → ConsoleCalls k s p
+  pub isolated : Isolated
+  pub agreeing : Agreeing
+  pub console-searches : ConsoleSearches
+  -- order 9: plants in several components
+  pub never-nine : NeverNine
+  pub parted : (s : List ℕ) (p : Plant) → ReadAs s p → Parted s p
+  pub elsewhere : (s : List ℕ) (p : Plant) → ReadAs s p → (x : ℕ) → x < p .switches → (l : ℕ) → (T (linkWith p x l) → ⊥) → Elsewhere s p x l
+  pub no-links : (s : List ℕ) (p : Plant) → ReadAs s p → (x : ℕ) → x < p .switches → linksWith p x ≡ 0 → NoLinks s p x
+  pub one-component : (s : List ℕ) (p : Plant) → ReadAs s p → Connected p → OneComponent p
