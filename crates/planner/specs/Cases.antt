@@ -1,6 +1,8 @@
--- The starred cases of document 01 and those beside them: each row has what the definitions answer, and what documents 01 and 02 say. One computed test over all rows. Assumes nothing.
--- Bytes are in decimal; the most switches are hexadecimal 40.
+-- Cases beside the starred ones, which are in `Starred`: each row has what the definitions answer, and what documents 01 and 02 say. One
+-- computed test over all rows. Bytes are in decimal but for the most switches, which are document 01's hexadecimal 40, and the byte above it.
+-- Assumes nothing.
 use mathlib.Core.Path.{_≡_, refl}
+use mathlib.Core.Bool.{false}
 use mathlib.Core.List.{List, [], _∷_, _++_, map, flatten}
 use Prim.Native.Nat.{ℕ, _+_}
 use lib.ListN.{take, replicate}
@@ -9,8 +11,9 @@ use Rattle.plant.specs.Links.{plantWith, live}
 use Rattle.answers.specs.Answers.{Answer, given, refused, _>>=_}
 use Rattle.answers.specs.Checks.{answer}
 use Rattle.answers.specs.Tables.{byte, agreed}
-use Rattle.codec.specs.Part.{taken, valueOf, redundant, mapMissing, mapUndefined, fieldMissing, fieldRedundant, fieldValues, afterPart, part}
-use Rattle.listing.specs.Listing.{valueOutOfRange, endOutOfRange, selfLink, bytesRemain, soundLink, header, link, links, withLinks, linked, ended, reading, linksOf}
+use Rattle.codec.specs.Part.{taken, valueOf, redundant, mapMissing, mapUndefined, fieldMissing, fieldRedundant, fieldValues, afterPart, part, partBytes}
+use Rattle.listing.specs.Listing.{valueOutOfRange, endOutOfRange, selfLink, bytesRemain, soundLink, header, link, links, withLinks, linked, ended, reading, linkOf, linksOf, headerBytes, linkBytes, encode}
+use Rattle.listing.specs.Writing.{isZero, plantOutOfRange, soundPlant, bufferShort, writing}
 use Rattle.limits.specs.Limits.{maxSwitches, maxLinks}
 use Rattle.lists.specs.Arrays.{at}
 use Rattle.lists.specs.Count.{bit, count}
@@ -29,55 +32,57 @@ use Rattle.plan.specs.Plan.{trailsOf, roundsOf}
 use Rattle.table.specs.Rules.{tableWith, rulesIn}
 use Rattle.senders.specs.Senders.{sentBy, bySwitch}
 use Rattle.allowance.specs.Allowance.{allowance, clipped}
-use Rattle.search.specs.Search.{newSearch, ask, give}
-use Rattle.search.specs.Calls.{begun}
-use Rattle.search.specs.Cases.{rows as searches}
 use Rattle.quantity.specs.Quantity.{orderQuantity}
-use Rattle.quantity.specs.Cases.{rows as quantities}
 use Rattle.sheet.specs.Page.{writingPage}
 use Rattle.planning.specs.Numbers.{numbersOf}
 use Rattle.planning.specs.declared.Component.{Component}
 use Rattle.planning.specs.Components.{componentsWith, componentAt, componentsOf}
 use Rattle.quoting.specs.Quotes.{pricing, quoting}
 use Rattle.planner.specs.Calls.{tabling, summing, parting, counting, placesShort, laying, laidOut, trailing, roundLaidOut, roundTrailing, quotingFor, buying}
-
-pub record Row : Type 0 where
-  pub got : Answer (List ℕ)
-  pub said : Answer (List ℕ)
+use Rattle.planner.specs.Starred.{Row, reads, tables, trails, twoSwitches, triangle, threeParallel}
 
 -- ---- reading: switch count, link count, start, and the ends and tag of each link
 
-abbrev endsOf : List Link → List ℕ
-endsOf [] = []
-endsOf (l ∷ ls) = l .first ∷ l .second ∷ l .tag ∷ endsOf ls
-
-abbrev reads : List ℕ → Answer (List ℕ) → Row
-reads s a = record { got = answer (reading s) >>= λ p. given (p .switches ∷ p .count ∷ p .start ∷ endsOf (linksOf p)); said = a }
-
-abbrev twoSwitches : List ℕ
-twoSwitches = 3 ∷ 2 ∷ 1 ∷ 0 ∷ 2 ∷ 1 ∷ []
-
-abbrev triangle : List ℕ
-triangle = 3 ∷ 3 ∷ 3 ∷ 0 ∷ 2 ∷ 1 ∷ 3 ∷ 1 ∷ 2 ∷ 3 ∷ 2 ∷ 0 ∷ []
-
-abbrev threeParallel : List ℕ
-threeParallel = 3 ∷ 2 ∷ 3 ∷ 0 ∷ 2 ∷ 1 ∷ 0 ∷ 0 ∷ []
-
 abbrev readings : List Row
 readings =
-    reads [] (refused 1)
-    ∷ reads (0 ∷ []) (given (1 ∷ 0 ∷ 0 ∷ []))
-    ∷ reads (8 ∷ []) (refused 2)
-    ∷ reads (1 ∷ []) (refused 3)
-    ∷ reads (1 ∷ 1 ∷ []) (refused 4)
-    ∷ reads (1 ∷ 0 ∷ []) (refused 5)
+    -- "`01 00` and `01 41`: 5"; `01 40` is a plant since document 02's order 9; "a link from switch 0 to itself: 7"
+    reads (1 ∷ 0 ∷ []) (refused 5)
     ∷ reads (1 ∷ byte 4 1 ∷ []) (refused 5)
     ∷ reads (1 ∷ byte 4 0 ∷ []) (given (byte 4 0 ∷ 0 ∷ 0 ∷ []))
     ∷ reads (3 ∷ 2 ∷ 1 ∷ 0 ∷ 0 ∷ []) (refused 7)
-    ∷ reads (0 ∷ 0 ∷ []) (refused 8)
-    ∷ reads twoSwitches (given (2 ∷ 1 ∷ 0 ∷ 0 ∷ 1 ∷ 0 ∷ []))
-    ∷ reads triangle (given (3 ∷ 3 ∷ 0 ∷ 0 ∷ 1 ∷ 0 ∷ 1 ∷ 2 ∷ 0 ∷ 2 ∷ 0 ∷ 0 ∷ []))
-    ∷ reads threeParallel (given (2 ∷ 3 ∷ 0 ∷ 0 ∷ 1 ∷ 0 ∷ 0 ∷ 1 ∷ 0 ∷ 0 ∷ 1 ∷ 0 ∷ []))
+    -- "within one part the lowest number goes first": 3, though its first field is 4; and a link 5-5 with three switches is 6, though also 7
+    ∷ reads (3 ∷ 1 ∷ []) (refused 3)
+    ∷ reads (3 ∷ 3 ∷ 1 ∷ 0 ∷ 3 ∷ 5 ∷ 5 ∷ []) (refused 6)
+    -- "records in order": a link 1-1 is 7, though the record after it, 0-9, is 6
+    ∷ reads (3 ∷ 3 ∷ 2 ∷ 0 ∷ 3 ∷ 1 ∷ 1 ∷ 3 ∷ 0 ∷ 9 ∷ []) (refused 7)
+    -- the header before the records, and these before the end: 5 though the record is 1, 4 of a record though bytes remain
+    ∷ reads (3 ∷ 0 ∷ 1 ∷ 0 ∷ []) (refused 5)
+    ∷ reads (3 ∷ 2 ∷ 1 ∷ 0 ∷ 3 ∷ 0 ∷ 1 ∷ 9 ∷ []) (refused 4)
+    ∷ []
+
+-- ---- writing: the length of the listing of a plant with such links, switches and start, of which so many count, in a buffer of so many places
+
+abbrev joins : ℕ → ℕ → Link
+joins first second = linkOf first second 0 false
+
+abbrev writes : ℕ → ℕ → ℕ → List Link → ℕ → Answer (List ℕ) → Row
+writes switches count start ls places a =
+    record { got = answer (writing (record { switches = switches; count = count; start = start; links = ls }) (replicate places 0)) >>= λ n. given (n ∷ []); said = a }
+
+-- "the writer tries all of 5, then 6 and 7 record by record, then 16"
+abbrev writings : List Row
+writings =
+    -- all of 5 before 6 and 7: a start that is no switch, and a place past the links that is not zero
+    writes 3 1 3 (joins 1 9 ∷ joins 0 0 ∷ []) 0 (refused 5)
+    ∷ writes 3 1 0 (joins 1 9 ∷ joins 0 1 ∷ []) 0 (refused 5)
+    -- 6 and 7 record by record: 6 before 7 in one record, and an earlier record before a later one
+    ∷ writes 3 1 0 (joins 5 5 ∷ joins 0 0 ∷ []) 0 (refused 6)
+    ∷ writes 3 2 0 (joins 1 1 ∷ joins 0 9 ∷ []) 0 (refused 7)
+    ∷ writes 3 2 0 (joins 0 9 ∷ joins 1 1 ∷ []) 0 (refused 6)
+    -- then 16: a self link and no room for the listing is 7; a sound plant and one place too few is 16
+    ∷ writes 3 1 0 (joins 2 2 ∷ joins 0 0 ∷ []) 0 (refused 7)
+    ∷ writes 3 1 0 (joins 0 2 ∷ joins 0 0 ∷ []) 5 (refused 16)
+    ∷ writes 3 1 0 (joins 0 2 ∷ joins 0 0 ∷ []) 6 (given (6 ∷ []))
     ∷ []
 
 -- ---- reading with marks: the same, and 1 after the tag of a link out of service, 0 after any other
@@ -112,12 +117,6 @@ markedReadings =
 
 -- ---- planning: the number of rules, and the trails in a buffer of so many places
 
-abbrev tables : List ℕ → Answer (List ℕ) → Row
-tables s a = record { got = answer (tabling s) >>= λ t. given (t .count ∷ []); said = a }
-
-abbrev trails : List ℕ → ℕ → Answer (List ℕ) → Row
-trails s places a = record { got = answer (trailing s (replicate places 0)) >>= λ n. given (take n (laidOut s (replicate places 0))); said = a }
-
 -- document 02's order 9, `01 40`: as many switches as there can be, and no links
 abbrev noLinks : List ℕ
 noLinks = 1 ∷ byte 4 0 ∷ []
@@ -138,15 +137,6 @@ abbrev planned : List Row
 planned =
     tables noLinks (given (0 ∷ []))
     ∷ trails noLinks 0 (given [])
-    ∷ tables (0 ∷ []) (given (0 ∷ []))
-    ∷ trails (0 ∷ []) 0 (given [])
-    ∷ tables twoSwitches (given (2 ∷ []))
-    ∷ trails twoSwitches 2 (given (0 ∷ 1 ∷ []))
-    ∷ tables triangle (given (3 ∷ []))
-    ∷ trails triangle 3 (given (0 ∷ 2 ∷ 4 ∷ []))
-    ∷ tables threeParallel (given (3 ∷ []))
-    ∷ trails threeParallel 3 (refused 10)
-    ∷ trails threeParallel 4 (given (0 ∷ 3 ∷ 0 ∷ 5 ∷ []))
     ∷ tables openTriangle (given (4 ∷ []))
     ∷ trails openTriangle 5 (refused 10)
     ∷ trails openTriangle 6 (given (0 ∷ 1 ∷ 0 ∷ 2 ∷ 3 ∷ 1 ∷ []))
@@ -160,6 +150,19 @@ planned =
     ∷ tables triangles (given (6 ∷ []))
     ∷ trails triangles 5 (refused 10)
     ∷ trails triangles 6 (given (1 ∷ 9 ∷ 5 ∷ 2 ∷ 6 ∷ 10 ∷ []))
+    ∷ []
+
+-- plants on which other rules for the trail than document 01's give another one, all from switch 0
+abbrev otherTrails : List Row
+otherTrails =
+    -- links 1-0 0-1 0-1 0-1 1-2 2-1: of the arcs that lessen the distance, not the one with the highest label
+    trails (3 ∷ 3 ∷ 6 ∷ 0 ∷ 1 ∷ 1 ∷ 3 ∷ 0 ∷ 1 ∷ 0 ∷ 0 ∷ 3 ∷ 1 ∷ 2 ∷ 3 ∷ 2 ∷ 1 ∷ []) 10 (given (1 ∷ 3 ∷ 1 ∷ 5 ∷ 1 ∷ 7 ∷ 1 ∷ 8 ∷ 10 ∷ 3 ∷ []))
+    -- links 0-2 2-1 0-1 2-1 2-0 0-1: nearest over arcs in use, not over links
+    ∷ trails (3 ∷ 3 ∷ 6 ∷ 0 ∷ 2 ∷ 2 ∷ 3 ∷ 2 ∷ 1 ∷ 1 ∷ 0 ∷ 1 ∷ 2 ∷ 2 ∷ 0 ∷ 3 ∷ 0 ∷ 1 ∷ []) 10 (given (0 ∷ 2 ∷ 5 ∷ 0 ∷ 8 ∷ 0 ∷ 2 ∷ 7 ∷ 2 ∷ 11 ∷ []))
+    -- links 0-1 3-1 0-3 1-3 2-1: the distance to the switch, not from it back
+    ∷ trails (3 ∷ 4 ∷ 5 ∷ 0 ∷ 2 ∷ 1 ∷ 1 ∷ 3 ∷ 3 ∷ 0 ∷ 3 ∷ 1 ∷ 1 ∷ 3 ∷ 2 ∷ 1 ∷ []) 10 (given (0 ∷ 3 ∷ 5 ∷ 0 ∷ 9 ∷ 8 ∷ 3 ∷ 7 ∷ 3 ∷ 5 ∷ []))
+    -- links 0-1 2-0 4-2 3-5 1-3 1-3: ties by label, not by switch
+    ∷ trails (3 ∷ 6 ∷ 6 ∷ 0 ∷ 2 ∷ 1 ∷ 3 ∷ 2 ∷ 0 ∷ 3 ∷ 4 ∷ 2 ∷ 3 ∷ 3 ∷ 5 ∷ 3 ∷ 1 ∷ 3 ∷ 0 ∷ []) 14 (given (0 ∷ 1 ∷ 3 ∷ 2 ∷ 3 ∷ 5 ∷ 4 ∷ 2 ∷ 0 ∷ 8 ∷ 6 ∷ 7 ∷ 11 ∷ 1 ∷ []))
     ∷ []
 
 -- the numbers of the first line that the program `rules` prints: switches, links, bridges, rules, hops
@@ -284,16 +287,11 @@ abbrev allowances : List Row
 allowances =
     allows 0 0 ∷ allows 1 0 ∷ allows 2 1 ∷ allows 3 2 ∷ allows 4 2 ∷ allows 5 3 ∷ allows 128 7 ∷ allows 129 8 ∷ allows maxLinks 8 ∷ allows (maxLinks + 1) 8 ∷ allows 65535 8 ∷ []
 
--- ---- the search and the order quantity
-
-abbrev as-row : Answer (List ℕ) × Answer (List ℕ) → Row
-as-row r = record { got = r .0; said = r .1 }
-
 -- ---- the table, and the test
 
 abbrev table : List Row
-table = readings ++ markedReadings ++ planned ++ summed ++ parted ++ bySwitches ++ roundTrails ++ boughtPages ++ allowances ++ map as-row searches ++ map as-row quantities
+table = readings ++ writings ++ markedReadings ++ planned ++ otherTrails ++ summed ++ parted ++ bySwitches ++ roundTrails ++ boughtPages ++ allowances
 
 as-said : map (λ r. r .got) table ≡ map (λ r. r .said) table
-unfolding plantWith taken valueOf redundant mapMissing mapUndefined fieldMissing fieldRedundant fieldValues afterPart part valueOutOfRange endOutOfRange selfLink bytesRemain soundLink header link links withLinks linked ended reading trail legs nearest near route hops hop dist within sources leastFrom count usedFrom bridge visitFrom arcs others visit scan roundFrom tour walkAt opposite tail head live rootOf begunAt roots used arcsUsed flatten trailsOf roundsOf rulesIn tableWith tabling liveLinks bridges numbersOf summing componentsWith componentAt componentsOf parting sentBy sum bySwitch counting placesShort laying laidOut trailing roundLaidOut roundTrailing linksAt pricing quoting quotingFor writingPage buying allowance begun newSearch ask give orderQuantity
+unfolding plantWith taken valueOf redundant mapMissing mapUndefined fieldMissing fieldRedundant fieldValues afterPart part valueOutOfRange endOutOfRange selfLink bytesRemain soundLink header link links withLinks linked ended reading trail legs nearest near route hops hop dist within sources leastFrom count usedFrom bridge visitFrom arcs others visit scan roundFrom tour walkAt opposite tail head live rootOf begunAt roots used arcsUsed flatten trailsOf roundsOf rulesIn tableWith tabling liveLinks bridges numbersOf summing componentsWith componentAt componentsOf parting sentBy sum bySwitch counting placesShort laying laidOut trailing roundLaidOut roundTrailing linksAt pricing quoting quotingFor writingPage buying allowance orderQuantity isZero plantOutOfRange soundPlant bufferShort headerBytes linkBytes encode partBytes writing
 as-said = agreed (λ r. r .got) (λ r. r .said) table refl

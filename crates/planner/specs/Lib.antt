@@ -1,3 +1,4 @@
 pub mod Calls
 pub mod Answers
+pub mod Starred
 pub mod Cases

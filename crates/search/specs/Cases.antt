@@ -57,13 +57,17 @@ asking s = answer (ask s) >>= λ m. given (m ∷ [])
 abbrev giving : Search → Outcome → Answer (List ℕ)
 giving s o = answer (give s o) >>= λ t. given (numbers t)
 
-abbrev pub rows : List (Answer (List ℕ) × Answer (List ℕ))
-rows =
-    -- one link takes one probe, however many outcomes are given; three links take at most three
+-- document 01's starred ones: one link takes one probe, however many outcomes are given; three links take at most three
+abbrev pub starred : List (Answer (List ℕ) × Answer (List ℕ))
+starred =
     (given (probesAfter 2 (begun 1)), given (1 ∷ 1 ∷ 1 ∷ 1 ∷ []))
     ∷ (given (probesAfter 4 (begun 3)), given (1 ∷ 1 ∷ 1 ∷ 1 ∷ 1 ∷ 1 ∷ 1 ∷ 1 ∷ 2 ∷ 2 ∷ 2 ∷ 2 ∷ 3 ∷ 3 ∷ 3 ∷ 3 ∷ []))
+    ∷ []
+
+abbrev rows : List (Answer (List ℕ) × Answer (List ℕ))
+rows =
     -- the most packets: three losses for each of three probes, over three links
-    ∷ (after 3 (losses ++ losses ++ losses), given (3 ∷ 9 ∷ 3 ∷ 1 ∷ []))
+    (after 3 (losses ++ losses ++ losses), given (3 ∷ 9 ∷ 3 ∷ 1 ∷ []))
     -- a loss short of the third counts no probe, and calls for a probe do not break the row; the third counts it
     ∷ (after 3 (gives Lost ∷ []), given (0 ∷ 1 ∷ 0 ∷ 3 ∷ 1 ∷ []))
     ∷ (after 3 (gives Lost ∷ asks ∷ gives Lost ∷ asks ∷ []), given (0 ∷ 2 ∷ 0 ∷ 3 ∷ 2 ∷ []))
@@ -89,9 +93,20 @@ rows =
     ∷ (asking (Halving 1 3 3), refused 14)
     ∷ (giving (Checking 3 255) Returned, refused 14)
     ∷ (giving (Halving 1 3 255) Lost, refused 14)
+    -- 14 of more links than a plant can have, also of a search that has ended, before 15
+    ∷ (asking (Checking 257 0), refused 14)
+    ∷ (asking (Halving 1 257 0), refused 14)
+    ∷ (asking (Down 257), refused 14)
+    ∷ (asking (Down 0), refused 14)
+    ∷ (asking (Down 3), refused 15)
+    ∷ (giving AllUp Lost, refused 15)
     ∷ []
 
--- one test over the rows
+-- one test over each list
+starred-right : map (λ r. r .0) starred ≡ map (λ r. r .1) starred
+unfolding begun newSearch ask give
+starred-right = agreed (λ r. r .0) (λ r. r .1) starred refl
+
 right : map (λ r. r .0) rows ≡ map (λ r. r .1) rows
 unfolding begun newSearch ask give count
 right = agreed (λ r. r .0) (λ r. r .1) rows refl
