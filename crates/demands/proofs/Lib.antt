@@ -16,4 +16,5 @@ pub mod Counted
 pub mod Rounds
 pub mod Service
 pub mod Consoles
+pub mod TogetherCase
 pub mod Promises
