@@ -89,9 +89,9 @@ fifteen q = (to q, from)
     from (inl e) = ap ended e
     from (inr r) = ap ended (r .1)
 
-sixteen : (p : Plant) (b : List ℕ) → (bufferShort p b ≡ true) ↔ (length b < length (encode p))
+sixteen : (s b : List ℕ) → (bufferShort s b ≡ true) ↔ (length b < length s)
 unfolding bufferShort
-sixteen p b = less (length b) (length (encode p))
+sixteen s b = less (length b) (length s)
 
 seventeen : (rules spare : ℕ) → (answer (orderQuantity rules spare) ≡ refused 17) ↔ (maxSpare < spare)
 unfolding orderQuantity

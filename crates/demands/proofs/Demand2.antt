@@ -4,7 +4,6 @@ use mathlib.Core.List.{List, [], _∷_, _++_}
 use Prim.Native.Nat.{ℕ, _≤_}
 use native.Mathlib.Omega.{arith}
 use borrow.Author.Tests.{le-ltb}
-use lib.Dec.{ltb}
 use lib.ListN.{length, drop}
 use Rattle.plant.specs.declared.Plant.{Plant}
 use Rattle.answers.specs.Answers.{given}
@@ -12,7 +11,7 @@ use Rattle.answers.specs.Checks.{check, answer, leaves}
 use Rattle.answers.proofs.Checks.{goes-on, gives-so}
 use Rattle.limits.specs.Sound.{Sound}
 use Rattle.listing.specs.Listing.{encode, reading}
-use Rattle.listing.specs.Writing.{writing}
+use Rattle.listing.specs.Writing.{bufferShort, writing}
 use Rattle.listing.proofs.Longest.{longestPlant, longest, longest-attained}
 use Rattle.listing.proofs.RoundTrip.{read-write, write-read, decode-sound}
 use Rattle.listing.proofs.WriteRoundTrip.{sound-written, buffer-written}
@@ -32,8 +31,8 @@ use Rattle.demands.proofs.Components.{components-are}
 use Rattle.demands.proofs.InUse.{in-use}
 
 rewrites : (s b : List ℕ) (p : Plant) → answer (reading s) ≡ given p → length s ≤ length b → answer (rewriting s b) ≡ given (length s)
-unfolding rewriting
-rewrites s b p e h = goes-on (reading s) (λ _. check ((16, ltb (length b) (length s)) ∷ []) (length s)) p e ∙ rw (le-ltb (length b) (length s) h) refl
+unfolding rewriting bufferShort
+rewrites s b p e h = goes-on (reading s) (λ _. check ((16, bufferShort s b) ∷ []) (length s)) p e ∙ rw (le-ltb (length b) (length s) h) refl
 
 rereads : (p : Plant) (b : List ℕ) → Sound p → length (encode p) ≤ length b → answer (rereading p b) ≡ given p
 unfolding rereading

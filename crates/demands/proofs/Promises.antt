@@ -2,7 +2,7 @@
 use Rattle.listing.proofs.RoundTrip.{decode-sound}
 use Rattle.demands.specs.Promises.{Promises}
 use Rattle.demands.proofs.Conditions.{conditions-are}
-use Rattle.demands.proofs.Demand1.{demand-1}
+use Rattle.demands.proofs.Demand1.{demand-1, untouched}
 use Rattle.demands.proofs.Demand2.{demand-2}
 use Rattle.demands.proofs.Demand3.{demand-3}
 use Rattle.demands.proofs.GotTo.{got-to, packets-tell}
@@ -17,6 +17,7 @@ use Rattle.demands.proofs.Components.{never-nine, parted, elsewhere, no
 pub promises : Promises
 promises = record {
   demand-1 = demand-1;
+  untouched = untouched;
   conditions = conditions-are;
   demand-2 = demand-2;
   demand-3 = λ s p r. demand-3 s (r .bytes) p (r .read);

@@ -15,7 +15,7 @@ use Rattle.limits.specs.Limits.{maxSwitches, maxLinks}
 use Rattle.codec.specs.declared.Field.{Field}
 use Rattle.codec.specs.Part.{mapByte, mapMissing, mapUndefined, fieldMissing, fieldRedundant}
 use Rattle.codec.specs.Given.{bitAt, SomeGiven, EndsBefore, HoldsAbsent}
-use Rattle.listing.specs.Listing.{valueOutOfRange, endOutOfRange, selfLink, bytesRemain, encode}
+use Rattle.listing.specs.Listing.{valueOutOfRange, endOutOfRange, selfLink, bytesRemain}
 use Rattle.listing.specs.Writing.{bufferShort}
 use Rattle.quantity.specs.Quantity.{maxSpare, orderQuantity}
 use Rattle.plan.specs.Plan.{trailOf}
@@ -57,8 +57,8 @@ pub record ConditionsAre : Type 0 where
   pub fourteen : (e : ℕ) (q : Search) → e ≤ maxLinks → (searchUnsound e q ≡ true) ↔ (Good e q → ⊥)
   -- 15: a probe is asked of All up or Down
   pub fifteen : (q : Search) → (ended q ≡ true) ↔ ((q ≡ AllUp) ⊎ ((k : ℕ) × (q ≡ Down k)))
-  -- 16: a lent buffer b is shorter than the listing
-  pub sixteen : (p : Plant) (b : List ℕ) → (bufferShort p b ≡ true) ↔ (length b < length (encode p))
+  -- 16: a lent buffer b is shorter than the listing s
+  pub sixteen : (s b : List ℕ) → (bufferShort s b ≡ true) ↔ (length b < length s)
   -- 17: the spare is above 100
   pub seventeen : (rules spare : ℕ) → (answer (orderQuantity rules spare) ≡ refused 17) ↔ (maxSpare < spare)
   -- 18 is `PageForm` and `PageWritten` of order 3, 20 and 21 `Sets` of order 8

@@ -1,73 +1,125 @@
 -- Demand 1: each call answers its result, or a refusal exactly under its condition, and a refusal leaves a lent buffer or desk as it was.
-use mathlib.Core.List.{List, [], _∷_, _++_}
-use Prim.Native.Nat.{ℕ}
-use Rattle.answers.specs.Checks.{check}
+use mathlib.Core.Bool.{true, not}
+use mathlib.Core.List.{List, [], _∷_}
+use Prim.Native.Nat.{ℕ, _+_, _*_}
+use lib.Dec.{ltb}
+use lib.ListN.{length}
+use Rattle.answers.specs.Answers.{Answer, given}
+use Rattle.answers.specs.Checks.{Conditions, answer}
 use Rattle.plant.specs.declared.Plant.{Plant}
 use Rattle.listing.specs.Listing.{reading}
-use Rattle.listing.specs.Writing.{writing, bufferAfter}
+use Rattle.listing.specs.Writing.{bufferShort, writing, bufferAfter}
+use Rattle.walks.specs.Components.{linksWith}
 use Rattle.rings.specs.Packet.{End}
+use Rattle.plan.specs.Plan.{trailOf, roundOf}
+use Rattle.planning.specs.Planning.{switchOutOfRange}
+use Rattle.judging.specs.Conditions.{trailDiffers, hopsDiffer, statesShort, searchUnsound}
 use Rattle.choosing.specs.declared.Choice.{Choice}
 use Rattle.choosing.specs.Choice.{hopsIn}
 use Rattle.order.specs.declared.Span.{Span}
 use Rattle.order.specs.Span.{stretchOf, frontOf}
 use Rattle.packet.specs.Outcome.{outcomeOf}
 use Rattle.allowance.specs.Allowance.{allowance, clipped}
-use Rattle.quantity.specs.Quantity.{orderQuantity}
+use Rattle.quantity.specs.Quantity.{maxSpare, orderQuantity}
 use Rattle.search.specs.declared.Search.{Search}
 use Rattle.search.specs.declared.Outcome.{Outcome}
-use Rattle.search.specs.Search.{ask, give}
+use Rattle.search.specs.Search.{sound, ended, ask, give}
 use Rattle.search.specs.Calls.{Call}
-use Rattle.sheet.specs.Form.{readingPage}
-use Rattle.planner.specs.Calls.{rewriting, rewritten, rereading, summing, bridging, parting, tabling, counting, trailing, laidOut, roundTrailing, roundLaidOut, buying, boughtOut}
+use Rattle.sheet.specs.Columns.{lineColumns}
+use Rattle.sheet.specs.Form.{formed, readingPage}
+use Rattle.planner.specs.Calls.{rewriting, rewritten, rereading, summing, bridging, parting, tabling, counting, placesShort, trailing, laidOut, roundTrailing, roundLaidOut, buying, boughtOut}
 use Rattle.probing.specs.Calls.{running, checking, roundRunning, choosing, ordering, outgoing, probing, naming, beginning, performing}
+use Rattle.desk.specs.declared.Held.{Held}
+use Rattle.desk.specs.declared.Held.the-variants.{Nothing, From}
 use Rattle.desk.specs.declared.Desk.{Desk}
+use Rattle.desk.specs.Console.{has, setOutOfRange}
 use Rattle.desk.specs.Desk.{freshDesk, consoleOf}
 use Rattle.consoles.specs.Calls.{newSet, start, outcome, serving, served}
-use Rattle.demands.specs.Tried.{Tries, TriesInto, ofListing, ofPlant, ofHeld}
+use Rattle.demands.specs.Tried.{Tries, TriesListing, TriesConsole, TriesNumbers, Keeps, ofListing, ofPlant}
 
--- A field for each call, as in docs/CALLS.md. It has the numbers that the call tries, in their order; their conditions, and what it gives,
--- stand in its definition.
+-- what an outcome tries of the search that a console holds, with this set, in a plant: 15 if it has none
+abbrev pub ofHeld : Plant → ℕ → Held → Conditions
+ofHeld p set Nothing = (15, true) ∷ []
+ofHeld p set (From x q) =
+    (11, switchOutOfRange p x) ∷ (21, not (has set x)) ∷ (14, searchUnsound (linksWith p x) q) ∷ (15, ended q) ∷ []
+
+-- A field for each call, as in docs/CALLS.md: the conditions that it tries, each with its number, in their order; and for a call that is
+-- lent something to write to, a field more.
 pub record Demand1 : Type 0 where
   -- calls that are given a listing s or a plant p, and lent a buffer b
-  pub read : (s : List ℕ) → Tries (ofListing s) (reading s)
-  pub write : (p : Plant) (b : List ℕ) → TriesInto (ofPlant p) (writing p b) b (bufferAfter p b)
-  pub rewrite : (s b : List ℕ) → TriesInto (ofListing s ++ 16 ∷ []) (rewriting s b) b (rewritten s b)
-  pub reread : (p : Plant) (b : List ℕ) → TriesInto (ofPlant p) (rereading p b) b (bufferAfter p b)
-  pub summarize : (s : List ℕ) → Tries (ofListing s) (summing s)
-  pub find-bridges : (s : List ℕ) → Tries (ofListing s) (bridging s)
-  pub find-components : (s : List ℕ) → Tries (ofListing s) (parting s)
-  pub forwarding-table : (s : List ℕ) → Tries (ofListing s) (tabling s)
-  pub rules-by-switch : (s : List ℕ) → Tries (ofListing s) (counting s)
-  pub lay-trail : (s b : List ℕ) → TriesInto (ofListing s ++ 10 ∷ []) (trailing s b) b (laidOut s b)
-  pub lay-round-trail : (s b : List ℕ) → TriesInto (ofListing s ++ 10 ∷ []) (roundTrailing s b) b (roundLaidOut s b)
+  pub read : (s : List ℕ) → TriesNumbers (ofListing s) (reading s)
+  pub write : (p : Plant) (b : List ℕ) → TriesNumbers (ofPlant p) (writing p b)
+  pub rewrite : (s b : List ℕ) → TriesListing s (λ p. (16, bufferShort s b) ∷ []) (answer (rewriting s b))
+  pub reread : (p : Plant) (b : List ℕ) → TriesNumbers (ofPlant p) (rereading p b)
+  pub summarize : (s : List ℕ) → TriesListing s (λ p. []) (answer (summing s))
+  pub find-bridges : (s : List ℕ) → TriesListing s (λ p. []) (answer (bridging s))
+  pub find-components : (s : List ℕ) → TriesListing s (λ p. []) (answer (parting s))
+  pub forwarding-table : (s : List ℕ) → TriesListing s (λ p. []) (answer (tabling s))
+  pub rules-by-switch : (s : List ℕ) → TriesListing s (λ p. []) (answer (counting s))
+  pub lay-trail : (s b : List ℕ) → TriesListing s (λ p. (10, placesShort (trailOf p) b) ∷ []) (answer (trailing s b))
+  pub lay-round-trail : (s b : List ℕ) → TriesListing s (λ p. (10, placesShort (roundOf p) b) ∷ []) (answer (roundTrailing s b))
   pub write-buying-page : (s : List ℕ) (spare : ℕ) (b : List ℕ)
-      → TriesInto (ofListing s ++ 17 ∷ 18 ∷ []) (buying s spare b) b (boughtOut s spare b)
-  pub read-buying-page : (page : List ℕ) → Tries (18 ∷ []) (readingPage page)
-  pub order-quantity : (rules spare : ℕ) → Tries (17 ∷ []) (orderQuantity rules spare)
-  pub allowance : (n : ℕ) → Tries [] (check [] (allowance (clipped n)))
+      → TriesListing s (λ p. (17, ltb maxSpare spare) ∷ (18, ltb (length b) (lineColumns * (p .switches + 1))) ∷ []) (answer (buying s spare b))
+  pub read-buying-page : (page : List ℕ) → Tries ((18, not (formed page)) ∷ []) (answer (readingPage page))
+  pub order-quantity : (rules spare : ℕ) → Tries ((17, ltb maxSpare spare) ∷ []) (answer (orderQuantity rules spare))
+  pub allowance : (n : ℕ) → Tries [] (given (allowance (clipped n)))
   -- calls that are given a listing s and a switch x, with labels, states, a lent trail w, a lent round trail or a search q
-  pub run : (s : List ℕ) (x : ℕ) (labels states : List ℕ) → Tries (ofListing s ++ 11 ∷ 13 ∷ []) (running s x labels states)
-  pub outcome-of : (e : End) → Tries [] (check [] (outcomeOf e))
-  pub full-check : (s : List ℕ) (x : ℕ) (w states : List ℕ) → Tries (ofListing s ++ 11 ∷ 12 ∷ 13 ∷ []) (checking s x w states)
-  pub round-run : (s : List ℕ) (x : ℕ) (w states : List ℕ) → Tries (ofListing s ++ 11 ∷ 12 ∷ 13 ∷ []) (roundRunning s x w states)
-  pub shorter-trail : (s : List ℕ) (x : ℕ) (w v : List ℕ) → Tries (ofListing s ++ 11 ∷ 12 ∷ 12 ∷ []) (choosing s x w v)
-  pub chosen : (w v : List ℕ) (c : Choice) → Tries [] (check [] (hopsIn w v c))
-  pub order-of-links : (s : List ℕ) (x : ℕ) (w : List ℕ) → Tries (ofListing s ++ 11 ∷ 12 ∷ []) (ordering s x w)
-  pub outward-labels : (s : List ℕ) (x : ℕ) (w : List ℕ) (q : Search) → Tries (ofListing s ++ 11 ∷ 12 ∷ 14 ∷ 15 ∷ []) (outgoing s x w q)
-  pub stretch : (w : List ℕ) (b : Span) → Tries [] (check [] (stretchOf w b))
-  pub front : (w : List ℕ) (b : Span) → Tries [] (check [] (frontOf w b))
+  pub run : (s : List ℕ) (x : ℕ) (labels states : List ℕ)
+      → TriesListing s (λ p. (11, switchOutOfRange p x) ∷ (13, statesShort (p .count) states) ∷ []) (answer (running s x labels states))
+  pub outcome-of : (e : End) → Tries [] (given (outcomeOf e))
+  pub full-check : (s : List ℕ) (x : ℕ) (w states : List ℕ)
+      → TriesListing s (λ p. (11, switchOutOfRange p x) ∷ (12, trailDiffers p w) ∷ (13, statesShort (p .count) states) ∷ [])
+      (answer (checking s x w states))
+  pub round-run : (s : List ℕ) (x : ℕ) (w states : List ℕ)
+      → TriesListing s (λ p. (11, switchOutOfRange p x) ∷ (12, hopsDiffer (roundOf p) w) ∷ (13, statesShort (2 * p .count) states) ∷ [])
+      (answer (roundRunning s x w states))
+  pub shorter-trail : (s : List ℕ) (x : ℕ) (w v : List ℕ)
+      → TriesListing s (λ p. (11, switchOutOfRange p x) ∷ (12, hopsDiffer (trailOf p) w) ∷ (12, hopsDiffer (roundOf p) v) ∷ [])
+      (answer (choosing s x w v))
+  pub chosen : (w v : List ℕ) (c : Choice) → Tries [] (given (hopsIn w v c))
+  pub order-of-links : (s : List ℕ) (x : ℕ) (w : List ℕ)
+      → TriesListing s (λ p. (11, switchOutOfRange p x) ∷ (12, trailDiffers p w) ∷ []) (answer (ordering s x w))
+  pub outward-labels : (s : List ℕ) (x : ℕ) (w : List ℕ) (q : Search)
+      → TriesListing s
+      (λ p. (11, switchOutOfRange p x) ∷ (12, trailDiffers p w) ∷ (14, searchUnsound (linksWith p x) q) ∷ (15, ended q) ∷ [])
+      (answer (outgoing s x w q))
+  pub stretch : (w : List ℕ) (b : Span) → Tries [] (given (stretchOf w b))
+  pub front : (w : List ℕ) (b : Span) → Tries [] (given (frontOf w b))
   pub run-probe : (s : List ℕ) (x : ℕ) (w states : List ℕ) (q : Search)
-      → Tries (ofListing s ++ 11 ∷ 12 ∷ 13 ∷ 14 ∷ 15 ∷ []) (probing s x w states q)
-  pub link-named : (s : List ℕ) (x : ℕ) (w : List ℕ) (q : Search) → Tries (ofListing s ++ 11 ∷ 12 ∷ 14 ∷ []) (naming s x w q)
-  pub new-search : (s : List ℕ) (x : ℕ) → Tries (ofListing s ++ 11 ∷ []) (beginning s x)
-  pub ask : (q : Search) → Tries (14 ∷ 15 ∷ []) (ask q)
-  pub give : (q : Search) (o : Outcome) → Tries (14 ∷ 15 ∷ []) (give q o)
-  pub perform : (s : List ℕ) (x : ℕ) (cs : List Call) → Tries (ofListing s ++ 11 ∷ []) (performing s x cs)
+      → TriesListing s
+      (λ p. (11, switchOutOfRange p x) ∷ (12, trailDiffers p w) ∷ (13, statesShort (p .count) states)
+      ∷ (14, searchUnsound (linksWith p x) q) ∷ (15, ended q) ∷ [])
+      (answer (probing s x w states q))
+  pub link-named : (s : List ℕ) (x : ℕ) (w : List ℕ) (q : Search)
+      → TriesListing s (λ p. (11, switchOutOfRange p x) ∷ (12, trailDiffers p w) ∷ (14, searchUnsound (linksWith p x) q) ∷ [])
+      (answer (naming s x w q))
+  pub new-search : (s : List ℕ) (x : ℕ) → TriesListing s (λ p. (11, switchOutOfRange p x) ∷ []) (answer (beginning s x))
+  pub ask : (q : Search) → Tries ((14, not (sound q)) ∷ (15, ended q) ∷ []) (answer (ask q))
+  pub give : (q : Search) (o : Outcome) → Tries ((14, not (sound q)) ∷ (15, ended q) ∷ []) (answer (give q o))
+  pub perform : (s : List ℕ) (x : ℕ) (cs : List Call)
+      → TriesListing s (λ p. (11, switchOutOfRange p x) ∷ []) (answer (performing s x cs))
   -- calls that are lent a desk d, and given a listing s and the number k of a console, with a set, a switch x or an outcome o
-  pub fresh-desk : Tries [] (check [] freshDesk)
+  pub fresh-desk : Tries [] (given freshDesk)
   pub replace-set : (d : Desk) (s : List ℕ) (k set : ℕ)
-      → TriesInto (19 ∷ ofListing s ++ 20 ∷ []) (serving d k s (newSet set)) d (served d k s (newSet set))
+      → TriesConsole k s (λ p. (20, setOutOfRange (p .switches) set) ∷ []) (answer (serving d k s (newSet set)))
   pub start-search : (d : Desk) (s : List ℕ) (k x : ℕ)
-      → TriesInto (19 ∷ ofListing s ++ 20 ∷ 11 ∷ 21 ∷ []) (serving d k s (start x)) d (served d k s (start x))
+      → TriesConsole k s
+      (λ p. (20, setOutOfRange (p .switches) (consoleOf d k .set)) ∷ (11, switchOutOfRange p x) ∷ (21, not (has (consoleOf d k .set) x)) ∷ [])
+      (answer (serving d k s (start x)))
   pub give-outcome : (d : Desk) (s : List ℕ) (k : ℕ) (o : Outcome)
-      → TriesInto (19 ∷ ofListing s ++ 20 ∷ ofHeld (consoleOf d k .search)) (serving d k s (outcome o)) d (served d k s (outcome o))
+      → TriesConsole k s
+      (λ p. (20, setOutOfRange (p .switches) (consoleOf d k .set)) ∷ ofHeld p (consoleOf d k .set) (consoleOf d k .search))
+      (answer (serving d k s (outcome o)))
+
+-- "a refusal … leaves all lent memory untouched": the buffers of six calls, and the desk of three
+pub record Untouched : Type 0 where
+  pub write : (p : Plant) (b : List ℕ) → Keeps (answer (writing p b)) b (bufferAfter p b)
+  pub rewrite : (s b : List ℕ) → Keeps (answer (rewriting s b)) b (rewritten s b)
+  pub reread : (p : Plant) (b : List ℕ) → Keeps (answer (rereading p b)) b (bufferAfter p b)
+  pub lay-trail : (s b : List ℕ) → Keeps (answer (trailing s b)) b (laidOut s b)
+  pub lay-round-trail : (s b : List ℕ) → Keeps (answer (roundTrailing s b)) b (roundLaidOut s b)
+  pub write-buying-page : (s : List ℕ) (spare : ℕ) (b : List ℕ) → Keeps (answer (buying s spare b)) b (boughtOut s spare b)
+  pub replace-set : (d : Desk) (s : List ℕ) (k set : ℕ) → Keeps (answer (serving d k s (newSet set))) d (served d k s (newSet set))
+  pub start-search : (d : Desk) (s : List ℕ) (k x : ℕ) → Keeps (answer (serving d k s (start x))) d (served d k s (start x))
+  pub give-outcome : (d : Desk) (s : List ℕ) (k : ℕ) (o : Outcome)
+      → Keeps (answer (serving d k s (outcome o))) d (served d k s (outcome o))

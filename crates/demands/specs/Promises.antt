@@ -22,7 +22,7 @@ use Rattle.sheet.specs.declared.Sheet.{Sheet}
 use Rattle.planner.specs.Calls.{quotingFor}
 use Rattle.demands.specs.Names.{ReadAs}
 use Rattle.demands.specs.Conditions.{ConditionsAre}
-use Rattle.demands.specs.Demand1.{Demand1}
+use Rattle.demands.specs.Demand1.{Demand1, Untouched}
 use Rattle.demands.specs.Demand2.{Demand2}
 use Rattle.demands.specs.Demand3.{Demand3}
 use Rattle.demands.specs.Order1.{GotTo, PacketsTell}
@@ -36,6 +36,7 @@ use Rattle.demands.specs.Order9.{NeverNine, Parted, Elsewhere, NoLinks, 
 
 pub record Promises : Type 0 where
   pub demand-1 : Demand1
+  pub untouched : Untouched
   -- what the conditions that it tries say
   pub conditions : ConditionsAre
   pub demand-2 : Demand2

@@ -1,34 +1,49 @@
--- Which refusals a call tries, by their numbers and in order, and what demand 1 says of a call. Assumes nothing.
+-- What demand 1 says of a call: which conditions it tries, each with its number and in which order, and that it is refused by the first that
+-- holds and by nothing else. What each condition says is in `Conditions`. Assumes nothing.
 use mathlib.Core.Path.{_≡_}
-use mathlib.Core.Bool.{Bool, _&&_, _||_}
+use mathlib.Core.Logic.{_↔_}
+use mathlib.Core.Bool.{Bool, true, false, _&&_, _||_}
 use mathlib.Core.List.{List, [], _∷_, _++_, map}
 use Prim.Native.Nat.{ℕ, zero, suc}
 use lib.Dec.{T, leb}
-use Rattle.answers.specs.Answers.{refused}
-use Rattle.answers.specs.Checks.{Checked, answer, Answers}
+use Rattle.answers.specs.Answers.{Answer, given, refused}
+use Rattle.answers.specs.Checks.{Conditions, NoneHolds, FirstHolds, Checked, answer}
 use Rattle.plant.specs.declared.Link.{Link}
 use Rattle.plant.specs.declared.Plant.{Plant}
-use Rattle.listing.specs.Listing.{header, linksOf}
-use Rattle.desk.specs.declared.Held.{Held}
-use Rattle.desk.specs.declared.Held.the-variants.{Nothing, From}
+use Rattle.listing.specs.Listing.{header, linksOf, reading}
+use Rattle.consoles.specs.Calls.{consoleOutOfRange}
 
 -- the numbers of refusals: 1 to 8 and, since order 9, 10 to 21
 abbrev pub isNumber : ℕ → Bool
 isNumber n = (leb 1 n && leb n 8) || (leb 10 n && leb n 21)
 
--- call c tries the conditions of these numbers in this order: it is refused by the first that holds, else it answers its result, and no
--- refusal has another number
-pub record Tries {A : Type 0} (ns : List ℕ) (c : Checked A) : Type 0 where
-  pub tried : map (λ q. q .0) (c .checks) ≡ ns
-  pub answers : Answers c
-  pub no-other : (n : ℕ) → answer c ≡ refused n → T (isNumber n)
+-- the answer a is that of a call which tries these conditions in this order: it is refusal n exactly if condition n holds and none before it
+-- does, and a result where none holds
+pub record Tries {A : Type 0} (cs : Conditions) (a : Answer A) : Type 0 where
+  pub refusals : (n : ℕ) → (a ≡ refused n) ↔ FirstHolds n cs
+  pub otherwise : NoneHolds cs → (r : A) × (a ≡ given r)
+  -- no refusal has another number
+  pub no-other : (n : ℕ) → a ≡ refused n → T (isNumber n)
 
--- and a refusal leaves what is lent, b before and `after` afterwards, as it was
-pub record TriesInto {A B : Type 0} (ns : List ℕ) (c : Checked A) (b after : B) : Type 0 where
-  pub tries : Tries ns c
-  pub kept : (n : ℕ) → answer c ≡ refused n → after ≡ b
+-- of a call that is given a listing s: "every call given a listing first tries 1 to 8", and then, of one that is read as a plant, these
+pub record TriesListing {A : Type 0} (s : List ℕ) (cs : Plant → Conditions) (a : Answer A) : Type 0 where
+  pub listing-first : (n : ℕ) → answer (reading s) ≡ refused n → a ≡ refused n
+  pub then-tries : (p : Plant) → answer (reading s) ≡ given p → Tries (cs p) a
 
--- ---- the numbers that several calls try
+-- of a call of console k that is given a listing: 19, "tried before every listing refusal", then these
+pub record TriesConsole {A : Type 0} (k : ℕ) (s : List ℕ) (cs : Plant → Conditions) (a : Answer A) : Type 0 where
+  pub console-first : consoleOutOfRange k ≡ true → a ≡ refused 19
+  pub then-tries : consoleOutOfRange k ≡ false → TriesListing s cs a
+
+-- a refusal leaves what is lent, b before and `after` afterwards, as it was
+abbrev pub Keeps : {A B : Type 0} → Answer A → B → B → Type 0
+Keeps a b after = (n : ℕ) → a ≡ refused n → after ≡ b
+
+-- ---- a reading and a writing themselves, by the numbers of their conditions; how these follow each other part by part is in `CheckingOrder`
+
+pub record TriesNumbers {A : Type 0} (ns : List ℕ) (c : Checked A) : Type 0 where
+  pub numbers : map (λ q. q .0) (c .checks) ≡ ns
+  pub tries : Tries (c .checks) (answer c)
 
 -- so many links of a listing: of each its map and fields, then its ends
 abbrev pub ofLinks : ℕ → List ℕ
@@ -46,8 +61,3 @@ ofEnds (l ∷ ls) = 6 ∷ 7 ∷ ofEnds ls
 
 abbrev pub ofPlant : Plant → List ℕ
 ofPlant p = 5 ∷ ofEnds (linksOf p) ++ 16 ∷ []
-
--- an outcome that is given to the search of a console, if it has one
-abbrev pub ofHeld : Held → List ℕ
-ofHeld Nothing = 15 ∷ []
-ofHeld (From x q) = 11 ∷ 21 ∷ 14 ∷ 15 ∷ []

@@ -117,18 +117,18 @@ module _ (p : Plant) where
 
 -- its refusals in checking order
 abbrev pub writeChecks : Plant → List ℕ → Conditions
-writeChecks p b = soundPlant p .checks ++ (16, bufferShort p b) ∷ []
+writeChecks p b = soundPlant p .checks ++ (16, bufferShort (encode p) b) ∷ []
 
 -- the plant is judged, then the room for its listing of n bytes
 pub judged-both : (p : Plant) (b : List ℕ) (n : ℕ) (v w r : Verdict) → verdictAnswer v ≡ answer (soundPlant p) → n ≡ length (encode p) → Judges ((16, ltb (length b) n) ∷ []) w
     → r ≡ firstOf v w → Judges (writeChecks p b) r
 unfolding bufferShort
-judged-both p b n v w r e f j g = rw g (first-judges (soundPlant p .checks) ((16, bufferShort p b) ∷ []) v w (record { first = e }) (rw f at j))
+judged-both p b n v w r e f j g = rw g (first-judges (soundPlant p .checks) ((16, bufferShort (encode p) b) ∷ []) v w (record { first = e }) (rw f at j))
 
 module _ (p : Plant) (b : List ℕ) where
-  pub writing-on : answer (soundPlant p) ≡ given tt → answer (writing p b) ≡ answer (check ((16, bufferShort p b) ∷ []) (length (encode p)))
+  pub writing-on : answer (soundPlant p) ≡ given tt → answer (writing p b) ≡ answer (check ((16, bufferShort (encode p) b) ∷ []) (length (encode p)))
   unfolding writing
-  writing-on e = goes-on (soundPlant p) (λ _. check ((16, bufferShort p b) ∷ []) (length (encode p))) tt e
+  writing-on e = goes-on (soundPlant p) (λ _. check ((16, bufferShort (encode p) b) ∷ []) (length (encode p))) tt e
 
   pub kept : (n : ℕ) → answer (writing p b) ≡ refused n → bufferAfter p b ≡ b
   unfolding bufferAfter
@@ -146,7 +146,7 @@ module _ (p : Plant) (b : List ℕ) where
 
       pub write-room : length (encode p) ≤ length b
       unfolding bufferShort
-      write-room = ltb-false (length b) (length (encode p)) (none-append (soundPlant p .checks) ((16, bufferShort p b) ∷ []) (none-judged (writeChecks p b) v j e) .1 .0)
+      write-room = ltb-false (length b) (length (encode p)) (none-append (soundPlant p .checks) ((16, bufferShort (encode p) b) ∷ []) (none-judged (writeChecks p b) v j e) .1 .0)
 
       pub left-written : sets b 0 (encode p) ≡ bufferAfter p b
       unfolding bufferAfter

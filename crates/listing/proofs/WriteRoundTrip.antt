@@ -43,7 +43,7 @@ unfolding writing soundPlant
 writer-numbers p b n e = first-number OfWriter (writing p b .checks) n numbers (refused-exactly (writing p b .checks) (length (encode p)) n .0 e)
   where
     numbers : EachNumber OfWriter (writing p b .checks)
-    numbers = (inl refl, each-append OfWriter (soundLinks (p .switches) (linksOf p) .checks) ((16, bufferShort p b) ∷ []) (ends-numbers (p .switches) (linksOf p)) (inr (inr (inr (inl refl))), tt))
+    numbers = (inl refl, each-append OfWriter (soundLinks (p .switches) (linksOf p) .checks) ((16, bufferShort (encode p) b) ∷ []) (ends-numbers (p .switches) (linksOf p)) (inr (inr (inr (inl refl))), tt))
 
 -- ---- 5, 6 and 7 are refused exactly where the plant is not sound
 
@@ -120,8 +120,8 @@ sound-exactly p t = (given-sound p t, sound-given p)
 pub written-given : (p : Plant) (b : List ℕ) (n : ℕ) → answer (writing p b) ≡ given n → (answer (soundPlant p) ≡ given tt) × (length (encode p) ≤ length b) × (length (encode p) ≡ n)
 unfolding writing bufferShort
 written-given p b n e =
-    let q = came-from (soundPlant p) (λ _. check ((16, bufferShort p b) ∷ []) (length (encode p))) n e in
-    let r = refuse-given 16 (bufferShort p b) (given (length (encode p))) n (q .2) in
+    let q = came-from (soundPlant p) (λ _. check ((16, bufferShort (encode p) b) ∷ []) (length (encode p))) n e in
+    let r = refuse-given 16 (bufferShort (encode p) b) (given (length (encode p))) n (q .2) in
     (q .1, ltb-false (length b) (length (encode p)) (r .0), given-given (length (encode p)) n (r .1))
 
 module _ (p : Plant) (b : List ℕ) (n : ℕ) where

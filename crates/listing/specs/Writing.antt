@@ -26,13 +26,13 @@ soundLinks switches (l ∷ ls) = soundLink switches l then λ _. soundLinks swit
 unfoldable pub soundPlant : Plant → Checked Unit
 soundPlant p = check {A = Unit} ((5, plantOutOfRange p) ∷ []) tt then λ _. soundLinks (p .switches) (linksOf p)
 
--- 16: the lent buffer is shorter than the listing
-unfoldable pub bufferShort : Plant → List ℕ → Bool
-bufferShort p b = ltb (length b) (length (encode p))
+-- 16: the lent buffer b is shorter than the listing s
+unfoldable pub bufferShort : List ℕ → List ℕ → Bool
+bufferShort s b = ltb (length b) (length s)
 
 -- the length of the listing
 unfoldable pub writing : Plant → List ℕ → Checked ℕ
-writing p b = soundPlant p then λ _. check ((16, bufferShort p b) ∷ []) (length (encode p))
+writing p b = soundPlant p then λ _. check ((16, bufferShort (encode p) b) ∷ []) (length (encode p))
 
 -- the buffer afterwards: the listing, then its old bytes; at a refusal as it was
 unfoldable pub bufferAfter : Plant → List ℕ → List ℕ

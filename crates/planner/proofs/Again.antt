@@ -28,9 +28,9 @@ module _ (s b : List ℕ) where
     same = read-write s p bytes e
 
     pub again-answer : answer (writing p b) ≡ answer (rewriting s b)
-    unfolding rewriting writing bufferShort
+    unfolding rewriting writing
     again-answer =
-        goes-on (soundPlant p) (λ _. check ((16, ltb (length b) (length (encode p))) ∷ []) (length (encode p))) tt (sound-given p (decode-sound s p bytes e)) ∙ rw same (sym (goes-on (reading s) (λ _. check ((16, ltb (length b) (length s)) ∷ []) (length s)) p e))
+        goes-on (soundPlant p) (λ _. check ((16, bufferShort (encode p) b) ∷ []) (length (encode p))) tt (sound-given p (decode-sound s p bytes e)) ∙ rw same (sym (goes-on (reading s) (λ _. check ((16, bufferShort s b) ∷ []) (length s)) p e))
 
     pub again-buffer : bufferAfter p b ≡ rewritten s b
     unfolding rewritten bufferAfter
@@ -39,7 +39,7 @@ module _ (s b : List ℕ) where
   module _ (n : ℕ) (e : answer (reading s) ≡ refused n) where
     pub again-refused : refused n ≡ answer (rewriting s b)
     unfolding rewriting
-    again-refused = sym (stops (reading s) (λ _. check ((16, ltb (length b) (length s)) ∷ []) (length s)) n e)
+    again-refused = sym (stops (reading s) (λ _. check ((16, bufferShort s b) ∷ []) (length s)) n e)
 
     pub again-kept : b ≡ rewritten s b
     unfolding rewritten

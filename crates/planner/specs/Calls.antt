@@ -10,7 +10,7 @@ use Rattle.answers.specs.Answers.{Answer}
 use Rattle.answers.specs.Checks.{Checked, check, answer, _then_, _giving_, leaves}
 use Rattle.limits.specs.Limits.{maxLinks}
 use Rattle.listing.specs.Listing.{reading}
-use Rattle.listing.specs.Writing.{writing}
+use Rattle.listing.specs.Writing.{bufferShort, writing}
 use Rattle.walks.specs.Graph.{bridge}
 use Rattle.plan.specs.Plan.{trailOf, roundOf, tableOf}
 use Rattle.trail.specs.Filled.{filledWith}
@@ -28,7 +28,7 @@ use Rattle.planning.specs.Numbers.{numbersOf}
 -- ---- reading and writing again: 1 to 8, then 16, the lent buffer is shorter than the listing
 
 unfoldable pub rewriting : List ℕ → List ℕ → Checked ℕ
-rewriting s b = reading s then λ p. check ((16, ltb (length b) (length s)) ∷ []) (length s)
+rewriting s b = reading s then λ p. check ((16, bufferShort s b) ∷ []) (length s)
 
 -- the same bytes, then those that stood past them; at a refusal the buffer as it was
 unfoldable pub rewritten : List ℕ → List ℕ → List ℕ
