@@ -123,6 +123,11 @@ module _ (S n : ℕ) (tl hd : ℕ → ℕ) (ok : ℕ → Bool) where
       let lt : least n p < n = omega (arith, d .1 .0) in
       lessens-hop u v (least n p) lt (least-passes n p lt)
 
+  -- no lower label lessens the distance
+  pub hop-lowest : (u v b : ℕ) → T (ok b) → tl b ≡ u → D (hd b) v < D u v → hop S n tl hd ok u v ≤ b
+  unfolding hop
+  hop-lowest u v b t e h = least-le n (lessens S n tl hd ok u v) b (hop-lessens u v b t e h)
+
   -- the lowest label that lessens the distance, and where none does
   pub hop-is : (u v a : ℕ) → a < n → T (ok a) → tl a ≡ u → D (hd a) v < D u v → ((b : ℕ) → b < a → Hop u v b → ⊥) → a ≡ hop S n tl hd ok u v
   unfolding hop

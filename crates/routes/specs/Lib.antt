@@ -1,4 +1,5 @@
 pub mod Distance
 pub mod Trail
 pub mod Meaning
+pub mod Rule
 pub mod Plants
