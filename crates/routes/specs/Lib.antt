@@ -3,3 +3,4 @@ pub mod Trail
 pub mod Meaning
 pub mod Rule
 pub mod Plants
+pub mod Cases
