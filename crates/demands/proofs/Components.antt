@@ -137,7 +137,6 @@ module _ (p : Plant) (ok : Sound p) (con : Connected p) where
   one-component = record {
     one-root = components.roots-one p (sound-valid p ok) (ok .start-in) con;
     in-use = connected.used-one p ok con;
-    distances = connected.distance-one p ok con;
     trail = connected.trail-one p ok con;
     round = connected.round-one p ok con;
     trail-with = λ x h. (connected.trail-with p ok con x h, connected.trail-begin p ok con x h);

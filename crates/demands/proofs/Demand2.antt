@@ -5,6 +5,7 @@ use Prim.Native.Nat.{ℕ, _≤_}
 use native.Mathlib.Omega.{arith}
 use borrow.Author.Tests.{le-ltb}
 use lib.ListN.{length, drop}
+use Rattle.lists.specs.Members.{In}
 use Rattle.plant.specs.declared.Plant.{Plant}
 use Rattle.answers.specs.Answers.{given}
 use Rattle.answers.specs.Checks.{check, answer, leaves}
@@ -15,17 +16,18 @@ use Rattle.listing.specs.Writing.{bufferShort, writing}
 use Rattle.listing.proofs.Longest.{longestPlant, longest, longest-attained}
 use Rattle.listing.proofs.RoundTrip.{read-write, write-read, decode-sound}
 use Rattle.listing.proofs.WriteRoundTrip.{sound-written, buffer-written}
+use Rattle.walks.specs.Components.{roots}
 use Rattle.walks.proofs.Valid.{sound-valid}
 use Rattle.walks.proofs.Tests.{bridge-is}
 use Rattle.walks.proofs.ByLinks.{visited-by-links}
-use Rattle.walks.proofs.Components.{used-arc, listed-in}
+use Rattle.walks.proofs.Components.{used-arc, used-of, listed-in}
+use Rattle.routes.proofs.Plants.{distance-fewest, by-rule, only-by-rule}
 use Rattle.plan.specs.Plan.{trailOf}
-use Rattle.plan.proofs.Plan.{distance-fewest}
 use Rattle.plan.proofs.Trails.{trails-are, trails-closed}
 use Rattle.planning.proofs.Plans.{at-given}
 use Rattle.planner.specs.Calls.{rewriting, rewritten, rereading, trailLeft, trailing, laidOut}
 use Rattle.planner.proofs.Trailing.{lay-enough, trail-given, left-given}
-use Rattle.demands.specs.Demand2.{PlanIs, Demand2}
+use Rattle.demands.specs.Demand2.{TrailIs, PlanIs, Demand2}
 use Rattle.demands.proofs.Packets.{run-is, rules-are, injection-is}
 use Rattle.demands.proofs.Components.{components-are}
 use Rattle.demands.proofs.InUse.{in-use}
@@ -38,6 +40,17 @@ rereads : (p : Plant) (b : List ℕ) → Sound p → length (encode p) ≤ lengt
 unfolding rereading
 rereads p b ok h = gives-so (writing p b) (λ _. p) (length (encode p)) (sound-written p b ok h)
 
+trail-is : (p : Plant) → Sound p → (r : ℕ) → In r (roots p) → TrailIs p r
+trail-is p ok r i =
+    let valid = sound-valid p ok in
+    let r-in = listed-in p valid (ok .start-in) r i in
+    record {
+      over = λ a. used-of p valid (ok .start-in) r a i;
+      distances = distance-fewest p valid r;
+      by-rule = by-rule p valid r r-in;
+      only = only-by-rule p valid r r-in;
+    }
+
 plan-is : (p : Plant) → Sound p → PlanIs p
 plan-is p ok =
     let valid = sound-valid p ok in
@@ -45,10 +58,10 @@ plan-is p ok =
       sound = ok;
       components = components-are p ok;
       bridges = λ l h. bridge-is p valid l h;
-      visit = λ r i. visited-by-links p valid r (p .switches) (listed-in p valid (ok .start-in) r i) (omega arith);
+      visit = λ r deep i h. visited-by-links p valid r deep (listed-in p valid (ok .start-in) r i) h;
       in-use = in-use p ok;
       in-service = used-arc p;
-      distances = distance-fewest p ok;
+      each-trail = trail-is p ok;
       trails = trails-are p ok;
       closed = trails-closed p ok;
     }

@@ -20,17 +20,17 @@ use Rattle.codec.specs.Field.{Bytes}
 use Rattle.listing.specs.Listing.{encode, reading}
 use Rattle.listing.specs.Writing.{bufferAfter}
 use Rattle.walks.specs.Arcs.{tail, head, Arc}
-use Rattle.walks.specs.Graph.{To, ClosedWalks, Bridge, bridge, liveLinks, bridges, visitedFrom, enteredFrom, earlierFrom}
+use Rattle.walks.specs.Graph.{To, ClosedWalks, Bridge, bridge, liveLinks, bridges, visitedFrom, enteredFrom, earlierFrom, usedFrom}
 use Rattle.walks.specs.Components.{rootOf, roots, componentOf, linkWith, linksWith, used}
 use Rattle.walks.specs.ByLinks.{visitLinks}
 use Rattle.routes.specs.Meaning.{Fewest}
-use Rattle.routes.specs.Plants.{trailFrom}
+use Rattle.routes.specs.Plants.{distanceFrom, trailFrom, TrailByRule}
 use Rattle.rings.specs.Packet.{run}
 use Rattle.rings.specs.Rules.{inAll, allRules}
 use Rattle.rings.specs.Ring.{FirstHop}
 use Rattle.rings.specs.Order.{nth}
 use Rattle.rings.specs.Probe.{upTo, back}
-use Rattle.plan.specs.Plan.{distanceOf, trailOf, trailWith, trailBegin, inTable}
+use Rattle.plan.specs.Plan.{trailOf, trailWith, trailBegin, inTable}
 use Rattle.plan.specs.Trails.{AreTrails}
 use Rattle.order.specs.declared.Span.{Span}
 use Rattle.search.specs.declared.Search.the-variants.{AllUp}
@@ -64,24 +64,35 @@ pub record InUse (p : Plant) (r a : ℕ) : Type 0 where
   -- "of every other link, the arc from later to earlier"
   pub of-other : (Bridge p (a / 2) → ⊥) → (T (enteredFrom p r (a / 2)) → ⊥) → T (used p a) ↔ T (earlierFrom p r (head p a) (tail p a))
 
--- what components, bridges, the visits, distances and the trails of a plant are, in the papers' words
+-- the trail of the component with root r
+pub record TrailIs (p : Plant) (r : ℕ) : Type 0 where
+  -- it goes over the arcs in use that leave a switch of the component
+  pub over : (a : ℕ) → T (usedFrom p r a) ↔ (T (used p a) × (rootOf p (tail p a) ≡ r))
+  -- "the fewest hops over arcs in use between every two switches"
+  pub distances : (u v : ℕ) → u < p .switches → v < p .switches
+      → Fewest (p .switches) (2 * p .count) (tail p) (head p) (usedFrom p r) u v (distanceFrom p r u v)
+  -- "it goes to the nearest switch with an uncrossed outgoing arc in use and crosses that arc; ties go to the lowest label of such an arc.
+  -- On the way, each hop takes the lowest label of an arc in use that lessens the distance left": so it goes by these distances, and no
+  -- other list of labels does
+  pub by-rule : TrailByRule p r (trailFrom p r)
+  pub only : (w : List ℕ) → TrailByRule p r w → w ≡ trailFrom p r
+
+-- what components, bridges, the visits and the trails of a plant are, in the papers' words
 pub record PlanIs (p : Plant) : Type 0 where
   pub sound : Sound p
   pub components : ComponentsAre p
   -- "a bridge is a link without which its two ends are not joined"
   pub bridges : (l : ℕ) → T (live p l) → T (bridge p l) ↔ Bridge p l
   -- "at each switch the links are tried by rising number, and a link to an unvisited switch is entered before the next is tried": so from
-  -- each root
-  pub visit : (r : ℕ) → In r (roots p)
-      → visitLinks p (keep (live p) (range 0 (p .count))) (p .switches) r (record { ord = r ∷ []; ent = [] }) ≡ visitedFrom p r
+  -- each root. "The visit calls itself at most 64 deep": as deep as there are switches is enough, and leave to go deeper changes nothing
+  pub visit : (r deep : ℕ) → In r (roots p) → p .switches ≤ deep
+      → visitLinks p (keep (live p) (range 0 (p .count))) deep r (record { ord = r ∷ []; ent = [] }) ≡ visitedFrom p r
   -- the arcs in use: of links in service alone
   pub in-use : (a : ℕ) → Arc p a → InUse p (rootOf p (tail p a)) a
   pub in-service : (a : ℕ) → T (used p a) → Arc p a
-  -- "the fewest hops over arcs in use between every two switches"
-  pub distances : (u v : ℕ) → u < p .switches → v < p .switches
-      → Fewest (p .switches) (2 * p .count) (tail p) (head p) (used p) u v (distanceOf p u v)
-  -- each trail, which is defined leg by leg, is a closed walk from its root over exactly the arcs in use of its component, and all have at
-  -- most 20,479 hops
+  -- each trail goes by the rule, and is a closed walk from its root over exactly the arcs in use of its component; all have at most 20,479
+  -- hops
+  pub each-trail : (r : ℕ) → In r (roots p) → TrailIs p r
   pub trails : AreTrails p
   pub closed : ClosedWalks p (map (trailFrom p) (roots p))
 

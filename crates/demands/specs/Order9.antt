@@ -15,8 +15,8 @@ use Rattle.plant.specs.Links.{live}
 use Rattle.walks.specs.Graph.{Crosses, liveLinks, bridges, usedFrom, switchesFrom, linksFrom, bridgesFrom, arcsUsedFrom}
 use Rattle.walks.specs.Components.{rootOf, roots, componentOf, linkWith, linksWith, used, arcsUsed}
 use Rattle.walks.specs.Round.{roundFrom}
-use Rattle.routes.specs.Plants.{distanceFrom, trailFrom}
-use Rattle.plan.specs.Plan.{distanceOf, trailOf, trailWith, trailBegin, roundOf, roundWith, roundBegin}
+use Rattle.routes.specs.Plants.{trailFrom}
+use Rattle.plan.specs.Plan.{trailOf, trailWith, trailBegin, roundOf, roundWith, roundBegin}
 use Rattle.search.specs.declared.Search.{Search}
 use Rattle.search.specs.declared.Search.the-variants.{AllUp}
 use Rattle.search.specs.Search.{ended}
@@ -76,7 +76,6 @@ pub record NoLinks (s : List ℕ) (p : Plant) (x : ℕ) : Type 0 where
 pub record OneComponent (p : Plant) : Type 0 where
   pub one-root : roots p ≡ p .start ∷ []
   pub in-use : used p ≡ usedFrom p (p .start)
-  pub distances : (u v : ℕ) → distanceOf p u v ≡ distanceFrom p (p .start) u v
   pub trail : trailOf p ≡ trailFrom p (p .start)
   pub round : roundOf p ≡ roundFrom p (p .start)
   pub trail-with : (x : ℕ) → x < p .switches → (trailWith p x ≡ trailOf p) × (trailBegin p (componentOf p x) ≡ 0)

@@ -1,20 +1,18 @@
 -- Where every switch is reached from the start there is one component, and the plan is that from the start: the arcs in use, the trail and the round trail, of the plant and
 -- with each switch, where they begin, and the number of links. Assumes a sound connected plant.
 use mathlib.Core.Path.{_≡_, sym, ap, _∙_}
-use mathlib.Core.Bool.{Bool}
 use mathlib.Core.List.{List, append-nil, flatten}
-use Prim.Native.Nat.{ℕ, _*_, _<_}
+use Prim.Native.Nat.{ℕ, _<_}
 use Rattle.limits.specs.Sound.{Sound}
 use Rattle.plant.specs.declared.Plant.{Plant}
-use Rattle.walks.specs.Arcs.{tail, head, Valid}
+use Rattle.walks.specs.Arcs.{Valid}
 use Rattle.walks.specs.Graph.{liveLinks, usedFrom}
 use Rattle.walks.specs.Components.{componentOf, linksWith, used}
 use Rattle.walks.specs.Round.{roundFrom}
 use Rattle.walks.proofs.Components as components
 use Rattle.walks.proofs.Valid.{sound-valid}
-use Rattle.routes.specs.Distance.{dist}
-use Rattle.routes.specs.Plants.{distanceFrom, trailFrom}
-use Rattle.plan.specs.Plan.{Connected, distanceOf, trailsOf, trailOf, trailWith, trailBegin, roundsOf, roundOf, roundWith, roundBegin}
+use Rattle.routes.specs.Plants.{trailFrom}
+use Rattle.plan.specs.Plan.{Connected, trailsOf, trailOf, trailWith, trailBegin, roundsOf, roundOf, roundWith, roundBegin}
 
 module _ (p : Plant) (ok : Sound p) (con : Connected p) where
   abbrev valid : Valid p
@@ -24,9 +22,6 @@ module _ (p : Plant) (ok : Sound p) (con : Connected p) where
 
   pub used-one : used p ≡ usedFrom p (p .start)
   used-one = λ i a. components.used-one p valid (ok .start-in) con a i
-
-  pub distance-one : (u v : ℕ) → distanceOf p u v ≡ distanceFrom p (p .start) u v
-  distance-one u v = ap (λ (t : ℕ → Bool). dist (p .switches) (2 * p .count) (tail p) (head p) t u v) used-one
 
   pub trail-one : trailOf p ≡ trailFrom p (p .start)
   unfolding trailsOf flatten

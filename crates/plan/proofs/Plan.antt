@@ -1,4 +1,4 @@
--- Laws of the plan of a plant, over all its components: theorems A and B, distances, and the number of the rules. Assumes a sound plant where it says so.
+-- Laws of the plan of a plant, over all its components: theorems A and B, and the number of the rules. Assumes a sound plant where it says so.
 use mathlib.Core.Path.{_≡_, sym, _∙_, subst}
 use mathlib.Core.Logic.{_⊎_, _↔_}
 use mathlib.Core.Bool.{Bool}
@@ -17,17 +17,14 @@ use Rattle.walks.specs.Arcs.{opposite, tail, head, Arc, Valid}
 use Rattle.walks.specs.Graph.{visitedFrom, reachedFrom, liveLinks, bridges}
 use Rattle.walks.specs.Components.{rootOf, used, arcsUsed}
 use Rattle.walks.proofs.Walk.{weaken}
-use Rattle.walks.proofs.Labels.{tail-in}
 use Rattle.walks.proofs.Tests.{to-walk}
 use Rattle.walks.proofs.Orientation.{strong}
 use Rattle.walks.proofs.Components as components
 use Rattle.walks.proofs.Valid.{sound-valid}
 use Rattle.walks.proofs.Limits.{few-used}
-use Rattle.routes.specs.Meaning.{Fewest}
-use Rattle.routes.proofs.Fewest.{dist-fewest}
 use Rattle.table.specs.Rules.{tableIn}
 use Rattle.table.proofs.Rules.{rules-count}
-use Rattle.plan.specs.Plan.{distanceOf, rulesOf, tableOf}
+use Rattle.plan.specs.Plan.{rulesOf, tableOf}
 pub use Rattle.walks.proofs.Components.{used-arc}
 
 module _ (p : Plant) where
@@ -64,10 +61,6 @@ module _ (p : Plant) where
 
         found : (z : ℕ) → T (reachedFrom p (rootOf p x) z) → In z (visitedFrom p (rootOf p x) .ord)
         found z t = memb→in z (visitedFrom p (rootOf p x) .ord) t
-
-    -- the law of distance: a walk of so many hops over arcs in use exists and none shorter; the number of switches stands for no walk
-    pub distance-fewest : (u v : ℕ) → u < p .switches → v < p .switches → Fewest (p .switches) (2 * p .count) (tail p) (head p) (used p) u v (distanceOf p u v)
-    distance-fewest u v h i = dist-fewest (p .switches) (2 * p .count) (tail p) (head p) (used p) (λ a j t. tail-in p valid a (used-arc p a t)) u v h i
 
     -- an arc of each link is in use
     pub one-used : (l : ℕ) → T (live p l) → T (used p (2 * l)) ⊎ T (used p (2 * l + 1))

@@ -9,7 +9,6 @@ use Rattle.walks.specs.Arcs.{tail, head}
 use Rattle.walks.specs.Graph.{AllFrom}
 use Rattle.walks.specs.Components.{rootOf, roots, used}
 use Rattle.walks.specs.Round.{roundFrom}
-use Rattle.routes.specs.Distance.{dist}
 use Rattle.routes.specs.Plants.{trailFrom}
 use Rattle.rings.specs.Packet.{rulesFor}
 use Rattle.table.specs.declared.Rule.{Rule}
@@ -20,10 +19,6 @@ module _ (p : Plant) where
   -- every switch is reached from the start: there is one component
   abbrev pub Connected : Type 0
   Connected = AllFrom p (p .start)
-
-  -- the fewest hops over arcs in use; the number of switches if there is no walk
-  abbrev pub distanceOf : ℕ → ℕ → ℕ
-  distanceOf u v = dist (p .switches) (2 * p .count) (tail p) (head p) (used p) u v
 
   -- ---- the trails
 

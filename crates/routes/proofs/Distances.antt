@@ -113,14 +113,18 @@ module _ (S n : ℕ) (tl hd : ℕ → ℕ) (ok : ℕ → Bool) where
   hop-lessens u v a t e h =
       and-both (ok a) (nears u v a) t (and-both (eqb (tl a) u) (ltb (D (hd a) v) (D u v)) (eq→eqb e) (lt→ltb (D (hd a) v) (D u v) h))
 
+  -- of the arcs that lessen the distance none has a lower label than the hop
+  pub hop-lowest : (u v b : ℕ) → T (ok b) → tl b ≡ u → D (hd b) v < D u v → hop S n tl hd ok u v ≤ b
+  unfolding hop
+  hop-lowest u v b t e h = least-le n (lessens S n tl hd ok u v) b (hop-lessens u v b t e h)
+
   -- where the distance is not 0, there is a hop, and it lessens the distance by one
   hop-law : (u v k : ℕ) → D u v ≡ suc k → suc k < S → Hop u v (hop S n tl hd ok u v)
   unfolding hop
   hop-law u v k e h =
       let p = lessens S n tl hd ok u v in
       let d = dist-down u v k e h in
-      let le : least n p ≤ d .0 = least-le n p (d .0) (hop-lessens u v (d .0) (d .1 .1) (d .2) (omega (arith, d .3))) in
-      let lt : least n p < n = omega (arith, d .1 .0) in
+      let lt : least n p < n = omega (arith, hop-lowest u v (d .0) (d .1 .1) (d .2) (omega (arith, d .3)), d .1 .0) in
       lessens-hop u v (least n p) lt (least-passes n p lt)
 
   -- the lowest label that lessens the distance, and where none does

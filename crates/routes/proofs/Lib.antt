@@ -5,4 +5,5 @@ pub mod Marks
 pub mod Nearest
 pub mod Trails
 pub mod Legs
+pub mod Rule
 pub mod Plants

@@ -7,7 +7,7 @@ use native.Mathlib.Omega.{arith}
 use lib.Dec.{T, eqb, eqb→eq, ltb→lt, lt→ltb}
 use Rattle.lists.proofs.Tests.{eq→eqb, and-left, and-right, and-both}
 use Rattle.lists.specs.Least.{least, some}
-use Rattle.lists.proofs.Least.{least-passes, least-first, least-le, least-none, some?}
+use Rattle.lists.proofs.Least.{least-passes, least-le, least-none, some?}
 use Rattle.routes.specs.Distance.{dist}
 use Rattle.routes.specs.Trail.{uncrossed, leavesAt, near, nearest}
 use Rattle.routes.proofs.Levels.{le?}
@@ -56,6 +56,11 @@ module _ (S n : ℕ) (tl hd : ℕ → ℕ) (ok : ℕ → Bool) where
         let k = near S n tl hd ok m u in
         ⊎-elim (λ l. at-some k a h t (omega (arith, l, near-le a h t, dist-top S n tl hd ok u (tl a)))) near-passes (le? S k)
 
+    -- of the uncrossed arcs so near none has a lower label
+    nearest-lowest : (b : ℕ) → T (at (near S n tl hd ok m u) b) → best ≤ b
+    unfolding nearest
+    nearest-lowest b t = least-le n (at (near S n tl hd ok m u)) b t
+
     -- if an arc is uncrossed, one is nearest
     pub nearest-some : (a : ℕ) → a < n → T (uncrossed ok m a) → Nearest m u best
     unfolding nearest
@@ -69,7 +74,7 @@ module _ (S n : ℕ) (tl hd : ℕ → ℕ) (ok : ℕ → Bool) where
           is-arc = lt;
           is-left = and-left (uncrossed ok m r) (eqb (D u (tl r)) k) passes;
           closest = λ b i v. omega (arith, d, near-le b i v);
-          lowest = λ b i v e. least-first n (at k) b i (at-true k b v (e ∙ d));
+          lowest = λ b i v e. omega (arith, i, nearest-lowest b (at-true k b v (e ∙ d)));
         }
 
     -- if none is, there is none

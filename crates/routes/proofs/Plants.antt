@@ -19,9 +19,10 @@ use Rattle.walks.proofs.Visited.{visited-root, visited-keeps, visited-inside}
 use Rattle.walks.proofs.Orientation.{used-is, from-arc, strong}
 use Rattle.walks.proofs.Counting.{one-from, arcs-from}
 use Rattle.routes.specs.Meaning.{Fewest, Strong}
-use Rattle.routes.specs.Plants.{distanceFrom, trailFrom}
+use Rattle.routes.specs.Plants.{distanceFrom, trailFrom, TrailByRule}
 use Rattle.routes.proofs.Fewest.{dist-fewest}
 use Rattle.routes.proofs.Trails.{Tour, trail-tour}
+use Rattle.routes.proofs.Rule.{trail-by-rule, trail-only}
 
 module _ (p : Plant) where
   abbrev S : ℕ
@@ -58,6 +59,13 @@ module _ (p : Plant) where
     pub trail-theorem : Tour n (tail p) (head p) (usedFrom p r) r (switchesFrom p r * arcsUsedFrom p r + (switchesFrom p r - 1)) (trailFrom p r)
     unfolding switchesFrom arcsUsedFrom
     trail-theorem = trail-tour S n (tail p) (head p) (usedFrom p r) r (reachedFrom p r) part-strong
+
+    -- it is by document 01's rule, and no other list is
+    pub by-rule : TrailByRule p r (trailFrom p r)
+    by-rule = trail-by-rule S n (tail p) (head p) (usedFrom p r) r (reachedFrom p r) part-strong
+
+    pub only-by-rule : (w : List ℕ) → TrailByRule p r w → w ≡ trailFrom p r
+    only-by-rule w h = trail-only S n (tail p) (head p) (usedFrom p r) r (reachedFrom p r) part-strong w h
 
     -- so the bound of theorem C is met: a closed walk crosses each link that is reached, over as many arcs as there are such links and bridges
     pub attained : ClosedWalk p (trailFrom p r) × ((l : ℕ) → T (reachedFrom p r (first p l)) → T (live p l) → Crosses l (trailFrom p r))

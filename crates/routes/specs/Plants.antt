@@ -6,6 +6,7 @@ use Rattle.walks.specs.Arcs.{tail, head}
 use Rattle.walks.specs.Graph.{usedFrom}
 use Rattle.routes.specs.Distance.{dist}
 use Rattle.routes.specs.Trail.{trail}
+use Rattle.routes.specs.Rule.{ByRule}
 
 module _ (p : Plant) (r : ℕ) where
   -- the fewest hops over arcs in use; the number of switches if there is no walk
@@ -15,3 +16,7 @@ module _ (p : Plant) (r : ℕ) where
   -- the trail of the part that is reached
   abbrev pub trailFrom : List ℕ
   trailFrom = trail (p .switches) (2 * p .count) (tail p) (head p) (usedFrom p r) r
+
+  -- w is the trail of the part that is reached, by document 01's rule
+  abbrev pub TrailByRule : List ℕ → Type 0
+  TrailByRule w = ByRule (2 * p .count) (tail p) (head p) (usedFrom p r) distanceFrom r w

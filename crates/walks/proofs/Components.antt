@@ -260,6 +260,10 @@ module _ (p : Plant) (ok : Valid p) (start-in : p .start < p .switches) where
   pub used-from : (r a : ℕ) → In r (roots p) → T (usedFrom p r a) → T (used p a)
   used-from r a i t = subst T (sym (used-in r a i (used-reached p r a t))) t
 
+  -- the arcs in use from a listed root are those of its component
+  pub used-of : (r a : ℕ) → In r (roots p) → T (usedFrom p r a) ↔ (T (used p a) × (rootOf p (tail p a) ≡ r))
+  used-of r a i = (λ t. (used-from r a i t, reaches-root r (tail p a) i (used-reached p r a t)), λ q. used-own r a (q .1) (q .0))
+
   pub used-root : (a : ℕ) → T (used p a) → (r : ℕ) × In r (roots p) × T (usedFrom p r a)
   unfolding used
   used-root a t = (rootOf p (tail p a), root-listed (tail p a) (tail-in p ok a (used-arc p a t)), t)
@@ -350,7 +354,7 @@ module _ (p : Plant) (ok : Valid p) (start-in : p .start < p .switches) where
   unfolding arcsUsedFrom arcsUsed
   arcs-sum =
       parts-count (used p) (usedFrom p) (λ a. rootOf p (tail p a)) (roots p) roots-distinct (2 * p .count)
-      (λ a h t. root-listed (tail p a) (tail-in p ok a (used-arc p a t))) (λ r a i h. (λ t. (used-from r a i t, reaches-root r (tail p a) i (used-reached p r a t)), λ q. used-own r a (q .1) (q .0)))
+      (λ a h t. root-listed (tail p a) (tail-in p ok a (used-arc p a t))) (λ r a i h. used-of r a i)
 
   -- each component has fewer bridges than switches
   pub few-roots-bridges : bridges p + length (roots p) ≤ S
