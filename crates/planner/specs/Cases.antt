@@ -152,19 +152,6 @@ planned =
     ∷ trails triangles 6 (given (1 ∷ 9 ∷ 5 ∷ 2 ∷ 6 ∷ 10 ∷ []))
     ∷ []
 
--- plants on which other rules for the trail than document 01's give another one, all from switch 0
-abbrev otherTrails : List Row
-otherTrails =
-    -- links 1-0 0-1 0-1 0-1 1-2 2-1: of the arcs that lessen the distance, not the one with the highest label
-    trails (3 ∷ 3 ∷ 6 ∷ 0 ∷ 1 ∷ 1 ∷ 3 ∷ 0 ∷ 1 ∷ 0 ∷ 0 ∷ 3 ∷ 1 ∷ 2 ∷ 3 ∷ 2 ∷ 1 ∷ []) 10 (given (1 ∷ 3 ∷ 1 ∷ 5 ∷ 1 ∷ 7 ∷ 1 ∷ 8 ∷ 10 ∷ 3 ∷ []))
-    -- links 0-2 2-1 0-1 2-1 2-0 0-1: nearest over arcs in use, not over links
-    ∷ trails (3 ∷ 3 ∷ 6 ∷ 0 ∷ 2 ∷ 2 ∷ 3 ∷ 2 ∷ 1 ∷ 1 ∷ 0 ∷ 1 ∷ 2 ∷ 2 ∷ 0 ∷ 3 ∷ 0 ∷ 1 ∷ []) 10 (given (0 ∷ 2 ∷ 5 ∷ 0 ∷ 8 ∷ 0 ∷ 2 ∷ 7 ∷ 2 ∷ 11 ∷ []))
-    -- links 0-1 3-1 0-3 1-3 2-1: the distance to the switch, not from it back
-    ∷ trails (3 ∷ 4 ∷ 5 ∷ 0 ∷ 2 ∷ 1 ∷ 1 ∷ 3 ∷ 3 ∷ 0 ∷ 3 ∷ 1 ∷ 1 ∷ 3 ∷ 2 ∷ 1 ∷ []) 10 (given (0 ∷ 3 ∷ 5 ∷ 0 ∷ 9 ∷ 8 ∷ 3 ∷ 7 ∷ 3 ∷ 5 ∷ []))
-    -- links 0-1 2-0 4-2 3-5 1-3 1-3: ties by label, not by switch
-    ∷ trails (3 ∷ 6 ∷ 6 ∷ 0 ∷ 2 ∷ 1 ∷ 3 ∷ 2 ∷ 0 ∷ 3 ∷ 4 ∷ 2 ∷ 3 ∷ 3 ∷ 5 ∷ 3 ∷ 1 ∷ 3 ∷ 0 ∷ []) 14 (given (0 ∷ 1 ∷ 3 ∷ 2 ∷ 3 ∷ 5 ∷ 4 ∷ 2 ∷ 0 ∷ 8 ∷ 6 ∷ 7 ∷ 11 ∷ 1 ∷ []))
-    ∷ []
-
 -- the numbers of the first line that the program `rules` prints: switches, links, bridges, rules, hops
 
 abbrev sums : List ℕ → Answer (List ℕ) → Row
@@ -290,7 +277,7 @@ allowances =
 -- ---- the table, and the test
 
 abbrev table : List Row
-table = readings ++ writings ++ markedReadings ++ planned ++ otherTrails ++ summed ++ parted ++ bySwitches ++ roundTrails ++ boughtPages ++ allowances
+table = readings ++ writings ++ markedReadings ++ planned ++ summed ++ parted ++ bySwitches ++ roundTrails ++ boughtPages ++ allowances
 
 as-said : map (λ r. r .got) table ≡ map (λ r. r .said) table
 unfolding plantWith taken valueOf redundant mapMissing mapUndefined fieldMissing fieldRedundant fieldValues afterPart part valueOutOfRange endOutOfRange selfLink bytesRemain soundLink header link links withLinks linked ended reading trail legs nearest near route hops hop dist within sources leastFrom count usedFrom bridge visitFrom arcs others visit scan roundFrom tour walkAt opposite tail head live rootOf begunAt roots used arcsUsed flatten trailsOf roundsOf rulesIn tableWith tabling liveLinks bridges numbersOf summing componentsWith componentAt componentsOf parting sentBy sum bySwitch counting placesShort laying laidOut trailing roundLaidOut roundTrailing linksAt pricing quoting quotingFor writingPage buying allowance orderQuantity isZero plantOutOfRange soundPlant bufferShort headerBytes linkBytes encode partBytes writing
