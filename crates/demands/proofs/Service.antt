@@ -23,7 +23,6 @@ use Rattle.listing.specs.Listing.{reading}
 use Rattle.listing.specs.Listing as listing
 use Rattle.listing.proofs.RoundTrip.{decode-sound}
 use Rattle.listing.proofs.Marks.{bit-three, without, plain-read, plain-written, link-undefined, header-undefined, mark-past}
-use Rattle.listing.proofs.Longest.{longest}
 use Rattle.walks.specs.Arcs.{Arc}
 use Rattle.walks.specs.Graph.{Crosses, bridge}
 use Rattle.walks.specs.Components.{rootOf, linkWith, linksWith}
@@ -45,7 +44,6 @@ use Rattle.judging.proofs.Lent.{trail-own, hops-own}
 use Rattle.probing.specs.Calls.{runIn, running, checkIn, checking, roundIn, roundRunning, probeIn, probing}
 use Rattle.probing.specs.Searches.{NoneBroken}
 use Rattle.probing.proofs.Injection.{ring-at, order-links}
-use Rattle.probing.proofs.NamedLinks.{naming-within}
 use Rattle.probing.proofs.StateBytes.{ByLinkAlike, ByLabelAlike, running-bytes, checking-bytes, probing-bytes, rounding-bytes}
 use Rattle.demands.specs.Order7.{Marks, OutOfService, SameByLink, SameByLabel, StatesOf, AllInService}
 use Rattle.demands.proofs.Packets.{rules-are}
@@ -64,7 +62,6 @@ marks = record {
   undefined = link-undefined;
   undefined-header = header-undefined;
   past = mark-past;
-  longest = longest;
 }
 
 -- ---- a plant without a mark
@@ -94,7 +91,7 @@ module _ (p : Plant) (l : ℕ) (out : outOfService p l ≡ true) where
     ok : Sound p
     ok = decode-sound s p b g
 
-    pub out-of-service : OutOfService s p l
+    pub out-of-service : OutOfService p l
     unfolding bridge
     out-of-service = record {
       no-bridge = rw (dead-marked p l out) refl;
@@ -107,8 +104,7 @@ module _ (p : Plant) (l : ℕ) (out : outOfService p l ≡ true) where
         not-true-false _ (λ t. no-arc a e (used-arc p a (rules-are p .table at a .0 t .0))),
         not-true-false _ (λ t. no-arc a e (rules-are p .all at a .0 t .0)),
       );
-      no-order = λ x h i. dead (of-live p x l (order-links p ok x h l .0 i));
-      not-named = λ x w q e. dead (of-live p x l (naming-within s p g ok x w q l e));
+      no-component = λ x t. dead (of-live p x l t);
     }
       where
         trail-arc : (a : ℕ) → In a (trailOf p) → Arc p a

@@ -7,7 +7,6 @@ use Prim.Native.Nat.{ℕ, _+_, _*_, _/_, _≤_, _<_}
 use lib.Dec.{T, ltb}
 use lib.ListN.{length}
 use Rattle.lists.specs.Members.{In}
-use Rattle.lists.specs.Count.{count}
 use Rattle.lists.specs.Arrays.{at}
 use Rattle.answers.specs.Answers.{given, refused, _>>=_}
 use Rattle.answers.specs.Checks.{check, answer, _then_}
@@ -15,19 +14,17 @@ use Rattle.plant.specs.declared.Link.{Link}
 use Rattle.plant.specs.declared.Plant.{Plant}
 use Rattle.plant.specs.Links.{marked, outOfService, live}
 use Rattle.codec.specs.Part.{part, partBytes}
-use Rattle.listing.specs.Listing.{reading}
 use Rattle.listing.specs.Listing as listing
 use Rattle.listing.specs.Writing.{writing}
 use Rattle.walks.specs.Graph.{Crosses, ClosedWalk, bridge, liveLinks}
 use Rattle.walks.specs.Components.{linkWith}
-use Rattle.rings.specs.Packet.{run}
 use Rattle.rings.specs.Rules.{upBy, inAll}
 use Rattle.rings.specs.Round.{upByLabel, linkBytes}
 use Rattle.plan.specs.Plan.{trailOf, roundOf, inTable}
 use Rattle.search.specs.declared.Search.{Search}
-use Rattle.probing.specs.Calls.{running, checking, roundRunning, probing, link, naming}
+use Rattle.probing.specs.Calls.{running, checking, roundRunning, probing}
 use Rattle.probing.specs.Searches.{Says}
-use Rattle.demands.specs.Names.{orderAt, probeAt}
+use Rattle.demands.specs.Names.{probeAt}
 use Rattle.demands.specs.Demand3.{ruleLabels}
 
 -- how a listing marks them
@@ -55,11 +52,9 @@ pub record Marks : Type 0 where
   pub undefined-header : (m : ℕ) (s : List ℕ) → (answer (listing.header (m ∷ s)) ≡ refused 2) ↔ (8 ≤ m)
   -- a place past the last link has no mark
   pub past : (p : Plant) (b : List ℕ) (l : ℕ) → p .count ≤ l → outOfService p l ≡ true → answer (writing p b) ≡ refused 5
-  -- the longest listing has document 01's length: a mark takes no byte
-  pub longest : (s : List ℕ) (p : Plant) → answer (reading s) ≡ given p → length s ≤ 1285
 
--- for every listing s that is read as a plant p, and a link l of it that is marked
-pub record OutOfService (s : List ℕ) (p : Plant) (l : ℕ) : Type 0 where
+-- for every plant p that a listing is read as, and a link l of it that is marked
+pub record OutOfService (p : Plant) (l : ℕ) : Type 0 where
   -- "it joins nothing", so that it is no bridge, whatever its ends are
   pub no-bridge : bridge p l ≡ false
   -- "no trail, closed walk or rule crosses it", nor does a round trail or a probe
@@ -68,9 +63,8 @@ pub record OutOfService (s : List ℕ) (p : Plant) (l : ℕ) : Type 0 where
   pub no-closed-walk : (w : List ℕ) → ClosedWalk p w → Crosses l w → ⊥
   pub no-probe : (x : ℕ) → x < p .switches → (m : ℕ) → Crosses l (probeAt p x m) → ⊥
   pub no-rule : (a at : ℕ) → a / 2 ≡ l → (In a (ruleLabels p) → ⊥) × (inTable p at a ≡ false) × (inAll p at a ≡ false)
-  -- a search is over the others: it is not in their order, and is never named, by whatever search
-  pub no-order : (x : ℕ) → x < p .switches → In l (orderAt p x) → ⊥
-  pub not-named : (x : ℕ) (w : List ℕ) (q : Search) → answer (naming s x w q) ≡ given (link l) → ⊥
+  -- it is a link of no component: so it is in no order of links and no search names it, by `Elsewhere` of order 9
+  pub no-component : (x : ℕ) → T (linkWith p x l) → ⊥
 
 -- two lists of state bytes, one for each link number in both, that tell the same of these links: those of the others may differ
 pub record SameByLink (p : Plant) (links : ℕ → Bool) (states states′ : List ℕ) : Type 0 where

@@ -62,7 +62,7 @@ pub record Promises : Type 0 where
       → ByLabel p x states
   -- order 7: links out of service
   pub marks : Marks
-  pub out-of-service : (s : List ℕ) (p : Plant) → ReadAs s p → (l : ℕ) → outOfService p l ≡ true → OutOfService s p l
+  pub out-of-service : (s : List ℕ) (p : Plant) → ReadAs s p → (l : ℕ) → outOfService p l ≡ true → OutOfService p l
   pub states-of : (s : List ℕ) (p : Plant) → ReadAs s p → (x : ℕ) → x < p .switches → StatesOf s p x
   pub all-in-service : (p : Plant) → ((l : ℕ) → l < p .count → outOfService p l ≡ false) → AllInService p
   -- order 8: four consoles
