@@ -24,7 +24,6 @@ use Rattle.walks.proofs.Components.{used-arc, used-of, listed-in}
 use Rattle.routes.proofs.Plants.{distance-fewest, by-rule, only-by-rule}
 use Rattle.plan.specs.Plan.{trailOf}
 use Rattle.plan.proofs.Trails.{trails-are, trails-closed}
-use Rattle.planning.proofs.Plans.{at-given}
 use Rattle.planner.specs.Calls.{rewriting, rewritten, rereading, trailLeft, trailing, laidOut}
 use Rattle.planner.proofs.Trailing.{lay-enough, trail-given, left-given}
 use Rattle.demands.specs.Demand2.{TrailIs, PlanIs, Demand2}
@@ -55,7 +54,6 @@ plan-is : (p : Plant) → Sound p → PlanIs p
 plan-is p ok =
     let valid = sound-valid p ok in
     record {
-      sound = ok;
       components = components-are p ok;
       bridges = λ l h. bridge-is p valid l h;
       visit = λ r deep i h. visited-by-links p valid r deep (listed-in p valid (ok .start-in) r i) h;
@@ -63,27 +61,24 @@ plan-is p ok =
       in-service = used-arc p;
       each-trail = trail-is p ok;
       trails = trails-are p ok;
-      closed = trails-closed p ok;
     }
 
 pub demand-2 : Demand2
 unfolding rewritten trailing laidOut
 demand-2 = record {
   most-hops = refl;
-  read-write = read-write;
+  read-write = λ s p r. read-write s p (r .bytes) (r .read);
   write-read = write-read;
-  rewrite = λ s b p _ e h. let r = rewrites s b p e h in (r, ap (leaves (λ n. s ++ drop n b) b) r);
+  rewrite = λ s b p q h. let r = rewrites s b p (q .read) h in (r, ap (leaves (λ n. s ++ drop n b) b) r);
   reread = λ p b ok h. (rereads p b ok h, buffer-written p b (length (encode p)) (sound-written p b ok h));
   longest = longest;
   as-long = (longestPlant, longest-attained .0, longest-attained .1);
-  sound = decode-sound;
-  plan = λ s p b e. plan-is p (decode-sound s p b e);
+  sound = λ s p r. decode-sound s p (r .bytes) (r .read);
+  plan = λ s p r. plan-is p (decode-sound s p (r .bytes) (r .read));
   laid = λ s b p e h.
       let r = lay-enough (trailOf p) b h (length (trailOf p)) refl in
       (sym (r ∙ trail-given trailOf s b p e), sym (ap (trailLeft (trailOf p) b) r ∙ left-given trailOf s b p e));
   run = run-is;
   rules = rules-are;
-  injection = λ s x p b e.
-      let h = at-given s x p e in
-      injection-is p (decode-sound s p b (h .0)) x (h .1);
+  injection = λ s p r. injection-is p (decode-sound s p (r .bytes) (r .read));
 }

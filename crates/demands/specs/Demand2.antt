@@ -16,11 +16,10 @@ use Rattle.plant.specs.declared.Plant.{Plant}
 use Rattle.plant.specs.Links.{live}
 use Rattle.limits.specs.Limits.{maxSwitches, maxRules, maxHops}
 use Rattle.limits.specs.Sound.{Sound}
-use Rattle.codec.specs.Field.{Bytes}
 use Rattle.listing.specs.Listing.{encode, reading}
 use Rattle.listing.specs.Writing.{bufferAfter}
 use Rattle.walks.specs.Arcs.{tail, head, Arc}
-use Rattle.walks.specs.Graph.{To, ClosedWalks, Bridge, bridge, liveLinks, bridges, visitedFrom, enteredFrom, earlierFrom, usedFrom}
+use Rattle.walks.specs.Graph.{To, Bridge, bridge, liveLinks, bridges, visitedFrom, enteredFrom, earlierFrom, usedFrom}
 use Rattle.walks.specs.Components.{rootOf, roots, componentOf, linkWith, linksWith, used}
 use Rattle.walks.specs.ByLinks.{visitLinks}
 use Rattle.routes.specs.Meaning.{Fewest}
@@ -35,11 +34,9 @@ use Rattle.plan.specs.Trails.{AreTrails}
 use Rattle.order.specs.declared.Span.{Span}
 use Rattle.search.specs.declared.Search.the-variants.{AllUp}
 use Rattle.search.specs.Search.{newSearch, ended}
-use Rattle.planning.specs.Planning.{planningAt}
 use Rattle.planner.specs.Calls.{rewriting, rewritten, rereading, trailing, laidOut}
 use Rattle.probing.specs.Calls.{outSpan}
-use Rattle.consoles.specs.Calls.{start}
-use Rattle.demands.specs.Names.{ringAt, orderAt, placeAt, probeRunAt}
+use Rattle.demands.specs.Names.{ReadAs, ringAt, orderAt, placeAt, probeRunAt}
 
 -- the components of a plant: what is joined over links in service, and in which order they are planned (document 02, order 9)
 pub record ComponentsAre (p : Plant) : Type 0 where
@@ -79,7 +76,6 @@ pub record TrailIs (p : Plant) (r : ℕ) : Type 0 where
 
 -- what components, bridges, the visits and the trails of a plant are, in the papers' words
 pub record PlanIs (p : Plant) : Type 0 where
-  pub sound : Sound p
   pub components : ComponentsAre p
   -- "a bridge is a link without which its two ends are not joined"
   pub bridges : (l : ℕ) → T (live p l) → T (bridge p l) ↔ Bridge p l
@@ -94,7 +90,6 @@ pub record PlanIs (p : Plant) : Type 0 where
   -- hops
   pub each-trail : (r : ℕ) → In r (roots p) → TrailIs p r
   pub trails : AreTrails p
-  pub closed : ClosedWalks p (map (trailFrom p) (roots p))
 
 -- what the run of a packet is, under any rules and by the labels that are up, those whose link is: from switch `at`, after n hops
 pub record RunIs (rule : ℕ → ℕ → Bool) (up : ℕ → Bool) (hd : ℕ → ℕ) : Type 0 where
@@ -156,10 +151,10 @@ pub record Demand2 : Type 0 where
   -- "it has at most 20,479 hops: 319 arcs × 64 + 63"; a field of the plan has the rest
   pub most-hops : maxHops ≡ maxRules * maxSwitches + (maxSwitches - 1)
   -- what was read is written as the bytes that were read, and what was written is read as the plant that was written
-  pub read-write : (s : List ℕ) (p : Plant) → Bytes s → answer (reading s) ≡ given p → encode p ≡ s
+  pub read-write : (s : List ℕ) (p : Plant) → ReadAs s p → encode p ≡ s
   pub write-read : (p : Plant) → Sound p → answer (reading (encode p)) ≡ given p
   -- so it is with the calls: the buffer begins with the listing, bytes past it stay, and they read it back
-  pub rewrite : (s b : List ℕ) (p : Plant) → Bytes s → answer (reading s) ≡ given p → length s ≤ length b
+  pub rewrite : (s b : List ℕ) (p : Plant) → ReadAs s p → length s ≤ length b
       → (answer (rewriting s b) ≡ given (length s)) × (rewritten s b ≡ s ++ drop (length s) b)
   pub reread : (p : Plant) (b : List ℕ) → Sound p → length (encode p) ≤ length b
       → (answer (rereading p b) ≡ given p) × (bufferAfter p b ≡ encode p ++ drop (length (encode p)) b)
@@ -167,13 +162,13 @@ pub record Demand2 : Type 0 where
   pub longest : (s : List ℕ) (p : Plant) → answer (reading s) ≡ given p → length s ≤ 1285
   pub as-long : (p : Plant) × (length (encode p) ≡ 1285) × (answer (reading (encode p)) ≡ given p)
   -- what is read is sound
-  pub sound : (s : List ℕ) (p : Plant) → Bytes s → answer (reading s) ≡ given p → Sound p
+  pub sound : (s : List ℕ) (p : Plant) → ReadAs s p → Sound p
   -- the plan of a listing is document 01's, component by component
-  pub plan : (s : List ℕ) (p : Plant) → Bytes s → answer (reading s) ≡ given p → PlanIs p
+  pub plan : (s : List ℕ) (p : Plant) → ReadAs s p → PlanIs p
   -- "trails follow one another in the buffer": one with enough places begins with them, and places past them stay
   pub laid : (s b : List ℕ) (p : Plant) → answer (reading s) ≡ given p → length (trailOf p) ≤ length b
       → (answer (trailing s b) ≡ given (length (trailOf p))) × (laidOut s b ≡ trailOf p ++ drop (length (trailOf p)) b)
   -- packets, rules and probes are document 01's
   pub run : (rule : ℕ → ℕ → Bool) (up : ℕ → Bool) (hd : ℕ → ℕ) → RunIs rule up hd
   pub rules : (p : Plant) → RulesAre p
-  pub injection : (s : List ℕ) (x : ℕ) (p : Plant) → Bytes s → answer (planningAt s x) ≡ given p → InjectionIs p x
+  pub injection : (s : List ℕ) (p : Plant) → ReadAs s p → (x : ℕ) → x < p .switches → InjectionIs p x
