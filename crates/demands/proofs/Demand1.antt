@@ -13,8 +13,11 @@ use Rattle.quantity.specs.Quantity.{orderQuantity}
 use Rattle.search.specs.Search.{ask, give}
 use Rattle.sheet.specs.Page.{writingPage}
 use Rattle.sheet.specs.Form.{readingPage}
+use Rattle.plan.specs.Plan.{trailOf, roundOf}
 use Rattle.quoting.specs.Quotes.{pricing, quoting}
 use Rattle.planner.specs.Calls.{rewriting, rewritten, rereading, summing, bridging, parting, tabling, counting, laying, trailing, laidOut, roundTrailing, roundLaidOut, buying, boughtOut}
+use Rattle.planner.proofs.Trailing.{trail-kept}
+use Rattle.planner.proofs.Buying.{buying-kept}
 use Rattle.probing.specs.Calls.{runIn, running, checkIn, checking, roundIn, roundRunning, choiceIn, choosing, orderIn, ordering, outwardIn, outgoing, probeIn, probing, nameIn, naming, beginning, performing}
 use Rattle.desk.specs.Console.{replacing, starting, telling}
 use Rattle.desk.specs.Desk.{withConsole, consoleOf}
@@ -43,9 +46,9 @@ demand-1 = record {
   find-components = λ s. tries _ _ (listed s);
   forwarding-table = λ s. tries _ _ (listed s);
   rules-by-switch = λ s. tries _ _ (listed s);
-  lay-trail = λ s b. into _ (trailing s b) _ b (after s (10 ∷ []) _ (so refl refl));
-  lay-round-trail = λ s b. into _ (roundTrailing s b) _ b (after s (10 ∷ []) _ (so refl refl));
-  write-buying-page = λ s spare b. into _ (buying s spare b) _ b (after s (17 ∷ 18 ∷ []) _ (so refl refl));
+  lay-trail = λ s b. record { tries = tries _ _ (after s (10 ∷ []) _ (so refl refl)); kept = trail-kept trailOf s b };
+  lay-round-trail = λ s b. record { tries = tries _ _ (after s (10 ∷ []) _ (so refl refl)); kept = trail-kept roundOf s b };
+  write-buying-page = λ s spare b. record { tries = tries _ _ (after s (17 ∷ 18 ∷ []) _ (so refl refl)); kept = buying-kept s spare b };
   read-buying-page = λ page. tries _ _ (so refl refl);
   order-quantity = λ rules spare. tries _ _ (so refl refl);
   allowance = λ n. tries _ _ (so refl refl);

@@ -11,7 +11,7 @@ use Rattle.choosing.specs.Choice.{hopsIn}
 use Rattle.order.specs.declared.Span.{Span}
 use Rattle.order.specs.Span.{stretchOf, frontOf}
 use Rattle.packet.specs.Outcome.{outcomeOf}
-use Rattle.allowance.specs.Allowance.{allowance, clipped}
+use Rattle.allowance.specs.Allowance.{allowance}
 use Rattle.quantity.specs.Quantity.{orderQuantity}
 use Rattle.search.specs.declared.Search.{Search}
 use Rattle.search.specs.declared.Outcome.{Outcome}
@@ -44,7 +44,7 @@ pub record Demand1 : Type 0 where
       → TriesInto (ofListing s ++ 17 ∷ 18 ∷ []) (buying s spare b) b (boughtOut s spare b)
   pub read-buying-page : (page : List ℕ) → Tries (18 ∷ []) (readingPage page)
   pub order-quantity : (rules spare : ℕ) → Tries (17 ∷ []) (orderQuantity rules spare)
-  pub allowance : (n : ℕ) → Tries [] (check [] (allowance (clipped n)))
+  pub allowance : (n : ℕ) → Tries [] (check [] (allowance n))
   -- calls that are given a listing s and a switch x, with labels, states, a lent trail w, a lent round trail or a search q
   pub run : (s : List ℕ) (x : ℕ) (labels states : List ℕ) → Tries (ofListing s ++ 11 ∷ 13 ∷ []) (running s x labels states)
   pub outcome-of : (e : End) → Tries [] (check [] (outcomeOf e))

@@ -28,11 +28,11 @@ use Rattle.routes.specs.Trail.{near, nearest, legs, trail}
 use Rattle.plan.specs.Plan.{trailsOf, roundsOf}
 use Rattle.table.specs.Rules.{tableWith, rulesIn}
 use Rattle.senders.specs.Senders.{sentBy, bySwitch}
-use Rattle.allowance.specs.Allowance.{allowance, clipped}
+use Rattle.allowance.specs.Allowance.{allowance}
 use Rattle.search.specs.Search.{newSearch, ask, give}
 use Rattle.search.specs.Calls.{begun}
 use Rattle.search.specs.Cases.{rows as searches}
-use Rattle.quantity.specs.Quantity.{orderQuantity}
+use Rattle.quantity.specs.Quantity.{withSpare, orderQuantity}
 use Rattle.quantity.specs.Cases.{rows as quantities}
 use Rattle.sheet.specs.Page.{writingPage}
 use Rattle.planning.specs.Numbers.{numbersOf}
@@ -209,7 +209,7 @@ sending ns total = given (padded maxSwitches 0 ns ++ (total ∷ []))
 
 abbrev orders : List ℕ → ℕ → Answer (List ℕ) → Row
 orders s spare a =
-    record { got = answer (counting s) >>= λ b. given (orderQuantity (b .total) spare .result ∷ sum maxSwitches (λ x. orderQuantity (at (b .counts) x) spare .result) ∷ []); said = a }
+    record { got = answer (counting s) >>= λ b. answer (orderQuantity (b .total) spare) >>= λ n. given (n ∷ sum maxSwitches (λ x. withSpare (at (b .counts) x) spare) ∷ []); said = a }
 
 -- document 01's example of the program `rules`
 abbrev ringAndTail : List ℕ
@@ -275,14 +275,14 @@ boughtPages =
     ∷ buys ringAndTail 10 160 (given (160 ∷ []))
     ∷ []
 
--- ---- the allowance: 0 of no link and of one. That more links than a plant can have count as the most is our decision, not the documents'
+-- ---- the allowance: 0 of no link and of one. It is that of any number, also of more links than a plant can have
 
 abbrev allows : ℕ → ℕ → Row
-allows n k = record { got = given (allowance (clipped n) ∷ []); said = given (k ∷ []) }
+allows n k = record { got = given (allowance n ∷ []); said = given (k ∷ []) }
 
 abbrev allowances : List Row
 allowances =
-    allows 0 0 ∷ allows 1 0 ∷ allows 2 1 ∷ allows 3 2 ∷ allows 4 2 ∷ allows 5 3 ∷ allows 128 7 ∷ allows 129 8 ∷ allows maxLinks 8 ∷ allows (maxLinks + 1) 8 ∷ allows 65535 8 ∷ []
+    allows 0 0 ∷ allows 1 0 ∷ allows 2 1 ∷ allows 3 2 ∷ allows 4 2 ∷ allows 5 3 ∷ allows 128 7 ∷ allows 129 8 ∷ allows maxLinks 8 ∷ allows 257 9 ∷ allows 300 9 ∷ allows 512 9 ∷ allows 513 10 ∷ allows 65535 16 ∷ []
 
 -- ---- the search and the order quantity
 

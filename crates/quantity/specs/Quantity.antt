@@ -15,8 +15,13 @@ maxSpare = 100
 abbrev pub spare : ℕ → ℕ → ℕ
 spare a p = (a * p + 99) / 100
 
+-- a rules with their spare: a + ⌈a × p ÷ 100⌉
+abbrev pub withSpare : ℕ → ℕ → ℕ
+withSpare a p = a + spare a p
+
+-- 17, the spare is above 100, or that
 unfoldable pub orderQuantity : ℕ → ℕ → Checked ℕ
-orderQuantity a p = check ((17, ltb maxSpare p) ∷ []) (a + spare a p)
+orderQuantity a p = check ((17, ltb maxSpare p) ∷ []) (withSpare a p)
 
 -- what the code's answer says
 abbrev pub quantityOf : Quantity → Answer ℕ
