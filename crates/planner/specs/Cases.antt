@@ -208,8 +208,11 @@ abbrev sending : List ℕ → ℕ → Answer (List ℕ)
 sending ns total = given (padded maxSwitches 0 ns ++ (total ∷ []))
 
 abbrev orders : List ℕ → ℕ → Answer (List ℕ) → Row
-orders s spare a =
-    record { got = answer (counting s) >>= λ b. answer (orderQuantity (b .total) spare) >>= λ n. given (n ∷ sum maxSwitches (λ x. withSpare (at (b .counts) x) spare) ∷ []); said = a }
+orders s spare a = record {
+  got = answer (counting s) >>= λ b. answer (orderQuantity (b .total) spare)
+      >>= λ n. given (n ∷ sum maxSwitches (λ x. withSpare (at (b .counts) x) spare) ∷ []);
+  said = a;
+}
 
 -- document 01's example of the program `rules`
 abbrev ringAndTail : List ℕ
@@ -282,7 +285,8 @@ allows n k = record { got = given (allowance n ∷ []); said = given (k ∷ []) 
 
 abbrev allowances : List Row
 allowances =
-    allows 0 0 ∷ allows 1 0 ∷ allows 2 1 ∷ allows 3 2 ∷ allows 4 2 ∷ allows 5 3 ∷ allows 128 7 ∷ allows 129 8 ∷ allows maxLinks 8 ∷ allows 257 9 ∷ allows 300 9 ∷ allows 512 9 ∷ allows 513 10 ∷ allows 65535 16 ∷ []
+    allows 0 0 ∷ allows 1 0 ∷ allows 2 1 ∷ allows 3 2 ∷ allows 4 2 ∷ allows 5 3 ∷ allows 128 7 ∷ allows 129 8 ∷ allows maxLinks 8
+    ∷ allows 257 9 ∷ allows 300 9 ∷ allows 512 9 ∷ allows 513 10 ∷ allows 65535 16 ∷ []
 
 -- ---- the search and the order quantity
 

@@ -78,8 +78,8 @@ choiceIn x w v p = check {A = Unit} ((12, hopsDiffer (trailOf p) w) ∷ []) tt t
 unfoldable pub choosing : List ℕ → ℕ → List ℕ → List ℕ → Checked Choice
 choosing s x w v = planningAt s x then choiceIn x w v
 
--- of the plant that was read: the part of the lent trails w and v at the choice that is answered is the trail or the round trail of the component, whichever has fewer
--- hops, and no spare place
+-- of the plant that was read: the part of the lent trails w and v at the choice that is answered is the trail or the round trail of the
+-- component, whichever has fewer hops, and no spare place
 abbrev pub ChosenHops : List ℕ → ℕ → List ℕ → List ℕ → Answer Choice → Type 0
 ChosenHops s x w v a =
     (p : Plant) (c : Choice) → answer (planningAt s x) ≡ given p → a ≡ given c → hopsIn w v c ≡ shorterOf (trailWith p x) (roundWith p x)
@@ -112,7 +112,8 @@ outwardIn x w q p = check ((12, trailDiffers p w) ∷ wantedChecks (linksWith p 
 unfoldable pub outgoing : List ℕ → ℕ → List ℕ → Search → Checked Span
 outgoing s x w q = planningAt s x then outwardIn x w q
 
--- of the plant that was read: the two parts of the lent trail w at the bounds that are answered, one after the other, are the outward labels of the probe wanted
+-- of the plant that was read: the two parts of the lent trail w at the bounds that are answered, one after the other, are the outward
+-- labels of the probe wanted
 abbrev pub OutwardParts : List ℕ → ℕ → List ℕ → Search → Answer Span → Type 0
 OutwardParts s x w q a =
     (p : Plant) (b : Span) → answer (planningAt s x) ≡ given p → a ≡ given b → stretchOf w b ++ frontOf w b ≡ outLabels p x (wanted q)
