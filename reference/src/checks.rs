@@ -11,7 +11,7 @@ use crate::packet::{self, Fate, Order, Run};
 use crate::page::{self, Counts};
 use crate::plant::{Link, Plant, Refusal};
 use crate::round::Round;
-use crate::search::{quantity, Search, ALLOWANCE, SENDINGS};
+use crate::search::{quantity, Search, SENDINGS};
 use crate::trail::{distances, Trail};
 
 fn number<T>(answer: Result<T, Refusal>) -> u8 {
@@ -163,11 +163,11 @@ fn printed() {
 
 #[test]
 fn allowance_rule() {
-    assert_eq!(ALLOWANCE.len(), 257);
-    assert_eq!(ALLOWANCE[0], 0);
-    for (number, k) in ALLOWANCE.iter().enumerate().skip(1) {
-        assert!(1 << k >= number);
-        assert!(*k == 0 || 1 << (k - 1) < number);
+    assert_eq!(calls::allowance(0), 0);
+    for number in 1..=u16::MAX {
+        let k = calls::allowance(number);
+        assert!(1 << k >= u32::from(number));
+        assert!(k == 0 || 1 << (k - 1) < u32::from(number));
     }
 }
 
@@ -175,19 +175,18 @@ fn allowance_rule() {
 fn allowances() {
     for links in 0..=u16::MAX {
         // Doubled from 1 until it is no longer below the number of links.
-        let most = u32::from(links).min(256);
         let mut reach = 1;
         let mut doublings = 0;
-        while reach < most {
+        while reach < u32::from(links) {
             reach *= 2;
             doublings += 1;
         }
         assert_eq!(calls::allowance(links), doublings);
     }
-    let some = [0, 1, 2, 3, 4, 5, 128, 129, 256, 257, 512, 65535];
+    let some = [0, 1, 2, 3, 4, 5, 128, 129, 256, 257, 300, 512, 513, 65535];
     assert_eq!(
         some.map(calls::allowance),
-        [0, 0, 1, 2, 2, 3, 7, 8, 8, 8, 8, 8]
+        [0, 0, 1, 2, 2, 3, 7, 8, 8, 9, 9, 9, 10, 16]
     );
 }
 
@@ -991,7 +990,7 @@ fn probes_and_first_broken_link() {
                 }
             }
             let packets = list.len() / 2;
-            assert!(probes <= 1 + usize::from(ALLOWANCE[links]));
+            assert!(probes <= 1 + usize::from(calls::allowance(links as u16)));
             assert!(packets <= 3 * probes);
             // Calls after its end are refused and change nothing.
             list.extend([0, 1, 2]);
@@ -1007,7 +1006,8 @@ fn probes_and_first_broken_link() {
 /// losses before each return.
 #[test]
 fn every_search_ends_in_time() {
-    for (links, allowance) in ALLOWANCE.iter().enumerate().skip(1) {
+    for links in 1..=Plant::MAX_LINKS {
+        let allowance = calls::allowance(links as u16);
         for first in 0..=links {
             let before = (links + first) % 3;
             let mut state = Search::new(links as u16);
@@ -1026,7 +1026,7 @@ fn every_search_ends_in_time() {
                 packets += lost + 1;
             }
             assert!(probes <= 1 + allowance);
-            assert!(packets <= 3 * (1 + usize::from(*allowance)));
+            assert!(packets <= 3 * (1 + usize::from(allowance)));
             let end = if first == links {
                 Search::AllUp
             } else {
@@ -1290,7 +1290,7 @@ fn every_list_of_outcomes() {
             accepted: Vec::new(),
         };
         // Two more than any search takes.
-        let longest = 3 * (1 + usize::from(ALLOWANCE[usize::from(links)])) + 2;
+        let longest = 3 * (1 + usize::from(calls::allowance(links))) + 2;
         every_list(&mut history, Search::new(links), &mut Vec::new(), longest);
     }
 }
@@ -2533,7 +2533,7 @@ fn case_lines() {
             format!("refused 16 {}", sum(&wide[..11])),
         ),
         (Case::new(20).word(9), "4".into()),
-        (Case::new(20).word(0xffff), "8".into()),
+        (Case::new(20).word(0xffff), "16".into()),
         (
             long(0, &trail, 30_000, &[0], &[1; 3]),
             "ended 90001 1".into(),

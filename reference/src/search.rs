@@ -108,21 +108,13 @@ impl Search {
     }
 }
 
-/// The least k with 2^k at least the entry's number; entries 0 and 1 are 0.
-pub const ALLOWANCE: [u8; Plant::MAX_LINKS + 1] = {
-    let mut table = [0; Plant::MAX_LINKS + 1];
-    let mut number = 2;
-    while number < table.len() {
-        table[number] = (number - 1).ilog2() as u8 + 1;
-        number += 1;
-    }
-    table
-};
-
-/// The allowance of a number of links; a number above the most links counts
-/// as the most.
+/// The allowance of a number of links: the least k with 2^k at least that
+/// number; of 0 and 1 it is 0.
 pub fn allowance(links: u16) -> u8 {
-    ALLOWANCE[usize::from(links.min(MAX))]
+    match links {
+        0 | 1 => 0,
+        _ => (links - 1).ilog2() as u8 + 1,
+    }
 }
 
 /// A rules and a spare of p percent, rounded up; refusal 17.

@@ -1,29 +1,15 @@
 -- What determines the allowance, and what halving does to it. Assumes nothing.
-use mathlib.Core.Path.{_≡_, refl, sym, _∙_, subst}
+use mathlib.Core.Path.{_≡_, sym, _∙_, subst}
 use mathlib.Core.Logic.{_⊎_, inl, inr}
-use mathlib.Core.Bool.{Bool, true, false}
 use Prim.Native.Nat.{ℕ, zero, suc, _+_, _*_, _^_, _≤_, _<_}
 use native.Mathlib.Omega.{arith}
 use native.Mathlib.Nat.{lt-of-not-le, pow-zero, pow-suc}
-use lib.Dec.{leb, leb→le, le→leb}
+use lib.Dec.{leb→le, le→leb}
 use lib.Pow.{pow-mono}
-use borrow.Author.Tests.{leb-true, le-leb}
-use Rattle.lists.specs.Tests.{choose}
 use Rattle.lists.proofs.Tests.{eq?}
 use Rattle.lists.specs.Least.{least}
 use Rattle.lists.proofs.Least.{least-top, least-passes, least-le}
-use Rattle.limits.specs.Limits.{maxLinks}
-use Rattle.allowance.specs.Allowance.{enough, allowance, clipped}
-
-pub clipped-fits : (n : ℕ) → n ≤ maxLinks → clipped n ≡ n
-clipped-fits n h = rw (le-leb n maxLinks h)
-
-pub clipped-most : (n : ℕ) → clipped n ≤ maxLinks
-clipped-most n = go (leb n maxLinks) (leb-true n maxLinks)
-  where
-    go : (t : Bool) → (t ≡ true → n ≤ maxLinks) → choose t n maxLinks ≤ maxLinks
-    go true f = f refl
-    go false f = omega arith
+use Rattle.allowance.specs.Allowance.{enough, allowance}
 
 -- ---- what determines it
 

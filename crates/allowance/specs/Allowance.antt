@@ -2,9 +2,7 @@
 use mathlib.Core.Bool.{Bool}
 use Prim.Native.Nat.{ℕ, _^_}
 use lib.Dec.{leb}
-use Rattle.lists.specs.Tests.{choose}
 use Rattle.lists.specs.Least.{least}
-use Rattle.limits.specs.Limits.{maxLinks}
 
 -- are 2 ^ k at least n?
 abbrev pub enough : ℕ → ℕ → Bool
@@ -12,7 +10,3 @@ enough n k = leb n (2 ^ k)
 
 unfoldable pub allowance : ℕ → ℕ
 allowance n = least n (enough n)
-
--- a number of links that a plant can have; a larger one counts as the most
-abbrev pub clipped : ℕ → ℕ
-clipped n = choose (leb n maxLinks) n maxLinks

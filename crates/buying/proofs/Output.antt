@@ -20,7 +20,7 @@ use Rattle.listing.proofs.Longest.{longestListing}
 use Rattle.listing.proofs.Front.{decode-front}
 use Rattle.text.specs.Decimal.{readDecimal}
 use Rattle.text.specs.Lines.{refusalOf}
-use Rattle.quantity.specs.Quantity.{maxSpare, orderQuantity}
+use Rattle.quantity.specs.Quantity.{maxSpare, spareAbove, orderQuantity}
 use Rattle.sheet.specs.declared.Sheet.{Sheet}
 use Rattle.sheet.specs.Columns.{lineColumns}
 use Rattle.sheet.specs.Page.{buyingPage, pageLength}
@@ -33,7 +33,7 @@ use Rattle.buying.specs.Output.{outputOf, bought, printed}
 -- ---- the spare as a byte
 
 spare-large : (p : Plant) (j k : ℕ) → maxSpare < j → maxSpare < k → answer (pricing p j) ≡ answer (pricing p k)
-unfolding pricing orderQuantity
+unfolding pricing orderQuantity spareAbove
 spare-large p j k h i = rw (lt-ltb maxSpare j h, lt-ltb maxSpare k i) refl
 
 pub spare-same : (n : ℕ) (s : List ℕ) → bought (min n 255) s ≡ bought n s

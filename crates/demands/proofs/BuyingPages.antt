@@ -13,7 +13,7 @@ use Rattle.lists.proofs.Tests.{bool?}
 use Rattle.plant.specs.declared.Plant.{Plant}
 use Rattle.answers.specs.Answers.{given, refused}
 use Rattle.answers.specs.Checks.{answer}
-use Rattle.answers.proofs.Checks.{given-refused, result-given, goes-on, was-given}
+use Rattle.answers.proofs.Checks.{given-refused, goes-on, was-given}
 use Rattle.codec.specs.Field.{Bytes}
 use Rattle.limits.specs.Limits.{maxSwitches}
 use Rattle.walks.specs.Graph.{linksAt}
@@ -39,12 +39,13 @@ module _ (s : List ℕ) (bytes : Bytes s) (p : Plant) (e : answer (reading s) �
   shown : Shown c
   shown = quoted-shown s spare c bytes q
 
-  -- the counts are those of the plant
-  counts-are : c ≡ sheetWith p (bySwitch (tableOf p)) (orderQuantity (bySwitch (tableOf p) .total) spare .result)
+  -- the counts are those of the plant, with the order quantity that is answered
+  priced : (n : ℕ) × (answer (orderQuantity (bySwitch (tableOf p) .total) spare) ≡ given n) × (sheetWith p (bySwitch (tableOf p)) n ≡ c)
   unfolding quotingFor pricing
-  counts-are =
-      let g = was-given (orderQuantity (bySwitch (tableOf p) .total) spare) (sheetWith p (bySwitch (tableOf p))) c (sym (goes-on (reading s) (λ r. pricing r spare) p e) ∙ q) in
-      sym (g .2) ∙ ap (sheetWith p (bySwitch (tableOf p))) (sym (result-given (orderQuantity (bySwitch (tableOf p) .total) spare) (g .0) (g .1)))
+  priced = was-given (orderQuantity (bySwitch (tableOf p) .total) spare) (sheetWith p (bySwitch (tableOf p))) c (sym (goes-on (reading s) (λ r. pricing r spare) p e) ∙ q)
+
+  counts-are : c ≡ sheetWith p (bySwitch (tableOf p)) (priced .0)
+  counts-are = sym (priced .2)
 
   pub page-written : PageWritten s p spare c
   page-written =
@@ -60,7 +61,7 @@ module _ (s : List ℕ) (bytes : Bytes s) (p : Plant) (e : answer (reading s) �
         links = at-switch;
         links-twice = sum-same (p .switches) (at (c .links)) (linksAt p) at-switch ∙ links-twice p ok;
         total = ap (λ (d : Sheet). d .total) counts-are ∙ t .number;
-        quantity = ap (λ (d : Sheet). d .quantity) counts-are ∙ ap (λ (a : ℕ). orderQuantity a spare .result) (t .number);
+        quantity = ap (λ (a : ℕ). answer (orderQuantity a spare)) (sym (t .number)) ∙ priced .1 ∙ ap (λ (d : Sheet). given (d .quantity)) (priced .2);
         digits = shown .digits;
         lines = λ x h. switch-size c (shown .digits) (shown .few) x (omega (arith, n));
         last-line = total-size c (shown .digits);

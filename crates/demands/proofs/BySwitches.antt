@@ -14,7 +14,7 @@ use Rattle.listing.proofs.RoundTrip.{decode-sound}
 use Rattle.walks.specs.Components.{arcsUsed}
 use Rattle.senders.specs.Senders.{overSwitches, bySwitch}
 use Rattle.senders.proofs.Senders.{held}
-use Rattle.quantity.specs.Quantity.{orderQuantity}
+use Rattle.quantity.specs.Quantity.{withSpare}
 use Rattle.quantity.proofs.Spare.{quantity-sum}
 use Rattle.plan.specs.Plan.{rulesOf, tableOf}
 use Rattle.plan.proofs.Totals.{same-totals, totals}
@@ -38,6 +38,6 @@ module _ (s : List ℕ) (b : Bytes s) (p : Plant) (e : answer (reading s) ≡ gi
       record {
         answers = gives-so (reading s) (λ q. bySwitch (tableOf q)) p e;
         totals = t;
-        spare-on-total = λ spare.
-            omega (arith, ap (λ (n : ℕ). orderQuantity n spare .result) (t .over-switches), quantity-sum (p .switches) (at (bySwitch (tableOf p) .counts)) spare);
+        spare-on-total = λ spare _.
+            omega (arith, ap (λ (n : ℕ). withSpare n spare) (t .over-switches), quantity-sum (p .switches) (at (bySwitch (tableOf p) .counts)) spare);
       }

@@ -19,7 +19,7 @@ use Rattle.listing.specs.Listing.{valueOutOfRange, encode}
 use Rattle.listing.specs.Writing.{bufferShort}
 use Rattle.listing.proofs.SoundLaws.{InRange}
 use Rattle.listing.proofs.ConditionLaws.{value-out-of-range, end-out-of-range, self-link, bytes-remain}
-use Rattle.quantity.specs.Quantity.{maxSpare, orderQuantity}
+use Rattle.quantity.specs.Quantity.{maxSpare, spareAbove}
 use Rattle.plan.specs.Plan.{trailOf}
 use Rattle.planning.specs.Planning.{switchOutOfRange}
 use Rattle.planner.specs.Calls.{placesShort}
@@ -93,13 +93,9 @@ sixteen : (s b : List ℕ) → (bufferShort s b ≡ true) ↔ (length b < length
 unfolding bufferShort
 sixteen s b = less (length b) (length s)
 
-seventeen : (rules spare : ℕ) → (answer (orderQuantity rules spare) ≡ refused 17) ↔ (maxSpare < spare)
-unfolding orderQuantity
-seventeen rules spare = (λ e. go (bool? (ltb maxSpare spare)) e, λ h. rw (lt-ltb maxSpare spare h) refl)
-  where
-    go : (ltb maxSpare spare ≡ true) ⊎ (ltb maxSpare spare ≡ false) → answer (orderQuantity rules spare) ≡ refused 17 → maxSpare < spare
-    go (inl t) e = ltb-true maxSpare spare t
-    go (inr f) e = absurd (given-refused _ 17 (rw f at e))
+seventeen : (spare : ℕ) → (spareAbove spare ≡ true) ↔ (maxSpare < spare)
+unfolding spareAbove
+seventeen spare = less maxSpare spare
 
 nineteen : (k : ℕ) → (consoleOutOfRange k ≡ true) ↔ (3 < k)
 unfolding consoleOutOfRange

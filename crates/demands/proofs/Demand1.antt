@@ -19,8 +19,11 @@ use Rattle.search.specs.declared.Outcome.{Outcome}
 use Rattle.search.specs.Search.{ask, give}
 use Rattle.sheet.specs.Page.{writingPage}
 use Rattle.sheet.specs.Form.{readingPage}
+use Rattle.plan.specs.Plan.{trailOf, roundOf}
 use Rattle.quoting.specs.Quotes.{pricing, quoting}
 use Rattle.planner.specs.Calls.{rewriting, rewritten, rereading, summing, bridging, parting, tabling, counting, laying, trailing, laidOut, roundTrailing, roundLaidOut, buying, boughtOut}
+use Rattle.planner.proofs.Trailing.{trail-kept}
+use Rattle.planner.proofs.Buying.{buying-kept}
 use Rattle.probing.specs.Calls.{runIn, running, checkIn, checking, roundIn, roundRunning, choiceIn, choosing, orderIn, ordering, outwardIn, outgoing, probeIn, probing, nameIn, naming, beginning, performing}
 use Rattle.desk.specs.declared.Held.{Held}
 use Rattle.desk.specs.declared.Held.the-variants.{Nothing, From}
@@ -95,14 +98,14 @@ unfolding rereading
 reread-refused p b n e = answers (writing p b) .refusals n .1 (answers (rereading p b) .refusals n .0 e)
 
 pub untouched : Untouched
-unfolding rewritten laidOut roundLaidOut boughtOut served
+unfolding rewritten served laidOut trailing roundLaidOut roundTrailing
 untouched = record {
   write = buffer-refused;
   rewrite = λ s b. left-kept _ b (answer (rewriting s b));
   reread = λ p b n e. buffer-refused p b n (reread-refused p b n e);
-  lay-trail = λ s b. left-kept _ b (answer (trailing s b));
-  lay-round-trail = λ s b. left-kept _ b (answer (roundTrailing s b));
-  write-buying-page = λ s spare b. left-kept _ b (answer (buying s spare b));
+  lay-trail = trail-kept trailOf;
+  lay-round-trail = trail-kept roundOf;
+  write-buying-page = buying-kept;
   replace-set = λ d s k set. left-kept (withConsole d k) d (answer (serving d k s (newSet set)));
   start-search = λ d s k x. left-kept (withConsole d k) d (answer (serving d k s (start x)));
   give-outcome = λ d s k o. left-kept (withConsole d k) d (answer (serving d k s (outcome o)));

@@ -24,8 +24,8 @@ use Rattle.walks.proofs.Components.{used-arc, used-of, listed-in}
 use Rattle.routes.proofs.Plants.{distance-fewest, by-rule, only-by-rule}
 use Rattle.plan.specs.Plan.{trailOf}
 use Rattle.plan.proofs.Trails.{trails-are, trails-closed}
-use Rattle.planner.specs.Calls.{rewriting, rewritten, rereading, trailLeft, trailing, laidOut}
-use Rattle.planner.proofs.Trailing.{lay-enough, trail-given, left-given}
+use Rattle.planner.specs.Calls.{rewriting, rewritten, rereading, trailing, laidOut}
+use Rattle.planner.proofs.Trailing.{lay-enough, laid-by, trail-given, left-given}
 use Rattle.demands.specs.Demand2.{TrailIs, PlanIs, Demand2}
 use Rattle.demands.proofs.Packets.{run-is, rules-are, injection-is}
 use Rattle.demands.proofs.Components.{components-are}
@@ -77,7 +77,7 @@ demand-2 = record {
   plan = λ s p r. plan-is p (decode-sound s p (r .bytes) (r .read));
   laid = λ s b p e h.
       let r = lay-enough (trailOf p) b h (length (trailOf p)) refl in
-      (sym (r ∙ trail-given trailOf s b p e), sym (ap (trailLeft (trailOf p) b) r ∙ left-given trailOf s b p e));
+      (sym (r ∙ trail-given trailOf s b p e), sym (laid-by (trailOf p) b _ r ∙ left-given trailOf s b p e));
   run = run-is;
   rules = rules-are;
   injection = λ s p r. injection-is p (decode-sound s p (r .bytes) (r .read));

@@ -51,8 +51,8 @@ use Rattle.search.specs.Search.{ended}
 use Rattle.search.specs.Calls.{TrueSending, OneReturns}
 use Rattle.planning.specs.Planning.{planningAt}
 use Rattle.planning.proofs.Plans.{given-at}
-use Rattle.planner.specs.Calls.{trailLeft, roundTrailing, roundLaidOut}
-use Rattle.planner.proofs.Trailing.{lay-short, lay-enough, trail-given, left-given}
+use Rattle.planner.specs.Calls.{roundTrailing, roundLaidOut}
+use Rattle.planner.proofs.Trailing.{lay-short, lay-enough, laid-by, trail-given, left-given}
 use Rattle.probing.specs.Calls.{roundIn, roundRunning, choiceAt, choiceIn, choosing, probeEnd}
 use Rattle.probing.specs.Searches.{actualOutcome, sentOver}
 use Rattle.probing.proofs.Injection.{root-among, ring-at, trail-links, order-links, round-exactly}
@@ -83,7 +83,7 @@ round-trail s bytes p e = record {
   laid = λ b h.
       let r = lay-enough (roundOf p) b (omega (arith, are .number)) (2 * liveLinks p) (sym (are .number)) in (
         sym (r ∙ trail-given roundOf s b p e),
-        sym (ap (trailLeft (roundOf p) b) r ∙ left-given roundOf s b p e) ∙ ap (λ (n : ℕ). roundOf p ++ drop n b) (are .number),
+        sym (laid-by (roundOf p) b _ r ∙ left-given roundOf s b p e) ∙ ap (λ (n : ℕ). roundOf p ++ drop n b) (are .number),
       );
   too-short = λ b h. sym (lay-short (roundOf p) b (omega (arith, are .number)) ∙ trail-given roundOf s b p e);
 }
@@ -193,7 +193,7 @@ module _ (s : List ℕ) (b : Bytes s) (p : Plant) (g : answer (reading s) ≡ gi
   }
 
   chosen : (w v : List ℕ) (c : Choice) → answer (choosing s x w v) ≡ given c → hopsIn w v c ≡ shorterOf (trailWith p x) w₀
-  chosen w v c q = chosen-hops s b x w v (given c) (sym q) c refl ∙ ap (λ (r : Plant). shorterOf (trailWith r x) (roundWith r x)) planned
+  chosen w v c q = chosen-hops s b x w v (given c) (sym q) p c (given-at s x p g h) refl
 
   pub shorter-trail : ShorterTrail s p x
   unfolding choosing choiceIn

@@ -17,7 +17,7 @@ use Rattle.codec.specs.Part.{mapByte, mapMissing, mapUndefined, fieldMissing, f
 use Rattle.codec.specs.Given.{bitAt, SomeGiven, EndsBefore, HoldsAbsent}
 use Rattle.listing.specs.Listing.{valueOutOfRange, endOutOfRange, selfLink, bytesRemain}
 use Rattle.listing.specs.Writing.{bufferShort}
-use Rattle.quantity.specs.Quantity.{maxSpare, orderQuantity}
+use Rattle.quantity.specs.Quantity.{maxSpare, spareAbove}
 use Rattle.plan.specs.Plan.{trailOf}
 use Rattle.planning.specs.Planning.{switchOutOfRange}
 use Rattle.planner.specs.Calls.{placesShort}
@@ -60,7 +60,7 @@ pub record ConditionsAre : Type 0 where
   -- 16: a lent buffer b is shorter than the listing s
   pub sixteen : (s b : List ℕ) → (bufferShort s b ≡ true) ↔ (length b < length s)
   -- 17: the spare is above 100
-  pub seventeen : (rules spare : ℕ) → (answer (orderQuantity rules spare) ≡ refused 17) ↔ (maxSpare < spare)
+  pub seventeen : (spare : ℕ) → (spareAbove spare ≡ true) ↔ (maxSpare < spare)
   -- 18 is `PageForm` and `PageWritten` of order 3, 20 and 21 `Sets` of order 8
   -- 19: "console above 3"
   pub nineteen : (k : ℕ) → (consoleOutOfRange k ≡ true) ↔ (3 < k)

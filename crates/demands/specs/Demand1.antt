@@ -19,8 +19,8 @@ use Rattle.choosing.specs.Choice.{hopsIn}
 use Rattle.order.specs.declared.Span.{Span}
 use Rattle.order.specs.Span.{stretchOf, frontOf}
 use Rattle.packet.specs.Outcome.{outcomeOf}
-use Rattle.allowance.specs.Allowance.{allowance, clipped}
-use Rattle.quantity.specs.Quantity.{maxSpare, orderQuantity}
+use Rattle.allowance.specs.Allowance.{allowance}
+use Rattle.quantity.specs.Quantity.{spareAbove, orderQuantity}
 use Rattle.search.specs.declared.Search.{Search}
 use Rattle.search.specs.declared.Outcome.{Outcome}
 use Rattle.search.specs.Search.{sound, ended, ask, give}
@@ -59,10 +59,10 @@ pub record Demand1 : Type 0 where
   pub lay-trail : (s b : List ℕ) → TriesListing s (λ p. (10, placesShort (trailOf p) b) ∷ []) (answer (trailing s b))
   pub lay-round-trail : (s b : List ℕ) → TriesListing s (λ p. (10, placesShort (roundOf p) b) ∷ []) (answer (roundTrailing s b))
   pub write-buying-page : (s : List ℕ) (spare : ℕ) (b : List ℕ)
-      → TriesListing s (λ p. (17, ltb maxSpare spare) ∷ (18, ltb (length b) (lineColumns * (p .switches + 1))) ∷ []) (answer (buying s spare b))
+      → TriesListing s (λ p. (17, spareAbove spare) ∷ (18, ltb (length b) (lineColumns * (p .switches + 1))) ∷ []) (answer (buying s spare b))
   pub read-buying-page : (page : List ℕ) → Tries ((18, not (formed page)) ∷ []) (answer (readingPage page))
-  pub order-quantity : (rules spare : ℕ) → Tries ((17, ltb maxSpare spare) ∷ []) (answer (orderQuantity rules spare))
-  pub allowance : (n : ℕ) → Tries [] (given (allowance (clipped n)))
+  pub order-quantity : (rules spare : ℕ) → Tries ((17, spareAbove spare) ∷ []) (answer (orderQuantity rules spare))
+  pub allowance : (n : ℕ) → Tries [] (given (allowance n))
   -- calls that are given a listing s and a switch x, with labels, states, a lent trail w, a lent round trail or a search q
   pub run : (s : List ℕ) (x : ℕ) (labels states : List ℕ)
       → TriesListing s (λ p. (11, switchOutOfRange p x) ∷ (13, statesShort (p .count) states) ∷ []) (answer (running s x labels states))

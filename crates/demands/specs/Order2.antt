@@ -12,7 +12,7 @@ use Rattle.walks.specs.Components.{used}
 use Rattle.senders.specs.Senders.{sentBy, pastSenders, bySwitch}
 use Rattle.plan.specs.Plan.{rulesOf, tableOf}
 use Rattle.plan.specs.Totals.{Totals}
-use Rattle.quantity.specs.Quantity.{orderQuantity}
+use Rattle.quantity.specs.Quantity.{maxSpare, withSpare}
 use Rattle.planner.specs.Calls.{counting}
 
 -- for every plant value, sound or not: `tableOf p` is its forwarding table, and `bySwitch` what is answered of it
@@ -27,6 +27,6 @@ pub record BySwitches (s : List ℕ) (p : Plant) : Type 0 where
   pub answers : answer (counting s) ≡ given (bySwitch (tableOf p))
   -- a number for each of the S switches, zeros from S on; the total over the S switches is that over labels, and links plus bridges
   pub totals : Totals p (bySwitch (tableOf p))
-  -- "the spare is still laid on the total, since rounding per switch can give more": it never gives less
-  pub spare-on-total : (spare : ℕ)
-      → orderQuantity (bySwitch (tableOf p) .total) spare .result ≤ sum (p .switches) (λ x. orderQuantity (at (bySwitch (tableOf p) .counts) x) spare .result)
+  -- "the spare is still laid on the total, since rounding per switch can give more": it never gives less, for any spare that is not refused
+  pub spare-on-total : (spare : ℕ) → spare ≤ maxSpare
+      → withSpare (bySwitch (tableOf p) .total) spare ≤ sum (p .switches) (λ x. withSpare (at (bySwitch (tableOf p) .counts) x) spare)

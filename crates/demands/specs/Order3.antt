@@ -30,7 +30,7 @@ pub record PageWritten (s : List ℕ) (p : Plant) (spare : ℕ) (c : Sheet) : Ty
   pub links-twice : sum (p .switches) (at (c .links)) ≡ 2 * liveLinks p
   -- "then all rules and the order quantity"
   pub total : c .total ≡ liveLinks p + bridges p
-  pub quantity : c .quantity ≡ orderQuantity (liveLinks p + bridges p) spare .result
+  pub quantity : answer (orderQuantity (liveLinks p + bridges p) spare) ≡ given (c .quantity)
   -- three digits suffice for each number, so "each line is 32 bytes"
   pub digits : ThreeDigits c
   pub lines : (x : ℕ) → x < p .switches → length (switchLine c x) ≡ lineColumns

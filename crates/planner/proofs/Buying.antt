@@ -1,21 +1,22 @@
 -- The buying page of a listing in a lent buffer, by the answer of reading, and by its counts. Assumes nothing.
-use mathlib.Core.Path.{_≡_, refl, sym, ap, ap₂, _∙_}
+use mathlib.Core.Path.{_≡_, refl, sym, ap, _∙_}
 use mathlib.Core.List.{List, _++_}
 use Prim.Native.Nat.{ℕ, _≤_, _<_}
 use borrow.Author.Tests.{lt-ltb, le-ltb}
 use lib.ListN.{length, drop}
 use Rattle.plant.specs.declared.Plant.{Plant}
 use Rattle.answers.specs.Answers.{Answer, given, refused, _>>=_}
-use Rattle.answers.specs.Checks.{answer}
-use Rattle.answers.proofs.Checks.{then-assoc, then-is, goes-on, stops, came-from, result-given}
+use Rattle.answers.specs.Checks.{answer, leaves}
+use Rattle.answers.proofs.Checks.{then-assoc, then-is, goes-on, stops, came-from}
 use Rattle.codec.specs.Field.{Bytes}
 use Rattle.listing.specs.Listing.{reading}
 use Rattle.listing.proofs.RoundTrip.{decode-sound}
 use Rattle.sheet.specs.declared.Sheet.{Sheet}
 use Rattle.sheet.specs.Page.{buyingPage, pageLength, writingPage, pageLeft}
 use Rattle.sheet.specs.Shown.{Shown}
-use Rattle.quoting.specs.Quotes.{pricing, quoting}
+use Rattle.quoting.specs.Quotes.{pricing, quoting, pageIn, quotedOut}
 use Rattle.quoting.proofs.Counts.{priced-shown}
+use Rattle.quoting.proofs.Quotes.{kept-after}
 use Rattle.planner.specs.Calls.{quotingFor, buying, boughtOut}
 
 module _ (s : List ℕ) (spare : ℕ) (b : List ℕ) where
@@ -24,9 +25,9 @@ module _ (s : List ℕ) (spare : ℕ) (b : List ℕ) where
     unfolding buying
     page-given = sym (goes-on (reading s) (λ q. quoting q spare b) p e)
 
-    pub page-left : pageLeft (pricing p spare .result) b (answer (quoting p spare b)) ≡ boughtOut s spare b
+    pub page-left : quotedOut p spare b ≡ boughtOut s spare b
     unfolding quotingFor boughtOut
-    page-left = ap₂ (λ (q : Plant) (a : Answer ℕ). pageLeft (pricing q spare .result) b a) (sym (result-given (reading s) p e)) page-given
+    page-left = ap (leaves (λ c. pageIn c b) b) (sym (goes-on (reading s) (λ q. pricing q spare) p e))
 
   module _ (n : ℕ) (e : answer (reading s) ≡ refused n) where
     pub page-refused : refused n ≡ answer (buying s spare b)
@@ -34,8 +35,8 @@ module _ (s : List ℕ) (spare : ℕ) (b : List ℕ) where
     page-refused = sym (stops (reading s) (λ q. quoting q spare b) n e)
 
     pub page-kept : b ≡ boughtOut s spare b
-    unfolding boughtOut
-    page-kept = ap (pageLeft (quotingFor s spare .result) b) page-refused
+    unfolding quotingFor boughtOut
+    page-kept = sym (ap (leaves (λ c. pageIn c b) b) (stops (reading s) (λ q. pricing q spare) n e))
 
 -- ---- the counts, and then the page of these
 
@@ -76,10 +77,18 @@ module _ (s : List ℕ) (spare : ℕ) (b : List ℕ) where
     buying-short h = buying-is ∙ rw e (rw (lt-ltb (length b) (pageLength c) h) refl)
 
     module _ (h : pageLength c ≤ length b) where
-      pub buying-given : answer (buying s spare b) ≡ given (pageLength c)
+      page-fits : answer (writingPage c b) ≡ given (pageLength c)
       unfolding writingPage
-      buying-given = buying-is ∙ rw e (rw (le-ltb (length b) (pageLength c) h) refl)
+      page-fits = rw (le-ltb (length b) (pageLength c) h) refl
+
+      pub buying-given : answer (buying s spare b) ≡ given (pageLength c)
+      buying-given = buying-is ∙ rw e page-fits
 
       pub buying-left : boughtOut s spare b ≡ buyingPage c ++ drop (pageLength c) b
       unfolding boughtOut
-      buying-left = ap₂ (λ (d : Sheet) (a : Answer ℕ). pageLeft d b a) (result-given (quotingFor s spare) c e) buying-given
+      buying-left = ap (leaves (λ d. pageIn d b) b) e ∙ ap (pageLeft c b) page-fits
+
+  -- at a refusal of any kind the buffer is as it was
+  pub buying-kept : (n : ℕ) → answer (buying s spare b) ≡ refused n → boughtOut s spare b ≡ b
+  unfolding boughtOut
+  buying-kept n e = kept-after (answer (quotingFor s spare)) (λ c. answer (writingPage c b)) (λ c k. buyingPage c ++ drop k b) b n (sym buying-is ∙ e)

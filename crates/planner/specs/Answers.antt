@@ -5,9 +5,10 @@ use mathlib.Core.List.{List, []}
 use Prim.Native.Nat.{ℕ}
 use lib.ListN.{replicate}
 use Rattle.plant.specs.declared.Plant.{Plant}
-use Rattle.answers.specs.declared.Verdict.the-variants as verdict
 use Rattle.answers.specs.Answers.{Answer, given, refused, numberOf, Beside}
+use Rattle.answers.specs.Checks.{answer}
 use Rattle.limits.specs.Limits.{maxLinks}
+use Rattle.listing.specs.Listing.{reading}
 use Rattle.table.specs.declared.Table.{Table}
 use Rattle.senders.specs.declared.BySwitch.{BySwitch}
 use Rattle.table.specs.Rules.{tableWith}
@@ -33,9 +34,9 @@ Tables a r = Beside (tableWith []) a (r .verdict) (r .table)
 abbrev pub Counts : Answer BySwitch → Counted → Type 0
 Counts a r = Beside noneSent a (r .verdict) (r .rules)
 
--- where they are not refused, what document 02's order 2 says of them
-abbrev pub AddsUp : Plant → Counted → Type 0
-AddsUp p r = r .verdict ≡ verdict.Accepted → Totals p (r .rules)
+-- what document 02's order 2 says of them, for a listing s that is read as a plant p
+abbrev pub AddsUp : List ℕ → Counted → Type 0
+AddsUp s r = (p : Plant) → answer (reading s) ≡ given p → Totals p (r .rules)
 
 -- the bridges; at a refusal no flag is set
 abbrev pub Bridges : Answer (List Bool) → Bridged → Type 0

@@ -6,7 +6,6 @@ use lib.Dec.{ltb}
 use lib.ListN.{length, drop}
 use Rattle.lists.specs.Numbers.{range}
 use Rattle.plant.specs.declared.Plant.{Plant}
-use Rattle.answers.specs.Answers.{Answer}
 use Rattle.answers.specs.Checks.{Checked, check, answer, _then_, _giving_, leaves}
 use Rattle.limits.specs.Limits.{maxLinks}
 use Rattle.listing.specs.Listing.{reading}
@@ -18,8 +17,7 @@ use Rattle.table.specs.declared.Table.{Table}
 use Rattle.senders.specs.declared.BySwitch.{BySwitch}
 use Rattle.senders.specs.Senders.{bySwitch}
 use Rattle.sheet.specs.declared.Sheet.{Sheet}
-use Rattle.sheet.specs.Page.{pageLeft}
-use Rattle.quoting.specs.Quotes.{pricing, quoting}
+use Rattle.quoting.specs.Quotes.{pricing, quoting, pageIn}
 use Rattle.planning.specs.declared.Numbers.{Numbers}
 use Rattle.planning.specs.declared.Components.{Components}
 use Rattle.planning.specs.Components.{componentsOf}
@@ -79,21 +77,22 @@ placesShort w b = ltb (length b) (length w)
 unfoldable pub laying : List ℕ → List ℕ → Checked ℕ
 laying w b = check ((10, placesShort w b) ∷ []) (length w)
 
--- the trail w, then what stood past its end; at a refusal the buffer as it was
-abbrev pub trailLeft : List ℕ → List ℕ → Answer ℕ → List ℕ
-trailLeft w b = leaves (λ n. filledWith w b) b
+-- the trail w in the buffer b, then what stood past its end; at a refusal the buffer as it was
+abbrev pub laidWith : List ℕ → List ℕ → List ℕ
+laidWith w b = leaves (λ n. filledWith w b) b (answer (laying w b))
 
 unfoldable pub trailing : List ℕ → List ℕ → Checked ℕ
 trailing s b = reading s then λ p. laying (trailOf p) b
 
+-- at a refusal of the listing too, the buffer is as it was
 unfoldable pub laidOut : List ℕ → List ℕ → List ℕ
-laidOut s b = trailLeft (trailOf (reading s .result)) b (answer (trailing s b))
+laidOut s b = leaves (λ p. laidWith (trailOf p) b) b (answer (reading s))
 
 unfoldable pub roundTrailing : List ℕ → List ℕ → Checked ℕ
 roundTrailing s b = reading s then λ p. laying (roundOf p) b
 
 unfoldable pub roundLaidOut : List ℕ → List ℕ → List ℕ
-roundLaidOut s b = trailLeft (roundOf (reading s .result)) b (answer (roundTrailing s b))
+roundLaidOut s b = leaves (λ p. laidWith (roundOf p) b) b (answer (reading s))
 
 -- ---- the buying page: 1 to 8, then 17, then 18
 
@@ -107,4 +106,4 @@ buying s spare b = reading s then λ p. quoting p spare b
 
 -- the page, then the bytes that stood past it; at a refusal the buffer as it was
 unfoldable pub boughtOut : List ℕ → ℕ → List ℕ → List ℕ
-boughtOut s spare b = pageLeft (quotingFor s spare .result) b (answer (buying s spare b))
+boughtOut s spare b = leaves (λ c. pageIn c b) b (answer (quotingFor s spare))

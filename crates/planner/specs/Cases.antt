@@ -31,8 +31,8 @@ use Rattle.routes.specs.Trail.{near, nearest, legs, trail}
 use Rattle.plan.specs.Plan.{trailsOf, roundsOf}
 use Rattle.table.specs.Rules.{tableWith, rulesIn}
 use Rattle.senders.specs.Senders.{sentBy, bySwitch}
-use Rattle.allowance.specs.Allowance.{allowance, clipped}
-use Rattle.quantity.specs.Quantity.{orderQuantity}
+use Rattle.allowance.specs.Allowance.{allowance}
+use Rattle.quantity.specs.Quantity.{withSpare, spareAbove, orderQuantity}
 use Rattle.sheet.specs.Page.{writingPage}
 use Rattle.planning.specs.Numbers.{numbersOf}
 use Rattle.planning.specs.declared.Component.{Component}
@@ -198,8 +198,11 @@ abbrev sending : List ℕ → ℕ → Answer (List ℕ)
 sending ns total = given (padded maxSwitches 0 ns ++ (total ∷ []))
 
 abbrev orders : List ℕ → ℕ → Answer (List ℕ) → Row
-orders s spare a =
-    record { got = answer (counting s) >>= λ b. given (orderQuantity (b .total) spare .result ∷ sum maxSwitches (λ x. orderQuantity (at (b .counts) x) spare .result) ∷ []); said = a }
+orders s spare a = record {
+  got = answer (counting s) >>= λ b. answer (orderQuantity (b .total) spare)
+      >>= λ n. given (n ∷ sum maxSwitches (λ x. withSpare (at (b .counts) x) spare) ∷ []);
+  said = a;
+}
 
 -- document 01's example of the program `rules`
 abbrev ringAndTail : List ℕ
@@ -265,14 +268,15 @@ boughtPages =
     ∷ buys ringAndTail 10 160 (given (160 ∷ []))
     ∷ []
 
--- ---- the allowance: 0 of no link and of one. That more links than a plant can have count as the most is our decision, not the documents'
+-- ---- the allowance: 0 of no link and of one. It is that of any number, also of more links than a plant can have
 
 abbrev allows : ℕ → ℕ → Row
-allows n k = record { got = given (allowance (clipped n) ∷ []); said = given (k ∷ []) }
+allows n k = record { got = given (allowance n ∷ []); said = given (k ∷ []) }
 
 abbrev allowances : List Row
 allowances =
-    allows 0 0 ∷ allows 1 0 ∷ allows 2 1 ∷ allows 3 2 ∷ allows 4 2 ∷ allows 5 3 ∷ allows 128 7 ∷ allows 129 8 ∷ allows maxLinks 8 ∷ allows (maxLinks + 1) 8 ∷ allows 65535 8 ∷ []
+    allows 0 0 ∷ allows 1 0 ∷ allows 2 1 ∷ allows 3 2 ∷ allows 4 2 ∷ allows 5 3 ∷ allows 128 7 ∷ allows 129 8 ∷ allows maxLinks 8
+    ∷ allows 257 9 ∷ allows 300 9 ∷ allows 512 9 ∷ allows 513 10 ∷ allows 65535 16 ∷ []
 
 -- ---- the table, and the test
 
@@ -280,5 +284,5 @@ abbrev table : List Row
 table = readings ++ writings ++ markedReadings ++ planned ++ summed ++ parted ++ bySwitches ++ roundTrails ++ boughtPages ++ allowances
 
 as-said : map (λ r. r .got) table ≡ map (λ r. r .said) table
-unfolding plantWith taken valueOf redundant mapMissing mapUndefined fieldMissing fieldRedundant fieldValues afterPart part valueOutOfRange endOutOfRange selfLink bytesRemain soundLink header link links withLinks linked ended reading trail legs nearest near route hops hop dist within sources leastFrom count usedFrom bridge visitFrom arcs others visit scan roundFrom tour walkAt opposite tail head live rootOf begunAt roots used arcsUsed flatten trailsOf roundsOf rulesIn tableWith tabling liveLinks bridges numbersOf summing componentsWith componentAt componentsOf parting sentBy sum bySwitch counting placesShort laying laidOut trailing roundLaidOut roundTrailing linksAt pricing quoting quotingFor writingPage buying allowance orderQuantity isZero plantOutOfRange soundPlant bufferShort headerBytes linkBytes encode partBytes writing
+unfolding plantWith taken valueOf redundant mapMissing mapUndefined fieldMissing fieldRedundant fieldValues afterPart part valueOutOfRange endOutOfRange selfLink bytesRemain soundLink header link links withLinks linked ended reading trail legs nearest near route hops hop dist within sources leastFrom count usedFrom bridge visitFrom arcs others visit scan roundFrom tour walkAt opposite tail head live rootOf begunAt roots used arcsUsed flatten trailsOf roundsOf rulesIn tableWith tabling liveLinks bridges numbersOf summing componentsWith componentAt componentsOf parting sentBy sum bySwitch counting placesShort laying laidOut trailing roundLaidOut roundTrailing linksAt pricing quoting quotingFor writingPage buying allowance orderQuantity spareAbove isZero plantOutOfRange soundPlant bufferShort headerBytes linkBytes encode partBytes writing
 as-said = agreed (λ r. r .got) (λ r. r .said) table refl

@@ -24,7 +24,7 @@ use Rattle.table.specs.Rules.{tableWith, rulesIn}
 use Rattle.search.specs.Search.{newSearch, ask, give}
 use Rattle.search.specs.Calls.{begun}
 use Rattle.search.specs.Cases.{starred as searches}
-use Rattle.quantity.specs.Quantity.{orderQuantity}
+use Rattle.quantity.specs.Quantity.{spareAbove, orderQuantity}
 use Rattle.quantity.specs.Cases.{rows as quantities}
 use Rattle.planner.specs.Calls.{tabling, placesShort, laying, laidOut, trailing}
 
@@ -96,5 +96,5 @@ starred =
     ∷ map as-row (searches ++ quantities)
 
 as-said : map (λ r. r .got) starred ≡ map (λ r. r .said) starred
-unfolding plantWith taken valueOf redundant mapMissing mapUndefined fieldMissing fieldRedundant fieldValues afterPart part valueOutOfRange endOutOfRange selfLink bytesRemain soundLink header link links withLinks linked ended reading trail legs nearest near route hops hop dist within sources leastFrom count usedFrom bridge visitFrom arcs others visit scan tail head live rootOf begunAt roots used flatten trailsOf rulesIn tableWith tabling placesShort laying laidOut trailing begun newSearch ask give orderQuantity
+unfolding plantWith taken valueOf redundant mapMissing mapUndefined fieldMissing fieldRedundant fieldValues afterPart part valueOutOfRange endOutOfRange selfLink bytesRemain soundLink header link links withLinks linked ended reading trail legs nearest near route hops hop dist within sources leastFrom count usedFrom bridge visitFrom arcs others visit scan tail head live rootOf begunAt roots used flatten trailsOf rulesIn tableWith tabling placesShort laying laidOut trailing begun newSearch ask give orderQuantity spareAbove
 as-said = agreed (λ r. r .got) (λ r. r .said) starred refl

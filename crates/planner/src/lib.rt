@@ -20,9 +20,9 @@ ghost use Rattle.listing.specs.Writing.{bufferAfter, writing};
 ghost use Rattle.listing.specs.Listing.{reading};
 ghost use Rattle.listing.specs.Answers.{Reads, writeAnswer};
 ghost use Rattle.quantity.specs.Quantity.{orderQuantity, quantityOf};
-ghost use Rattle.allowance.specs.Allowance.{allowance, clipped};
+ghost use Rattle.allowance.specs.Allowance.{allowance};
 ghost use Rattle.sheet.specs.Form.{readingPage, ReadsPage};
-ghost use Rattle.planner.specs.Calls.{rewriting, rewritten, rereading, tabling, counting, bridging, parting, summing, laying, trailLeft, trailing, laidOut, roundTrailing, roundLaidOut, buying, boughtOut};
+ghost use Rattle.planner.specs.Calls.{rewriting, rewritten, rereading, tabling, counting, bridging, parting, summing, laying, laidWith, trailing, laidOut, roundTrailing, roundLaidOut, buying, boughtOut};
 ghost use Rattle.planner.specs.Answers.{Tables, Counts, AddsUp, Bridges, Splits, summaryAnswer, trailAnswer};
 
 // The forwarding table of a listing. At a refusal it has no rule.
@@ -130,7 +130,7 @@ pub fn forwarding_table(listing: &[u8]) -> Tabled
 // The number of rules of a listing that each switch sends by, and their total over switches: refusals 1 to 8.
 pub fn rules_by_switch(listing: &[u8]) -> Counted
     ensures { λ r. ⌜ Counts (answer (counting (now (listing .entry)))) r ⌝ }
-    ensures { λ r. ⌜ AddsUp (reading (now (listing .entry)) .result) r ⌝ }
+    ensures { λ r. ⌜ AddsUp (now (listing .entry)) r ⌝ }
 {
     let mut t = planning::blank();
     let d = planning::plan(listing, &mut t);
@@ -222,7 +222,7 @@ pub fn summarize(listing: &[u8]) -> Summary
 fn put_trail(x: Parts, t: &[[u8; Plant::PLACES]; Plant::PLACES], buffer: &mut [u16]) -> Trailed
     requires { ⌜ Plan x (now t) ⌝ }
     ensures { λ r. ⌜ trailAnswer r ≡ answer (laying (trailOf (x .plant)) (now (buffer .entry))) ⌝ }
-    ensures { λ _. ⌜ now (buffer .exit) ≡ trailLeft (trailOf (x .plant)) (now (buffer .entry)) (answer (laying (trailOf (x .plant)) (now (buffer .entry)))) ⌝ }
+    ensures { λ _. ⌜ now (buffer .exit) ≡ laidWith (trailOf (x .plant)) (now (buffer .entry)) ⌝ }
 {
     let hops = x.hops;
     let n = hops as usize;
@@ -251,7 +251,7 @@ pub fn lay_trail(listing: &[u8], buffer: &mut [u16]) -> Trailed
 fn put_round(x: Parts, buffer: &mut [u16]) -> Trailed
     requires { ⌜ Charted x ⌝ }
     ensures { λ r. ⌜ trailAnswer r ≡ answer (laying (roundOf (x .plant)) (now (buffer .entry))) ⌝ }
-    ensures { λ _. ⌜ now (buffer .exit) ≡ trailLeft (roundOf (x .plant)) (now (buffer .entry)) (answer (laying (roundOf (x .plant)) (now (buffer .entry)))) ⌝ }
+    ensures { λ _. ⌜ now (buffer .exit) ≡ laidWith (roundOf (x .plant)) (now (buffer .entry)) ⌝ }
 {
     let hops = 2 * arcs::links_in_service(x.plant);
     let places = hops as usize;
@@ -304,9 +304,9 @@ pub fn order_quantity(rules: u16, spare: u8) -> Quantity
     quantity::order_quantity(rules, spare)
 }
 
-// The allowance of a search over so many links; more links than a plant can have count as the most. No refusal.
+// The allowance of a search over so many links: the least k with 2^k at least that number. No refusal.
 pub fn allowance(links: u16) -> u8
-    ensures { λ r. ⌜ r ≡ allowance (clipped links) ⌝ }
+    ensures { λ r. ⌜ r ≡ allowance links ⌝ }
 {
     allowance::allowance(links)
 }

@@ -11,7 +11,7 @@ use Rattle.lists.specs.Tests.{choose}
 use Rattle.plant.specs.declared.Plant.{Plant}
 use Rattle.answers.specs.Answers.{Answer, given}
 use Rattle.answers.specs.Checks.{check, answer}
-use Rattle.answers.proofs.Checks.{refuse-given, given-exactly}
+use Rattle.answers.proofs.Checks.{refuse-given, given-exactly, result-given}
 use Rattle.limits.specs.Sound.{Sound}
 use Rattle.walks.specs.Components.{componentOf, linksWith, used}
 use Rattle.plan.specs.Plan.{trailOf, trailWith, trailBegin}
@@ -84,9 +84,10 @@ module _ (p : Plant) (x m : ℕ) where
 -- the parts of the lent trail that the call names
 pub outward-parts : (s : List ℕ) → Bytes s → (x : ℕ) (w : List ℕ) (q : Search) (a : Answer Span) → a ≡ answer (outgoing s x w q) → OutwardParts s x w q a
 unfolding outgoing outwardIn
-outward-parts s bytes x w q a f b e =
+outward-parts s bytes x w q a f k b h e =
     ap₂ (λ (v : List ℕ) (c : Span). stretchOf v c ++ frontOf v c) (trail-same p w (d .0)) (sym (given-exactly (wantedChecks (linksWith p x) q) (outSpan p x (wanted q)) b .0 (d .1) .1))
     ∙ out-labels p x (wanted q) (u .0) (u .1)
+    ∙ ap (λ (r : Plant). outLabels r x (wanted q)) (result-given (planningAt s x) k h)
   where
     p : Plant
     p = planningAt s x .result

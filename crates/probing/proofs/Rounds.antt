@@ -10,7 +10,7 @@ use Rattle.plant.specs.declared.Plant.{Plant}
 use Rattle.limits.specs.Sound.{Sound}
 use Rattle.answers.specs.Answers.{Answer, given}
 use Rattle.answers.specs.Checks.{answer}
-use Rattle.answers.proofs.Checks.{refuse-given, given-given}
+use Rattle.answers.proofs.Checks.{refuse-given, given-given, result-given}
 use Rattle.codec.specs.Field.{Bytes}
 use Rattle.walks.specs.Components.{componentOf}
 use Rattle.plan.specs.Plan.{trailOf, trailWith, trailBegin, roundOf, roundWith, roundBegin}
@@ -42,9 +42,10 @@ shorter-hops w v lent round i j e f = go (ltb (length v) (length w))
 
 pub chosen-hops : (s : List ℕ) → Bytes s → (x : ℕ) (w v : List ℕ) (a : Answer Choice) → a ≡ answer (choosing s x w v) → ChosenHops s x w v a
 unfolding choosing choiceIn
-chosen-hops s bytes x w v a f c e =
+chosen-hops s bytes x w v a f k c h e =
     ap (hopsIn w v) (sym (given-given (choiceAt p x) c (g .1)))
     ∙ shorter-hops (trailWith p x) (roundWith p x) w v (trailBegin p (componentOf p x)) (roundBegin p (componentOf p x)) (trail-stands p (u .0) x (u .1) w (d .0)) (round-stands p (u .0) x (u .1) v (g .0))
+    ∙ ap (λ (r : Plant). shorterOf (trailWith r x) (roundWith r x)) (result-given (planningAt s x) k h)
   where
     p : Plant
     p = planningAt s x .result

@@ -12,7 +12,7 @@ use Rattle.plant.specs.declared.Plant.{Plant}
 use Rattle.limits.specs.Sound.{Sound}
 use Rattle.answers.specs.Answers.{Answer, given, refused}
 use Rattle.answers.specs.Checks.{answer}
-use Rattle.answers.proofs.Checks.{gives-so, given-given, result-given}
+use Rattle.answers.proofs.Checks.{gives-so, given-given}
 use Rattle.walks.specs.Components.{linksWith}
 use Rattle.plan.specs.Plan.{trailWith}
 use Rattle.rings.specs.Rules.{upBy}
@@ -116,9 +116,9 @@ module _ (p : Plant) (ok : Sound p) (x : ℕ) (x-in : x < p .switches) where
 module _ (s : List ℕ) (x : ℕ) (cs : List Call) where
   pub performs : (p : Plant) → answer (planningAt s x) ≡ given p → Sound p → (a : Answer Progress) → a ≡ answer (performing s x cs) → Performs s x cs a
   unfolding performing performedIn
-  performs p g ok a f r e =
+  performs p g ok a f k r h e =
       let q = given-given _ r (sym (gives-so (planningAt s x) (performedIn x cs) p g) ∙ sym f ∙ e) in
-      rw (result-given (planningAt s x) p g) (subst (Searches p x cs) q (searches p ok x (at-given s x p g .1) cs))
+      subst (λ (u : Plant). Searches u x cs r) (given-given p k (sym g ∙ h)) (subst (Searches p x cs) q (searches p ok x (at-given s x p g .1) cs))
 
   pub performs-none : (a : Answer Progress) (k : ℕ) → a ≡ refused k → Performs s x cs a
-  performs-none a k f r e = let z : _≡_ {A = ℕ} 0 1 = cc in absurd (omega arith)
+  performs-none a k f p r h e = let z : _≡_ {A = ℕ} 0 1 = cc in absurd (omega arith)

@@ -9,7 +9,7 @@ use lib.ListN.{length}
 use Rattle.lists.specs.Tests.{choose}
 use Rattle.plant.specs.declared.Plant.{Plant}
 use Rattle.answers.specs.Answers.{Answer, given}
-use Rattle.answers.specs.Checks.{Checked, check, _then_, _giving_}
+use Rattle.answers.specs.Checks.{Checked, check, answer, _then_, _giving_}
 use Rattle.walks.specs.Arcs.{head}
 use Rattle.walks.specs.Components.{componentOf, linksWith, used}
 use Rattle.plan.specs.Plan.{trailOf, trailWith, trailBegin, roundOf, roundWith, roundBegin, inTable}
@@ -78,9 +78,11 @@ choiceIn x w v p = check {A = Unit} ((12, hopsDiffer (trailOf p) w) ∷ []) tt t
 unfoldable pub choosing : List ℕ → ℕ → List ℕ → List ℕ → Checked Choice
 choosing s x w v = planningAt s x then choiceIn x w v
 
--- the part of the lent trails w and v at the choice that is answered is the trail or the round trail of the component, whichever has fewer hops, and no spare place
+-- of the plant that was read: the part of the lent trails w and v at the choice that is answered is the trail or the round trail of the
+-- component, whichever has fewer hops, and no spare place
 abbrev pub ChosenHops : List ℕ → ℕ → List ℕ → List ℕ → Answer Choice → Type 0
-ChosenHops s x w v a = let p = planningAt s x .result in (c : Choice) → a ≡ given c → hopsIn w v c ≡ shorterOf (trailWith p x) (roundWith p x)
+ChosenHops s x w v a =
+    (p : Plant) (c : Choice) → answer (planningAt s x) ≡ given p → a ≡ given c → hopsIn w v c ≡ shorterOf (trailWith p x) (roundWith p x)
 
 -- ---- the order of links: 1 to 8, 11, 12
 
@@ -110,9 +112,11 @@ outwardIn x w q p = check ((12, trailDiffers p w) ∷ wantedChecks (linksWith p 
 unfoldable pub outgoing : List ℕ → ℕ → List ℕ → Search → Checked Span
 outgoing s x w q = planningAt s x then outwardIn x w q
 
--- the two parts of the lent trail w at the bounds that are answered, one after the other, are the outward labels of the probe wanted
+-- of the plant that was read: the two parts of the lent trail w at the bounds that are answered, one after the other, are the outward
+-- labels of the probe wanted
 abbrev pub OutwardParts : List ℕ → ℕ → List ℕ → Search → Answer Span → Type 0
-OutwardParts s x w q a = (b : Span) → a ≡ given b → stretchOf w b ++ frontOf w b ≡ outLabels (planningAt s x .result) x (wanted q)
+OutwardParts s x w q a =
+    (p : Plant) (b : Span) → answer (planningAt s x) ≡ given p → a ≡ given b → stretchOf w b ++ frontOf w b ≡ outLabels p x (wanted q)
 
 -- ---- the run of the probe wanted: 1 to 8, 11, 12, 13, 14, 15
 

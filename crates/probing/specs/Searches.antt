@@ -99,6 +99,6 @@ pub record Searches (p : Plant) (x : ℕ) (cs : List Call) (r : Progress) : Type
   -- All up is right by the first premise alone
   pub up-right : (states : List ℕ) → AllTrue p x states cs → r .state ≡ AllUp → NoneBroken p x states
 
--- so it is of what `perform` answers, for a listing s
+-- so it is of what `perform` answers, for a listing s that is read as a plant p with the switch x
 abbrev pub Performs : List ℕ → ℕ → List Call → Answer Progress → Type 0
-Performs s x cs a = (r : Progress) → a ≡ given r → Searches (planningAt s x .result) x cs r
+Performs s x cs a = (p : Plant) (r : Progress) → answer (planningAt s x) ≡ given p → a ≡ given r → Searches p x cs r

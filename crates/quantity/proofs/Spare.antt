@@ -5,7 +5,7 @@ use native.Mathlib.Omega.{arith}
 use native.Mathlib.Nat.{mul-le-mul-left, add-mul}
 use Rattle.lists.specs.Sum.{sum}
 use Rattle.lists.proofs.Sum.{sum-plus}
-use Rattle.quantity.specs.Quantity.{maxSpare, spare, orderQuantity}
+use Rattle.quantity.specs.Quantity.{maxSpare, spare, withSpare}
 
 module _ (a p : ℕ) where
   pub spare-enough : a * p ≤ 100 * spare a p
@@ -28,7 +28,6 @@ unfolding sum
 spare-sum zero f p = omega arith
 spare-sum (suc n) f p = omega (arith, spare-two (f n) (sum n f) p, spare-sum n f p)
 
--- so is the order quantity
-pub quantity-sum : (n : ℕ) (f : ℕ → ℕ) (p : ℕ) → orderQuantity (sum n f) p .result ≤ sum n (λ k. orderQuantity (f k) p .result)
-unfolding orderQuantity
+-- so are the rules with their spare
+pub quantity-sum : (n : ℕ) (f : ℕ → ℕ) (p : ℕ) → withSpare (sum n f) p ≤ sum n (λ k. withSpare (f k) p)
 quantity-sum n f p = omega (arith, spare-sum n f p, sum-plus n f (λ k. spare (f k) p))

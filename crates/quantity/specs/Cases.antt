@@ -4,7 +4,7 @@ use mathlib.Core.List.{List, [], _∷_, map}
 use Prim.Native.Nat.{ℕ}
 use Rattle.answers.specs.Answers.{Answer, given, refused, _>>=_}
 use Rattle.answers.specs.Checks.{answer}
-use Rattle.quantity.specs.Quantity.{orderQuantity}
+use Rattle.quantity.specs.Quantity.{spareAbove, orderQuantity}
 
 abbrev pub asked : ℕ → ℕ → Answer (List ℕ)
 asked a p = answer (orderQuantity a p) >>= λ n. given (n ∷ [])
@@ -14,5 +14,5 @@ rows = (asked 5 10, given (6 ∷ [])) ∷ (asked 5 0, given (5 ∷ [])) ∷ (ask
 
 -- one test over the rows
 right : map (λ r. r .0) rows ≡ map (λ r. r .1) rows
-unfolding orderQuantity
+unfolding orderQuantity spareAbove
 right = refl

@@ -24,7 +24,7 @@ use Rattle.walks.specs.Graph.{liveLinks, linksAt}
 use Rattle.walks.proofs.Limits.{few-used}
 use Rattle.walks.proofs.LinksAt.{links-most, links-none}
 use Rattle.senders.specs.Senders.{rulesHeld, sentBy, bySwitch}
-use Rattle.quantity.specs.Quantity.{maxSpare, orderQuantity}
+use Rattle.quantity.specs.Quantity.{maxSpare, spareAbove, orderQuantity}
 use Rattle.quantity.proofs.Spare.{product-most}
 use Rattle.plan.specs.Plan.{tableOf}
 use Rattle.plan.specs.Totals.{Totals}
@@ -39,7 +39,7 @@ term-most f n x h = omega (arith, sum-next f x, sum-more f (x + 1) n (omega arit
 
 -- the order quantity for a rules is at most twice that
 quantity-most : (a spare n : ℕ) → answer (orderQuantity a spare) ≡ given n → n ≤ 2 * a
-unfolding orderQuantity
+unfolding orderQuantity spareAbove
 quantity-most a spare n e =
     let g = given-exactly (orderQuantity a spare .checks) (orderQuantity a spare .result) n .0 e in
     omega (arith, g .1, product-most a spare (ltb-false maxSpare spare (g .0 .0)))

@@ -3,21 +3,31 @@ use mathlib.Core.Path.{_≡_, refl, sym, ap, _∙_, subst}
 use mathlib.Core.List.{List, [], _∷_, _++_}
 use Prim.Native.Nat.{ℕ, _+_, _*_, _≤_}
 use native.Mathlib.Omega.{arith}
-use borrow.Author.Tests.{ltb-false}
+use borrow.Author.Tests.{le-ltb, ltb-false}
 use lib.Dec.{ltb}
 use lib.ListN.{length, drop}
 use Rattle.answers.specs.declared.Refusal.{Refusal}
 use Rattle.answers.specs.declared.Verdict.{Verdict}
 use Rattle.answers.specs.declared.Verdict.the-variants as verdict
-use Rattle.answers.specs.Answers.{given, refused, numberOf, firstOf, valueOr, Beside}
-use Rattle.answers.specs.Checks.{Conditions, NoneHolds, trying, Judges, answer}
-use Rattle.answers.proofs.Checks.{none-append, none-trying, none-judged, passed, turned-down, first-judges}
+use Rattle.answers.specs.Answers.{Answer, given, refused, _>>=_, numberOf, firstOf, valueOr, Beside}
+use Rattle.answers.specs.Checks.{Conditions, NoneHolds, trying, Judges, answer, leaves}
+use Rattle.answers.proofs.Checks.{none-append, none-trying, none-judged, passed, turned-down, first-judges, then-is, left-kept}
 use Rattle.answers.proofs.Beside.{beside-judges}
 use Rattle.plant.specs.declared.Plant.{Plant}
 use Rattle.sheet.specs.declared.Sheet.{Sheet}
 use Rattle.sheet.specs.Columns.{lineColumns}
 use Rattle.sheet.specs.Page.{buyingPage, pageLength, writingPage, pageLeft, noCounts}
-use Rattle.quoting.specs.Quotes.{pricing, quoting}
+use Rattle.quoting.specs.Quotes.{pricing, quoting, pageIn, quotedOut}
+
+-- where an answer or what follows it is a refusal, what is lent is left as it was
+pub kept-after : {A B C : Type 0} (a : Answer A) (f : A → Answer B) (g : A → B → C) (b : C) (n : ℕ) → (a >>= f) ≡ refused n → leaves (λ x. leaves (g x) b (f x)) b a ≡ b
+kept-after (given x) f g b n e = left-kept (g x) b (f x) n e
+kept-after (refused m) f g b n e = refl
+
+-- at a refusal the buffer is as it was
+pub out-kept : (p : Plant) (spare : ℕ) (b : List ℕ) (n : ℕ) → answer (quoting p spare b) ≡ refused n → quotedOut p spare b ≡ b
+unfolding quoting
+out-kept p spare b n e = kept-after (answer (pricing p spare)) (λ c. answer (writingPage c b)) (λ c k. buyingPage c ++ drop k b) b n (sym (then-is (pricing p spare) (λ c. writingPage c b)) ∙ e)
 
 module _ (p : Plant) (spare : ℕ) (b : List ℕ) where
   -- the counts, and the conditions of the two refusals
@@ -59,15 +69,17 @@ module _ (p : Plant) (spare : ℕ) (b : List ℕ) where
       pub quote-given : given n ≡ answer (quoting p spare b)
       quote-given = ap given long ∙ sym (quote-is ∙ passed (pricing p spare .checks ++ roomChecks) u judged (given (lineColumns * (p .switches + 1))) a)
 
-      pub quote-left : buyingPage x ++ drop (pageLength x) b ≡ pageLeft s b (answer (quoting p spare b))
-      quote-left =
-          ap (λ (y : Sheet). buyingPage y ++ drop (pageLength y) b) counts
-          ∙ ap (λ (k : ℕ). buyingPage s ++ drop k b) (quote-length ∙ sym long)
-          ∙ ap (pageLeft s b) quote-given
+      -- the page fits
+      page-given : answer (writingPage x b) ≡ given (pageLength x)
+      unfolding writingPage
+      page-given = rw (le-ltb (length b) (pageLength x) room-enough) refl
+
+      pub quote-left : buyingPage x ++ drop (pageLength x) b ≡ quotedOut p spare b
+      quote-left = sym (ap (leaves (λ c. pageIn c b) b) priced ∙ ap (pageLeft x b) page-given)
 
     module _ (k : Refusal) (a : u ≡ verdict.Refused k) where
       pub quote-refused : refused (numberOf k) ≡ answer (quoting p spare b)
       quote-refused = sym (quote-is ∙ turned-down (pricing p spare .checks ++ roomChecks) u judged (given (lineColumns * (p .switches + 1))) k a)
 
-      pub quote-kept : b ≡ pageLeft s b (answer (quoting p spare b))
-      quote-kept = ap (pageLeft s b) quote-refused
+      pub quote-kept : b ≡ quotedOut p spare b
+      quote-kept = sym (out-kept p spare b (numberOf k) (sym quote-refused))

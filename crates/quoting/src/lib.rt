@@ -13,9 +13,8 @@ ghost use mathlib.Core.Path.{_≡_};
 ghost use Rattle.answers.specs.Checks.{answer};
 ghost use Rattle.limits.specs.Sound.{Sound};
 ghost use Rattle.listing.specs.Answers.{writeAnswer};
-ghost use Rattle.sheet.specs.Page.{pageLeft};
 ghost use Rattle.planning.specs.Plans.{Charted};
-ghost use Rattle.quoting.specs.Quotes.{sheetWith, pricing, quoting, Prices};
+ghost use Rattle.quoting.specs.Quotes.{sheetWith, pricing, quoting, quotedOut, Prices};
 
 // The counts of a plan. At a refusal every number is zero.
 pub struct Priced {
@@ -68,7 +67,7 @@ pub fn price(x: Parts, spare: u8) -> Priced
 pub fn put_page(x: Parts, spare: u8, buffer: &mut [u8]) -> Written
     requires { ⌜ Charted x ⌝ }
     ensures { λ r. ⌜ writeAnswer r ≡ answer (quoting (x .plant) spare (now (buffer .entry))) ⌝ }
-    ensures { λ _. ⌜ now (buffer .exit) ≡ pageLeft (pricing (x .plant) spare .result) (now (buffer .entry)) (answer (quoting (x .plant) spare (now (buffer .entry)))) ⌝ }
+    ensures { λ _. ⌜ now (buffer .exit) ≡ quotedOut (x .plant) spare (now (buffer .entry)) ⌝ }
 {
     let priced = price(x, spare);
     let spared = priced.verdict;

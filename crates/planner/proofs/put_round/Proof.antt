@@ -5,8 +5,7 @@ use native.Mathlib.Omega.{arith}
 use lib.ListN.{length}
 use Rattle.plan.specs.Plan.{roundOf}
 use Rattle.plan.proofs.Rounds.{rounds-are}
-use Rattle.planner.specs.Calls.{trailLeft}
-use Rattle.planner.proofs.Trailing.{lay-short, lay-enough}
+use Rattle.planner.proofs.Trailing.{lay-short, lay-enough, laid-by}
 use borrow.Author.Needs.{needs}
 use Rattle.planner.proofs.put_round.Statement.{statement}
 use Rattle.planner.proofs.put_round.Tie as tie
@@ -26,7 +25,7 @@ returns c =
     let b = s .args .buffer .now in
     let h : length b < length w = omega (arith, c .if1 .taken, hops-are e) in
     let r = lay-short w b h in
-    (r, ap (trailLeft w b) r)
+    (r, laid-by w b _ r)
 
 lay-round-requires : tie.Need-lay-round-requires
 lay-round-requires c κs =
@@ -44,7 +43,7 @@ returns-2 c =
     let b = s .args .buffer .now in
     let h : length w ≤ length b = omega (arith, i .if1 .left, hops-are e) in
     let r = lay-enough w b h _ (hops-are e) in
-    (r, l .lay-round .ensures ∙ ap (trailLeft w b) r)
+    (r, l .lay-round .ensures ∙ laid-by w b _ r)
 
 pub put-round-spec : {M : Type 1} → statement M
 put-round-spec =

@@ -1,11 +1,10 @@
 -- `planner::put_trail` meets its contract. Assumes nothing.
-use mathlib.Core.Path.{ap, _∙_}
+use mathlib.Core.Path.{_∙_}
 use Prim.Native.Nat.{_≤_, _<_}
 use native.Mathlib.Omega.{arith}
 use lib.ListN.{length}
 use Rattle.plan.specs.Plan.{trailOf}
-use Rattle.planner.specs.Calls.{trailLeft}
-use Rattle.planner.proofs.Trailing.{lay-short, lay-enough}
+use Rattle.planner.proofs.Trailing.{lay-short, lay-enough, laid-by}
 use borrow.Author.Needs.{needs}
 use Rattle.planner.proofs.put_trail.Statement.{statement}
 use Rattle.planner.proofs.put_trail.Tie as tie
@@ -17,7 +16,7 @@ returns c =
     let b = s .args .buffer .now in
     let h : length b < length (trailOf p) = omega (arith, c .if1 .taken, s .pre .measured .hops-are) in
     let r = lay-short (trailOf p) b h in
-    (r, ap (trailLeft (trailOf p) b) r)
+    (r, laid-by (trailOf p) b _ r)
 
 lay-requires : tie.Need-lay-requires
 lay-requires c κs =
@@ -33,7 +32,7 @@ returns-2 c =
     let b = s .args .buffer .now in
     let h : length (trailOf p) ≤ length b = omega (arith, i .if1 .left, s .pre .measured .hops-are) in
     let r = lay-enough (trailOf p) b h _ (s .pre .measured .hops-are) in
-    (r, l .lay .ensures ∙ ap (trailLeft (trailOf p) b) r)
+    (r, l .lay .ensures ∙ laid-by (trailOf p) b _ r)
 
 pub put-trail-spec : {M : Type 1} → statement M
 put-trail-spec = tie.close (tie.spec (λ c. search needs) returns lay-requires (λ c. search needs) returns-2)

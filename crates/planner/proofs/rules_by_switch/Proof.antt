@@ -6,7 +6,7 @@ use borrow.Author.Needs.{needs}
 use Rattle.plant.specs.declared.Plant.{Plant}
 use Rattle.answers.specs.Answers.{given}
 use Rattle.answers.specs.Checks.{answer}
-use Rattle.answers.proofs.Checks.{given-refused, result-given}
+use Rattle.answers.proofs.Checks.{given-refused, given-given}
 use Rattle.answers.proofs.Beside.{beside-given, beside-refused, accepted, was-refused, on-giving, off-giving}
 use Rattle.senders.specs.declared.BySwitch.{BySwitch}
 use Rattle.senders.specs.Senders.{bySwitch}
@@ -22,9 +22,10 @@ use Rattle.planner.proofs.rules_by_switch.Statement.{statement}
 use Rattle.planner.proofs.rules_by_switch.Tie as tie
 
 -- what is found of the plant that was planned adds up
-adds-up : (s : List ℕ) (x : Parts) (b : BySwitch) → answer (reading s) ≡ given (x .plant) → Charted x → b ≡ bySwitch (tableOf (x .plant)) → Totals (reading s .result) b
-adds-up s x b e f q =
-    subst (λ (p : Plant). Totals p b) (sym (result-given (reading s) (x .plant) e)) (subst (Totals (x .plant)) (sym q) (totals (x .plant) (f .sound)))
+adds-up : (s : List ℕ) (x : Parts) (b : BySwitch) → answer (reading s) ≡ given (x .plant) → Charted x → b ≡ bySwitch (tableOf (x .plant))
+    → (p : Plant) → answer (reading s) ≡ given p → Totals p b
+adds-up s x b e f q p g =
+    subst (λ (k : Plant). Totals k b) (given-given (x .plant) p (sym e ∙ g)) (subst (Totals (x .plant)) (sym q) (totals (x .plant) (f .sound)))
 
 table-of-requires : tie.Need-table-of-requires
 table-of-requires c κs = c .before .before .plan .ensures .1 (c .enum-told .given .1) .laying .charted
@@ -42,15 +43,18 @@ returns c =
     let e = m .enum-told .given .1 in
     let q = c .by-switch .ensures ∙ ap bySwitch (c .before .table-of .ensures) in (
       beside-given _ _ _ _ refl (sym (on-giving _ (reading _) _ _ (r .0) (λ p. bySwitch (tableOf p)) _ e q)),
-      λ _. adds-up _ _ _ (accepted _ _ _ _ (r .0) e) (r .1 e .laying .charted) q,
+      adds-up _ _ _ (accepted _ _ _ _ (r .0) e) (r .1 e .laying .charted) q,
     )
 
 returns-2 : tie.Need-returns-2
 unfolding tabling counting
 returns-2 c =
     let m = c .before .before in
-    let b = beside-refused _ _ _ _ _ refl (c .none .ensures) (sym (off-giving _ (reading _) _ _ (m .before .before .plan .ensures .0) (λ p. bySwitch (tableOf p)) _ (m .v .given .1))) in
-    (b, λ e. absurd (given-refused _ _ (sym (accepted _ _ _ _ b e) ∙ was-refused _ _ _ _ b _ refl)))
+    let r = m .before .before .plan .ensures .0 in
+    let e = m .v .given .1 in (
+      beside-refused _ _ _ _ _ refl (c .none .ensures) (sym (off-giving _ (reading _) _ _ r (λ p. bySwitch (tableOf p)) _ e)),
+      λ p g. absurd (given-refused _ _ (sym g ∙ was-refused _ _ _ _ r _ e)),
+    )
 
 pub rules-by-switch-spec : {M : Type 1} → statement M
 rules-by-switch-spec =
