@@ -3,17 +3,19 @@ use mathlib.Core.Path.{_≡_, refl, sym, ap, _∙_, subst}
 use mathlib.Core.Logic.{_⊎_, inl, inr, _↔_}
 use mathlib.Core.Bool.{Bool, true, false, not, _&&_}
 use mathlib.Core.List.{List, [], _∷_, _++_}
-use Prim.Native.Nat.{ℕ, _≤_, _<_}
+use Prim.Native.Nat.{ℕ, zero, suc, _+_, _*_, _/_, _%_, _^_, _≤_, _<_}
+use native.Mathlib.Nat.{div-one, div-div-eq-div-mul, pow-succ'}
 use native.Mathlib.Omega.{arith}
-use borrow.Author.Tests.{lt-ltb, ltb-true, le-leb, leb-true, eq-eqb}
+use borrow.Author.Tests.{lt-ltb, ltb-true, le-leb, leb-true, eq-eqb, eqb-true}
 use lib.Dec.{leb, ltb}
 use lib.ListN.{length, take, drop, take-append-drop}
-use Rattle.lists.proofs.Tests.{bool?, not-both, true-exactly}
+use Rattle.lists.proofs.Tests.{bool?, not-both, not-true-false, true-exactly}
 use Rattle.answers.specs.Answers.{given, refused}
 use Rattle.answers.specs.Checks.{answer}
 use Rattle.answers.proofs.Checks.{given-refused}
 use Rattle.plant.specs.declared.Plant.{Plant}
 use Rattle.limits.specs.Limits.{maxSwitches, maxLinks}
+use Rattle.codec.specs.Given.{bitAt}
 use Rattle.codec.proofs.ConditionLaws.{map-missing, map-undefined, field-missing, field-redundant}
 use Rattle.listing.specs.Listing.{valueOutOfRange, encode}
 use Rattle.listing.specs.Writing.{bufferShort}
@@ -30,6 +32,13 @@ use Rattle.search.specs.Sound.{Good}
 use Rattle.judging.specs.Conditions.{trailDiffers, hopsDiffer, statesShort, searchUnsound}
 use Rattle.judging.proofs.Lent.{trail-same, trail-own, hops-begin, hops-own}
 use Rattle.judging.proofs.Searching.{good-here}
+use Rattle.sheet.specs.declared.Sheet.{Sheet}
+use Rattle.sheet.specs.Page.{buyingPage, pageShort}
+use Rattle.sheet.specs.Form.{formed, countsIn}
+use Rattle.sheet.specs.Shown.{Shown}
+use Rattle.sheet.proofs.RoundTrip.{written-formed, read-shown, written-again}
+use Rattle.desk.specs.Console.{has, setOutOfRange, notBelow, outsideSet}
+use Rattle.desk.proofs.Sets.{beyond-is}
 use Rattle.consoles.specs.Calls.{consoleOutOfRange}
 use Rattle.demands.specs.Conditions.{ConditionsAre}
 
@@ -53,6 +62,10 @@ ten w b = less (length b) (length w)
 eleven : (p : Plant) (x : ℕ) → (switchOutOfRange p x ≡ true) ↔ (p .switches ≤ x)
 unfolding switchOutOfRange
 eleven p x = most (p .switches) x
+
+eleven-console : (p : Plant) (x : ℕ) → notBelow (p .switches) x ≡ switchOutOfRange p x
+unfolding switchOutOfRange
+eleven-console p x = refl
 
 twelve : (p : Plant) (lent : List ℕ) → (trailDiffers p lent ≡ true) ↔ (lent ≡ trailOf p → ⊥)
 twelve p lent = true-exactly (trailDiffers p lent) (trail-same p lent, λ e. subst (λ (w : List ℕ). trailDiffers p w ≡ false) (sym e) (trail-own p))
@@ -101,9 +114,39 @@ seventeen rules spare = (λ e. go (bool? (ltb maxSpare spare)) e, λ h. rw (lt-l
     go (inl t) e = ltb-true maxSpare spare t
     go (inr f) e = absurd (given-refused _ 17 (rw f at e))
 
+eighteen-read : (b : List ℕ) → (formed b ≡ false) ↔ ((c : Sheet) × Shown c × (buyingPage c ≡ b) → ⊥)
+eighteen-read b = (
+  λ f w. not-both (formed b) (ap formed (sym (w .2)) ∙ written-formed (w .0) (w .1)) f,
+  λ n. not-true-false (formed b) (λ t. n (countsIn b, read-shown b t, written-again b t)),
+)
+
 nineteen : (k : ℕ) → (consoleOutOfRange k ≡ true) ↔ (3 < k)
 unfolding consoleOutOfRange
 nineteen k = less 3 k
+
+-- the bits of a set
+has-bit : (set x : ℕ) → set / 2 ^ x % 2 ≡ bitAt set x
+has-bit set zero = ap (λ (n : ℕ). n % 2) (div-one set)
+has-bit set (suc x) = ap (λ (n : ℕ). n % 2) (ap (λ (d : ℕ). set / d) (pow-succ' 2 x) ∙ sym (div-div-eq-div-mul set 2 (2 ^ x))) ∙ has-bit (set / 2) x
+
+in-set : (set x : ℕ) → (has set x ≡ true) ↔ (bitAt set x ≡ 1)
+in-set set x = (λ t. sym (has-bit set x) ∙ eqb-true (set / 2 ^ x % 2) 1 t, λ e. eq-eqb (set / 2 ^ x % 2) 1 (has-bit set x ∙ e))
+
+twenty : (s set : ℕ) → (setOutOfRange s set ≡ true) ↔ ((x : ℕ) × (s ≤ x) × (bitAt set x ≡ 1))
+twenty s set = (
+  λ t. let b = beyond-is s set .0 t in (b .0, b .1, in-set set (b .0) .0 (b .2)),
+  λ b. beyond-is s set .1 (b .0, b .1, in-set set (b .0) .1 (b .2)),
+)
+
+outside : (b : Bool) → (not b ≡ true) ↔ (b ≡ true → ⊥)
+outside true = (λ e. absurd (not-both false e refl), λ n. absurd (n refl))
+outside false = (λ e t. not-both false t refl, λ n. refl)
+
+twenty-one : (set x : ℕ) → (outsideSet set x ≡ true) ↔ (bitAt set x ≡ 1 → ⊥)
+twenty-one set x = (
+  λ t e. outside (has set x) .0 t (in-set set x .1 e),
+  λ n. outside (has set x) .1 (λ t. n (in-set set x .0 t)),
+)
 
 pub conditions-are : ConditionsAre
 conditions-are = record {
@@ -117,6 +160,7 @@ conditions-are = record {
   eight = bytes-remain;
   ten = ten;
   eleven = eleven;
+  eleven-console = eleven-console;
   twelve = twelve;
   twelve-hops = twelve-hops;
   thirteen = thirteen;
@@ -124,5 +168,9 @@ conditions-are = record {
   fifteen = fifteen;
   sixteen = sixteen;
   seventeen = seventeen;
+  eighteen-written = λ c b. less (length b) (32 * (c .switches + 1));
+  eighteen-read = eighteen-read;
   nineteen = nineteen;
+  twenty = twenty;
+  twenty-one = twenty-one;
 }

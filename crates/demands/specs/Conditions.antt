@@ -4,7 +4,7 @@ use mathlib.Core.Path.{_≡_}
 use mathlib.Core.Logic.{_⊎_, _↔_}
 use mathlib.Core.Bool.{Bool, true, false, not, _||_}
 use mathlib.Core.List.{List, [], _∷_, _++_}
-use Prim.Native.Nat.{ℕ, _^_, _≤_, _<_}
+use Prim.Native.Nat.{ℕ, _+_, _*_, _^_, _≤_, _<_}
 use lib.ListN.{length, drop}
 use Rattle.lists.specs.Members.{Each}
 use Rattle.answers.specs.Answers.{given, refused}
@@ -26,6 +26,11 @@ use Rattle.search.specs.declared.Search.the-variants.{AllUp, Down}
 use Rattle.search.specs.Search.{ended}
 use Rattle.search.specs.Sound.{Good}
 use Rattle.judging.specs.Conditions.{trailDiffers, hopsDiffer, statesShort, searchUnsound}
+use Rattle.sheet.specs.declared.Sheet.{Sheet}
+use Rattle.sheet.specs.Page.{buyingPage, pageShort}
+use Rattle.sheet.specs.Form.{formed}
+use Rattle.sheet.specs.Shown.{Shown}
+use Rattle.desk.specs.Console.{setOutOfRange, notBelow, outsideSet}
 use Rattle.consoles.specs.Calls.{consoleOutOfRange}
 
 pub record ConditionsAre : Type 0 where
@@ -46,8 +51,9 @@ pub record ConditionsAre : Type 0 where
   pub eight : (s : List ℕ) → (bytesRemain s ≡ true) ↔ (s ≡ [] → ⊥)
   -- 10: a lent buffer b has fewer places than the trail w has hops
   pub ten : (w b : List ℕ) → (placesShort w b ≡ true) ↔ (length b < length w)
-  -- 11: a named switch is not below S
+  -- 11: a named switch is not below S; so it is in the calls of a console, which go by S alone
   pub eleven : (p : Plant) (x : ℕ) → (switchOutOfRange p x ≡ true) ↔ (p .switches ≤ x)
+  pub eleven-console : (p : Plant) (x : ℕ) → notBelow (p .switches) x ≡ switchOutOfRange p x
   -- 12: the lent trail is not the listing's trails; in the calls of order 6, it does not begin with the hops w, whatever comes after them
   pub twelve : (p : Plant) (lent : List ℕ) → (trailDiffers p lent ≡ true) ↔ (lent ≡ trailOf p → ⊥)
   pub twelve-hops : (w lent : List ℕ) → (hopsDiffer w lent ≡ true) ↔ ((spare : List ℕ) × (lent ≡ w ++ spare) → ⊥)
@@ -61,6 +67,12 @@ pub record ConditionsAre : Type 0 where
   pub sixteen : (p : Plant) (b : List ℕ) → (bufferShort p b ≡ true) ↔ (length b < length (encode p))
   -- 17: the spare is above 100
   pub seventeen : (rules spare : ℕ) → (answer (orderQuantity rules spare) ≡ refused 17) ↔ (maxSpare < spare)
-  -- 18 is `PageForm` and `PageWritten` of order 3, 20 and 21 `Sets` of order 8
+  -- 18, in writing: the lent page b is too short for S + 1 lines of 32 bytes; in reading: b is the page of no counts that a page can hold
+  pub eighteen-written : (c : Sheet) (b : List ℕ) → (pageShort c b ≡ true) ↔ (length b < 32 * (c .switches + 1))
+  pub eighteen-read : (b : List ℕ) → (formed b ≡ false) ↔ ((c : Sheet) × Shown c × (buyingPage c ≡ b) → ⊥)
   -- 19: "console above 3"
   pub nineteen : (k : ℕ) → (consoleOutOfRange k ≡ true) ↔ (3 < k)
+  -- 20: "a bit at or above S in the calling console's set"
+  pub twenty : (s set : ℕ) → (setOutOfRange s set ≡ true) ↔ ((x : ℕ) × (s ≤ x) × (bitAt set x ≡ 1))
+  -- 21: "the switch is outside the set": its bit is not set
+  pub twenty-one : (set x : ℕ) → (outsideSet set x ≡ true) ↔ (bitAt set x ≡ 1 → ⊥)

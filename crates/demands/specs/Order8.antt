@@ -1,6 +1,5 @@
 -- Document 02, order 8: four consoles, each with its own switches.
 use mathlib.Core.Path.{_≡_}
-use mathlib.Core.Logic.{_↔_}
 use mathlib.Core.Bool.{true, false}
 use mathlib.Core.List.{List}
 use Prim.Native.Nat.{ℕ, _^_, _≤_, _<_}
@@ -27,9 +26,7 @@ use Rattle.consoles.specs.Lists.{DeskCall, answerTo, after, afterAll, callsOf, 
 
 -- sets of switches, and a fresh desk
 pub record Sets : Type 0 where
-  -- 20: "a bit at or above S in the calling console's set"
-  pub beyond : (s set : ℕ) → (setOutOfRange s set ≡ true) ↔ ((x : ℕ) × (s ≤ x) × (has set x ≡ true))
-  -- with as many switches as a plant can have, no set of 64 bits has one
+  -- 20, a bit at or above S (`ConditionsAre`): with as many switches as a plant can have, no set of 64 bits has one
   pub none-beyond : (set : ℕ) → set < 2 ^ maxSwitches → setOutOfRange maxSwitches set ≡ false
   -- "a fresh desk has empty sets and no search"
   pub fresh : (k : ℕ) → k ≤ 3 → consoleOf freshDesk k ≡ idle

@@ -1,4 +1,5 @@
 -- The buying page (document 02, order 3): a line from its fields, and a page from its lines.
+use mathlib.Core.Bool.{Bool}
 use mathlib.Core.List.{List, [], _∷_, _++_}
 use Prim.Native.Nat.{ℕ, _+_, _*_}
 use lib.Dec.{ltb}
@@ -40,10 +41,15 @@ module _ (s : Sheet) where
   abbrev pub pageLength : ℕ
   pageLength = lineColumns * (s .switches + 1)
 
-  -- ---- into a lent buffer: 18, "the lent page is too short"
+  -- ---- into a lent buffer
 
+  -- 18: "the lent page is too short"
+  abbrev pub pageShort : List ℕ → Bool
+  pageShort b = ltb (length b) pageLength
+
+  -- the length of the page
   unfoldable pub writingPage : List ℕ → Checked ℕ
-  writingPage b = check ((18, ltb (length b) pageLength) ∷ []) pageLength
+  writingPage b = check ((18, pageShort b) ∷ []) pageLength
 
   -- the page, "and bytes after it stay untouched"; at a refusal the buffer as it was
   abbrev pub pageLeft : List ℕ → Answer ℕ → List ℕ
