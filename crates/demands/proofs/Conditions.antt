@@ -1,24 +1,27 @@
 -- What the condition of each refusal says. Assumes nothing.
 use mathlib.Core.Path.{_≡_, refl, sym, ap, _∙_, subst}
 use mathlib.Core.Logic.{_⊎_, inl, inr, _↔_}
-use mathlib.Core.Bool.{Bool, true, false, not, _&&_}
+use mathlib.Core.Bool.{Bool, true, false, not, _&&_, _||_}
 use mathlib.Core.List.{List, [], _∷_, _++_}
 use Prim.Native.Nat.{ℕ, zero, suc, _+_, _*_, _/_, _%_, _^_, _≤_, _<_}
 use native.Mathlib.Nat.{div-one, div-div-eq-div-mul, pow-succ'}
 use native.Mathlib.Omega.{arith}
-use borrow.Author.Tests.{lt-ltb, ltb-true, le-leb, leb-true, eq-eqb, eqb-true}
-use lib.Dec.{leb, ltb}
+use borrow.Author.Tests.{lt-ltb, ltb-true, le-leb, leb-true, eq-eqb, eqb-true, not-true, not-false}
+use lib.Dec.{eqb, leb, ltb}
 use lib.ListN.{length, take, drop, take-append-drop}
-use Rattle.lists.proofs.Tests.{bool?, not-both, not-true-false, true-exactly}
+use Rattle.lists.specs.Members.{all, Each}
+use Rattle.lists.proofs.Tests.{bool?, not-both, not-true-false, true-exactly, and-true, or-false}
 use Rattle.answers.specs.Answers.{given, refused}
 use Rattle.answers.specs.Checks.{answer}
 use Rattle.answers.proofs.Checks.{given-refused}
+use Rattle.plant.specs.declared.Link.{Link}
 use Rattle.plant.specs.declared.Plant.{Plant}
+use Rattle.plant.specs.Links.{zeroLink}
 use Rattle.limits.specs.Limits.{maxSwitches, maxLinks}
 use Rattle.codec.specs.Given.{bitAt}
 use Rattle.codec.proofs.ConditionLaws.{map-missing, map-undefined, field-missing, field-redundant}
 use Rattle.listing.specs.Listing.{valueOutOfRange, encode}
-use Rattle.listing.specs.Writing.{bufferShort}
+use Rattle.listing.specs.Writing.{isZero, plantOutOfRange, bufferShort}
 use Rattle.listing.proofs.SoundLaws.{InRange}
 use Rattle.listing.proofs.ConditionLaws.{value-out-of-range, end-out-of-range, self-link, bytes-remain}
 use Rattle.quantity.specs.Quantity.{maxSpare, orderQuantity}
@@ -54,6 +57,36 @@ five a b c = (
   λ e q. value-out-of-range a b c .0 e (record { some-switch = q .0; few-switches = q .1; few-links = q .2; start-in = q .3 }),
   λ n. value-out-of-range a b c .1 (λ r. n (r .some-switch, r .few-switches, r .few-links, r .start-in)),
 )
+
+-- a place that is zero
+zero-is : (l : Link) → (isZero l ≡ true) ↔ (l ≡ zeroLink)
+unfolding isZero
+zero-is l = (
+  λ e.
+      let q = and-true (eqb (l .first) 0) (eqb (l .second) 0 && (eqb (l .tag) 0 && not (l .«out_of_service»))) e in
+      let r = and-true (eqb (l .second) 0) (eqb (l .tag) 0 && not (l .«out_of_service»)) (q .1) in
+      let u = and-true (eqb (l .tag) 0) (not (l .«out_of_service»)) (r .1) in
+      λ i. record { first = eqb-true (l .first) 0 (q .0) i; second = eqb-true (l .second) 0 (r .0) i; tag = eqb-true (l .tag) 0 (u .0) i; «out_of_service» = not-true (l .«out_of_service») (u .1) i },
+  λ e. ap isZero e,
+)
+
+each-zero : (ls : List Link) → (all isZero ls ≡ true) ↔ Each (λ l. l ≡ zeroLink) ls
+each-zero [] = (λ e. tt, λ h. refl)
+each-zero (l ∷ ls) = (
+  λ e. let r = and-true (isZero l) (all isZero ls) e in (zero-is l .0 (r .0), each-zero ls .0 (r .1)),
+  λ h. rw (zero-is l .1 (h .0)) (each-zero ls .1 (h .1)),
+)
+
+five-written : (p : Plant) → (plantOutOfRange p ≡ true)
+    ↔ ((valueOutOfRange (p .switches) (p .count) (p .start) ≡ false) × Each (λ l. l ≡ zeroLink) (drop (p .count) (p .links)) → ⊥)
+unfolding plantOutOfRange
+five-written p =
+    let v = valueOutOfRange (p .switches) (p .count) (p .start) in
+    let past = drop (p .count) (p .links) in
+    true-exactly (v || not (all isZero past)) (
+      λ f. let r = or-false v (not (all isZero past)) f in (r .0, each-zero past .0 (not-false (all isZero past) (r .1))),
+      λ h. rw (h .0, each-zero past .1 (h .1)) refl,
+    )
 
 ten : (w b : List ℕ) → (placesShort w b ≡ true) ↔ (length b < length w)
 unfolding placesShort
@@ -155,6 +188,7 @@ conditions-are = record {
   three = field-missing;
   four = field-redundant;
   five = five;
+  five-written = five-written;
   six = end-out-of-range;
   seven = self-link;
   eight = bytes-remain;

@@ -4,6 +4,7 @@ pub mod Packets
 pub mod GotTo
 pub mod Tried
 pub mod Conditions
+pub mod CheckingOrder
 pub mod Demand1
 pub mod Components
 pub mod InUse

@@ -2,6 +2,7 @@
 use Rattle.listing.proofs.RoundTrip.{decode-sound}
 use Rattle.demands.specs.Promises.{Promises}
 use Rattle.demands.proofs.Conditions.{conditions-are}
+use Rattle.demands.proofs.CheckingOrder.{checking-order}
 use Rattle.demands.proofs.Demand1.{demand-1}
 use Rattle.demands.proofs.Demand2.{demand-2}
 use Rattle.demands.proofs.Demand3.{demand-3}
@@ -18,6 +19,7 @@ pub promises : Promises
 promises = record {
   demand-1 = demand-1;
   conditions = conditions-are;
+  checking-order = checking-order;
   demand-2 = demand-2;
   demand-3 = λ s p r. demand-3 s (r .bytes) p (r .read);
   got-to = got-to;

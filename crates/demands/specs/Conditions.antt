@@ -11,12 +11,13 @@ use Rattle.answers.specs.Answers.{given, refused}
 use Rattle.answers.specs.Checks.{answer}
 use Rattle.plant.specs.declared.Link.{Link}
 use Rattle.plant.specs.declared.Plant.{Plant}
+use Rattle.plant.specs.Links.{zeroLink}
 use Rattle.limits.specs.Limits.{maxSwitches, maxLinks}
 use Rattle.codec.specs.declared.Field.{Field}
 use Rattle.codec.specs.Part.{mapByte, mapMissing, mapUndefined, fieldMissing, fieldRedundant}
 use Rattle.codec.specs.Given.{bitAt, SomeGiven, EndsBefore, HoldsAbsent}
 use Rattle.listing.specs.Listing.{valueOutOfRange, endOutOfRange, selfLink, bytesRemain, encode}
-use Rattle.listing.specs.Writing.{bufferShort}
+use Rattle.listing.specs.Writing.{plantOutOfRange, bufferShort}
 use Rattle.quantity.specs.Quantity.{maxSpare, orderQuantity}
 use Rattle.plan.specs.Plan.{trailOf}
 use Rattle.planning.specs.Planning.{switchOutOfRange}
@@ -45,6 +46,9 @@ pub record ConditionsAre : Type 0 where
   pub five : (switches count start : ℕ)
       → (valueOutOfRange switches count start ≡ true)
       ↔ ((1 ≤ switches) × (switches ≤ maxSwitches) × (count ≤ maxLinks) × (start < switches) → ⊥)
+  -- of a plant that is written, also: "a plant place past E is not zero"
+  pub five-written : (p : Plant) → (plantOutOfRange p ≡ true)
+      ↔ ((valueOutOfRange (p .switches) (p .count) (p .start) ≡ false) × Each (λ l. l ≡ zeroLink) (drop (p .count) (p .links)) → ⊥)
   -- 6: an end is not below S; 7: a link joins a switch to itself; 8: bytes remain
   pub six : (switches : ℕ) (l : Link) → (endOutOfRange switches l ≡ true) ↔ ((switches ≤ l .first) ⊎ (switches ≤ l .second))
   pub seven : (l : Link) → (selfLink l ≡ true) ↔ (l .first ≡ l .second)

@@ -1,6 +1,7 @@
 pub mod Names
 pub mod Tried
 pub mod Conditions
+pub mod CheckingOrder
 pub mod Demand1
 pub mod Demand2
 pub mod Demand3

@@ -22,6 +22,7 @@ use Rattle.sheet.specs.declared.Sheet.{Sheet}
 use Rattle.planner.specs.Calls.{quotingFor}
 use Rattle.demands.specs.Names.{ReadAs}
 use Rattle.demands.specs.Conditions.{ConditionsAre}
+use Rattle.demands.specs.CheckingOrder.{CheckingOrder}
 use Rattle.demands.specs.Demand1.{Demand1}
 use Rattle.demands.specs.Demand2.{Demand2}
 use Rattle.demands.specs.Demand3.{Demand3}
@@ -38,6 +39,8 @@ pub record Promises : Type 0 where
   pub demand-1 : Demand1
   -- what the conditions that it tries say
   pub conditions : ConditionsAre
+  -- the order in which the reader and the writer try them
+  pub checking-order : CheckingOrder
   pub demand-2 : Demand2
   -- "the rule page is document 01's", and what a search does; order 4's and order 5's promises with it
   pub demand-3 : (s : List ℕ) (p : Plant) → ReadAs s p → Demand3 s p
