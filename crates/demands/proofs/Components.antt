@@ -218,7 +218,7 @@ module _ (s : List ℕ) (b : Bytes s) (p : Plant) (g : answer (reading s) ≡ gi
       pub no-links : NoLinks s p x
       unfolding beginning checking checkIn statesShort roundRun
       no-links = record {
-        all-up = gives-so (planningAt s x) (λ q. newSearch (linksWith q x)) p (given-at s x p g x-in) ∙ ap given (injection-is p ok x x-in .no-links none .1);
+        all-up = (newSearch (linksWith p x), gives-so (planningAt s x) (λ q. newSearch (linksWith q x)) p (given-at s x p g x-in), injection-is p ok x x-in .no-links none .1);
         full-check = λ states h.
             goes-on (planningAt s x) (checkIn x (trailOf p) states) p (given-at s x p g x-in) ∙ rw (trail-own p, le-ltb (length states) (p .count) h, empty) (ap given (run-none (inTable p) (upByLink states) (head p) x 0));
         round-run = λ spare states h. taken-run s b p g x x-in spare states h ∙ rw empty-round (ap given (run-none (inAll p) (upByLabel states) (head p) x 0));

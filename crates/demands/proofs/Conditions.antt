@@ -32,6 +32,9 @@ use Rattle.search.specs.declared.Search.{Search}
 use Rattle.search.specs.declared.Search.the-variants.{Checking, Halving, AllUp, Down}
 use Rattle.search.specs.Search.{tries, sound, soundFor, ended}
 use Rattle.search.specs.Sound.{Good}
+use Rattle.search.specs.Values.{IsAllUp, IsDown}
+use Rattle.search.proofs.Values.{is-all-up, is-down}
+use Rattle.search.proofs.Sound.{counts-fits, checking-fits, halving-fits, good-sound}
 use Rattle.judging.specs.Conditions.{trailDiffers, hopsDiffer, statesShort, searchUnsound}
 use Rattle.judging.proofs.Lent.{trail-same, trail-own, hops-begin, hops-own}
 use Rattle.judging.proofs.Searching.{good-here}
@@ -122,18 +125,31 @@ fine e (Halving low high lost) h g =
 fine e AllUp h g = refl
 fine e (Down place) h g = rw (lt-ltb 0 place (omega arith), le-leb place maxLinks (omega arith), le-leb place e (g .1))
 
-fifteen : (q : Search) → (ended q ≡ true) ↔ ((q ≡ AllUp) ⊎ ((k : ℕ) × (q ≡ Down k)))
+-- a state that is sound is sound for the links that it speaks of
+alone : (q : Search) → sound q ≡ true → (e : ℕ) × (e ≤ maxLinks) × Good e q
+alone (Checking count lost) t = let r = checking-fits count lost t in (count, r .1, (refl, r .0, r .2))
+alone (Halving low high lost) t = let r = halving-fits low high lost t in (high, r .2, (r .0, r .1, omega arith, r .3))
+alone AllUp t = (0, omega arith, tt)
+alone (Down place) t = let r = counts-fits place t in (place, r .1, (r .0, omega arith))
+
+fourteen-alone : (q : Search) → (sound q ≡ false) ↔ ((e : ℕ) × (e ≤ maxLinks) × Good e q → ⊥)
+fourteen-alone q = (
+  λ f g. not-both (sound q) (good-sound (g .0) q (g .1) (g .2) .0) f,
+  λ n. not-true-false (sound q) (λ t. n (alone q t)),
+)
+
+fifteen : (q : Search) → (ended q ≡ true) ↔ (IsAllUp q ⊎ ((k : ℕ) × IsDown k q))
 fifteen q = (to q, from)
   where
-    to : (r : Search) → ended r ≡ true → (r ≡ AllUp) ⊎ ((k : ℕ) × (r ≡ Down k))
+    to : (r : Search) → ended r ≡ true → IsAllUp r ⊎ ((k : ℕ) × IsDown k r)
     to (Checking count lost) e = absurd (not-both false e refl)
     to (Halving low high lost) e = absurd (not-both false e refl)
     to AllUp e = inl refl
     to (Down k) e = inr (k, refl)
 
-    from : (q ≡ AllUp) ⊎ ((k : ℕ) × (q ≡ Down k)) → ended q ≡ true
-    from (inl e) = ap ended e
-    from (inr r) = ap ended (r .1)
+    from : IsAllUp q ⊎ ((k : ℕ) × IsDown k q) → ended q ≡ true
+    from (inl e) = ap ended (is-all-up q e)
+    from (inr r) = ap ended (is-down q (r .0) (r .1))
 
 sixteen : (p : Plant) (b : List ℕ) → (bufferShort p b ≡ true) ↔ (length b < length (encode p))
 unfolding bufferShort
@@ -199,6 +215,7 @@ conditions-are = record {
   twelve-hops = twelve-hops;
   thirteen = thirteen;
   fourteen = λ e q h. true-exactly (searchUnsound e q) (good-here e q, fine e q h);
+  fourteen-alone = fourteen-alone;
   fifteen = fifteen;
   sixteen = sixteen;
   seventeen = seventeen;

@@ -23,8 +23,8 @@ use Rattle.plan.specs.Plan.{trailOf}
 use Rattle.planning.specs.Planning.{switchOutOfRange}
 use Rattle.planner.specs.Calls.{placesShort}
 use Rattle.search.specs.declared.Search.{Search}
-use Rattle.search.specs.declared.Search.the-variants.{AllUp, Down}
-use Rattle.search.specs.Search.{ended}
+use Rattle.search.specs.Search.{sound, ended}
+use Rattle.search.specs.Values.{IsAllUp, IsDown}
 use Rattle.search.specs.Sound.{Good}
 use Rattle.judging.specs.Conditions.{trailDiffers, hopsDiffer, statesShort, searchUnsound}
 use Rattle.sheet.specs.declared.Sheet.{Sheet}
@@ -63,10 +63,12 @@ pub record ConditionsAre : Type 0 where
   pub twelve-hops : (w lent : List ℕ) → (hopsDiffer w lent ≡ true) ↔ ((spare : List ℕ) × (lent ≡ w ++ spare) → ⊥)
   -- 13: there are fewer state bytes than e, the links of the listing or in the round run its labels
   pub thirteen : (e : ℕ) (states : List ℕ) → (statesShort e states ≡ true) ↔ (length states < e)
-  -- 14: the state is unsound, or unsound for a listing with e links
+  -- 14: the state is unsound, or unsound for a listing with e links; in a call without a listing, it is sound for no number of links that a
+  -- plant can have
   pub fourteen : (e : ℕ) (q : Search) → e ≤ maxLinks → (searchUnsound e q ≡ true) ↔ (Good e q → ⊥)
+  pub fourteen-alone : (q : Search) → (sound q ≡ false) ↔ ((e : ℕ) × (e ≤ maxLinks) × Good e q → ⊥)
   -- 15: a probe is asked of All up or Down
-  pub fifteen : (q : Search) → (ended q ≡ true) ↔ ((q ≡ AllUp) ⊎ ((k : ℕ) × (q ≡ Down k)))
+  pub fifteen : (q : Search) → (ended q ≡ true) ↔ (IsAllUp q ⊎ ((k : ℕ) × IsDown k q))
   -- 16: a lent buffer b is shorter than the listing
   pub sixteen : (p : Plant) (b : List ℕ) → (bufferShort p b ≡ true) ↔ (length b < length (encode p))
   -- 17: the spare is above 100

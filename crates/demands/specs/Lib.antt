@@ -4,6 +4,7 @@ pub mod Conditions
 pub mod CheckingOrder
 pub mod Demand1
 pub mod Demand2
+pub mod SearchIs
 pub mod Demand3
 pub mod Order1
 pub mod Order2

@@ -18,8 +18,8 @@ use Rattle.walks.specs.Round.{roundFrom}
 use Rattle.routes.specs.Plants.{distanceFrom, trailFrom}
 use Rattle.plan.specs.Plan.{distanceOf, trailOf, trailWith, trailBegin, roundOf, roundWith, roundBegin}
 use Rattle.search.specs.declared.Search.{Search}
-use Rattle.search.specs.declared.Search.the-variants.{AllUp}
 use Rattle.search.specs.Search.{ended}
+use Rattle.search.specs.Values.{IsAllUp}
 use Rattle.planning.specs.Components.{zeroComponent, componentsOf}
 use Rattle.planner.specs.Calls.{parting}
 use Rattle.probing.specs.Calls.{checking, roundRunning, link, naming, beginning}
@@ -65,7 +65,7 @@ pub record Elsewhere (s : List ℕ) (p : Plant) (x l : ℕ) : Type 0 where
 
 -- a switch x whose component has no links: "an empty ring", "All up", and a full check that ends at once
 pub record NoLinks (s : List ℕ) (p : Plant) (x : ℕ) : Type 0 where
-  pub all-up : answer (beginning s x) ≡ given AllUp
+  pub all-up : (q : Search) × (answer (beginning s x) ≡ given q) × IsAllUp q
   pub full-check : (states : List ℕ) → p .count ≤ length states
       → answer (checking s x (trailOf p) states) ≡ given (record { ended = true; hops = 0; last = x })
   pub round-run : (spare states : List ℕ) → 2 * p .count ≤ length states

@@ -25,6 +25,7 @@ use Rattle.demands.specs.Conditions.{ConditionsAre}
 use Rattle.demands.specs.CheckingOrder.{CheckingOrder}
 use Rattle.demands.specs.Demand1.{Demand1}
 use Rattle.demands.specs.Demand2.{Demand2}
+use Rattle.demands.specs.SearchIs.{SearchIs}
 use Rattle.demands.specs.Demand3.{Demand3}
 use Rattle.demands.specs.Order1.{GotTo, PacketsTell}
 use Rattle.demands.specs.Order2.{SameTotals, BySwitches}
@@ -42,6 +43,8 @@ pub record Promises : Type 0 where
   -- the order in which the reader and the writer try them
   pub checking-order : CheckingOrder
   pub demand-2 : Demand2
+  -- the search is document 01's, in its values
+  pub search-is : SearchIs
   -- "the rule page is document 01's", and what a search does; order 4's and order 5's promises with it
   pub demand-3 : (s : List ℕ) (p : Plant) → ReadAs s p → Demand3 s p
   -- order 1: where a packet got to, whatever the rules are; and what the calls tell
