@@ -48,5 +48,5 @@ promises = record {
   parted = λ s p r. parted s (r .bytes) p (r .read);
   elsewhere = λ s p r. elsewhere s (r .bytes) p (r .read);
   no-links = λ s p r. no-links s (r .bytes) p (r .read);
-  one-component = λ s p r. one-component p (decode-sound s p (r .bytes) (r .read));
+  one-component = λ s p r. one-component s p (r .read) (decode-sound s p (r .bytes) (r .read));
 }

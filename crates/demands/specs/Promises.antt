@@ -81,4 +81,4 @@ pub record Promises : Type 0 where
   pub parted : (s : List ℕ) (p : Plant) → ReadAs s p → Parted s p
   pub elsewhere : (s : List ℕ) (p : Plant) → ReadAs s p → (x : ℕ) → x < p .switches → (l : ℕ) → (T (linkWith p x l) → ⊥) → Elsewhere s p x l
   pub no-links : (s : List ℕ) (p : Plant) → ReadAs s p → (x : ℕ) → x < p .switches → linksWith p x ≡ 0 → NoLinks s p x
-  pub one-component : (s : List ℕ) (p : Plant) → ReadAs s p → Connected p → OneComponent p
+  pub one-component : (s : List ℕ) (p : Plant) → ReadAs s p → Connected p → OneComponent s p

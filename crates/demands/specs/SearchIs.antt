@@ -1,5 +1,6 @@
--- Document 01's section "Search", with the sendings lost of document 02's order 4, in the values of states and outcomes (search/specs/Values): of
--- what the calls answer on every sound state that has not ended. An ended one is refused (15 of `ConditionsAre`), and an unsound one (14).
+-- Document 01's section "Search", with the sendings lost of document 02's order 4, in the values of states and outcomes
+-- (search/specs/Values): of what the calls answer on every sound state that has not ended. An ended one is refused (15 of `ConditionsAre`),
+-- and so is an unsound one (14).
 use mathlib.Core.Path.{_≡_}
 use mathlib.Core.List.{List}
 use Prim.Native.Nat.{ℕ, _+_, _/_, _≤_, _<_}

@@ -1,4 +1,5 @@
--- Inner: the parts of an outcome that is given to a console's search, as the code takes them. No promise of a call needs it. Assumes nothing.
+-- Inner: the parts of an outcome that is given to a console's search, as the code takes them. No promise of a call needs it. Assumes
+-- nothing.
 use Prim.Native.Nat.{ℕ}
 use Rattle.answers.specs.Checks.{Checked, check}
 use Rattle.search.specs.declared.Search.{Search}

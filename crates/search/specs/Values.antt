@@ -1,5 +1,5 @@
--- The values of a search and of an outcome, as the papers number and name them. The promises speak of a state and of an outcome by these, whatever the code calls its cases.
--- Assumes nothing.
+-- The values of a search and of an outcome, as the papers number and name them. The promises speak of a state and of an outcome by these,
+-- whatever the code calls its cases. Assumes nothing.
 use mathlib.Core.Path.{_≡_}
 use mathlib.Core.List.{List, [], _∷_}
 use Prim.Native.Nat.{ℕ}
@@ -8,12 +8,14 @@ use Rattle.search.specs.declared.Search.the-variants as state
 use Rattle.search.specs.declared.Outcome.{Outcome}
 use Rattle.search.specs.declared.Outcome.the-variants as fate
 
--- ---- a state: the number of its kind (document 02, order 14: "0 Checking, 1 Halving, 2 All up, 3 Down"), then its values by document 01's names, in order
+-- ---- a state: the number of its kind (document 02, order 14: "0 Checking, 1 Halving, 2 All up, 3 Down"), then its values by document 01's
+-- names, in order
 
 abbrev pub Values : Type 0
 Values = ℕ × List ℕ
 
--- "Checking (count), Halving (low, high), All up, or Down (place in the order, from 1)"; "Checking and Halving carry the sendings lost so far" (document 02, order 4)
+-- "Checking (count), Halving (low, high), All up, or Down (place in the order, from 1)"; "Checking and Halving carry the sendings lost so
+-- far" (document 02, order 4)
 abbrev pub checking : ℕ → ℕ → Values
 checking count lost = (0, count ∷ lost ∷ [])
 
