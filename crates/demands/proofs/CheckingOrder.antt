@@ -46,6 +46,13 @@ lowest {A} (c ∷ cs) a r n m e h =
     go false q e (inl i) above rec = absurd (not-both (c .1) (i .1) q)
     go false q e (inr i) above rec = rec e i
 
+-- the law is not empty: where both hold, 7 before 6 and 4 before 3 break it
+seven-first : LowestFirst (check {A = Unit} ((7, true) ∷ (6, true) ∷ []) tt) → ⊥
+seven-first f = omega (arith, f 7 6 refl (inr (inl (refl, refl))))
+
+four-first : LowestFirst (check {A = Unit} ((4, true) ∷ (3, true) ∷ []) tt) → ⊥
+four-first f = omega (arith, f 4 3 refl (inr (inl (refl, refl))))
+
 -- ---- one after the other
 
 then-same : {A B : Type 0} (a : Answer A) (f g : A → Answer B) → ((x : A) → f x ≡ g x) → (a >>= f) ≡ (a >>= g)

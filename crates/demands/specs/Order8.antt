@@ -55,7 +55,8 @@ pub record ConsoleCalls (k : ℕ) (s : List ℕ) (p : Plant) : Type 0 where
 pub record Isolated : Type 0 where
   -- what a call answers, and its console's set and search afterwards, are a function of that console's set and search and of the call
   pub own : (q : DeskCall) → (f : Console → Answer Console × Console)
-      × ((d : Desk) → (answerTo d q ≡ f (consoleOf d (q .console)) .0) × (consoleOf (after d q) (q .console) ≡ f (consoleOf d (q .console)) .1))
+      × ((d : Desk)
+      → (answerTo d q ≡ f (consoleOf d (q .console)) .0) × (consoleOf (after d q) (q .console) ≡ f (consoleOf d (q .console)) .1))
   -- "as they then stand"
   pub stands : (d : Desk) (q : DeskCall) (c : Console) → answerTo d q ≡ given c → consoleOf (after d q) (q .console) ≡ c
   -- the other three are equal before and after

@@ -77,8 +77,8 @@ pub record NoLinks (s : List ℕ) (p : Plant) (x : ℕ) : Type 0 where
   pub round-run : (spare states : List ℕ) → 2 * p .count ≤ length states
       → answer (roundRunning s x (roundOf p ++ spare) states) ≡ given (record { ended = true; hops = 0; last = x })
 
--- "for a connected plant every earlier output remains", where s is its listing: its one component is the plant, and every definition that this order changed is
--- what it was, from the start and over all links in service
+-- "for a connected plant every earlier output remains", where s is its listing: its one component is the plant, and every definition that
+-- this order changed is what it was, from the start and over all links in service
 pub record OneComponent (s : List ℕ) (p : Plant) : Type 0 where
   pub one-root : roots p ≡ p .start ∷ []
   pub in-use : used p ≡ usedFrom p (p .start)
