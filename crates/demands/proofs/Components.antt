@@ -2,13 +2,16 @@
 -- Assumes a sound plant.
 use mathlib.Core.Path.{_≡_, refl, sym, ap, _∙_, subst}
 use mathlib.Core.Logic.{_⊎_, inl, inr, ⊎-elim, _↔_}
+use mathlib.Core.Bool.{Bool}
 use mathlib.Core.List.{List, [], _∷_, map}
 use Prim.Native.Nat.{ℕ, zero, suc, _+_, _*_, _/_, _≤_, _<_}
+use native.Mathlib.Nat.{add-zero}
 use native.Mathlib.Omega.{arith}
-use borrow.Author.Tests.{le-ltb}
+use borrow.Author.Tests.{le-ltb, eq-eqb, ne-eqb}
 use lib.Dec.{T, eqb}
 use lib.ListN.{length, getD, List·getD-eq-default}
 use Rattle.lists.specs.Members.{In}
+use Rattle.lists.specs.Tests.{choose}
 use Rattle.lists.specs.Numbers.{range, keep}
 use Rattle.lists.proofs.Members.{getD-in}
 use Rattle.lists.proofs.Numbers.{range-in, keep-in, values-at, values-length}
@@ -26,14 +29,15 @@ use Rattle.answers.proofs.Checks.{gives-so, goes-on}
 use Rattle.codec.specs.Field.{Bytes}
 use Rattle.listing.specs.Listing.{reading}
 use Rattle.listing.proofs.RoundTrip.{decode-sound}
-use Rattle.walks.specs.Arcs.{head, Arc, Valid}
-use Rattle.walks.specs.Graph.{To, Crosses, reachedFrom}
-use Rattle.walks.specs.Components.{rootOf, begunAt, roots, linkWith, linksWith}
+use Rattle.walks.specs.Arcs.{tail, head, Arc, Valid}
+use Rattle.walks.specs.Graph.{To, Crosses, reachedFrom, liveLinks}
+use Rattle.walks.specs.Components.{rootOf, begunAt, roots, componentOf, linkWith, linksWith}
 use Rattle.walks.proofs.Labels.{even-half, odd-half}
 use Rattle.walks.proofs.Components as components
 use Rattle.walks.proofs.Valid.{sound-valid}
 use Rattle.walks.proofs.Visited.{visited-finds}
-use Rattle.plan.specs.Plan.{Connected, trailOf, trailWith, roundWith, inTable}
+use Rattle.table.specs.Rules.{tableIn}
+use Rattle.plan.specs.Plan.{Connected, trailOf, trailWith, roundOf, roundWith, roundBegin, inTable}
 use Rattle.plan.proofs.Connected as connected
 use Rattle.plan.proofs.Trails as trails
 use Rattle.plan.proofs.Rounds as rounds
@@ -49,7 +53,12 @@ use Rattle.judging.specs.Conditions.{statesShort}
 use Rattle.judging.proofs.Lent.{trail-own}
 use Rattle.planner.specs.Calls.{parting}
 use Rattle.search.specs.Search.{newSearch}
-use Rattle.probing.specs.Calls.{checkIn, checking, beginning}
+use Rattle.order.specs.declared.Span.{Span}
+use Rattle.order.specs.Span.{ringSpan, spanOf, shiftedBy}
+use Rattle.choosing.specs.Choice.{choiceOf}
+use Rattle.printing.specs.Output.{outputOf}
+use Rattle.printing.proofs.Printed.{printed-one}
+use Rattle.probing.specs.Calls.{choiceAt, ownSpan, outSpan, checkIn, checking, beginning}
 use Rattle.probing.proofs.Injection.{trail-links, order-links, order-length, round-links}
 use Rattle.probing.proofs.NamedLinks.{naming-within}
 use Rattle.demands.specs.Demand2.{ComponentsAre}
@@ -132,8 +141,28 @@ module _ (p : Plant) (ok : Sound p) where
 
 -- ---- a plant of one component
 
-module _ (p : Plant) (ok : Sound p) (con : Connected p) where
-  pub one-component : OneComponent p
+-- a span that is not shifted
+shift-none : (b : Span) → shiftedBy b 0 ≡ b
+unfolding shiftedBy
+shift-none b = λ i. record { from = add-zero (b .from) i; len = b .len; begin = add-zero (b .begin) i; front = b .front }
+
+module _ (s : List ℕ) (p : Plant) (g : answer (reading s) ≡ given p) (ok : Sound p) (con : Connected p) where
+  -- where it does not matter what is before
+  own-span : (x m : ℕ) → x < p .switches → outSpan p x m ≡ choose (eqb m (liveLinks p)) (ringSpan p (trailOf p) x) (spanOf p (trailOf p) x m)
+  unfolding outSpan ownSpan
+  own-span x m h =
+      ap (shiftedBy (ownSpan p x m)) (connected.trail-begin p ok con x h) ∙ shift-none (ownSpan p x m)
+      ∙ ap (λ (e : ℕ). choose (eqb m e) (ringSpan p (trailWith p x) x) (spanOf p (trailWith p x) x m)) (connected.links-with p ok con x h)
+      ∙ ap (λ (w : List ℕ). choose (eqb m (liveLinks p)) (ringSpan p w x) (spanOf p w x m)) (connected.trail-with p ok con x h)
+
+  choice : (x : ℕ) → x < p .switches → choiceAt p x ≡ choiceOf 0 (length (trailOf p)) 0 (length (roundOf p))
+  choice x h =
+      ap (λ (i : ℕ). choiceOf i (length (trailWith p x)) (roundBegin p (componentOf p x)) (length (roundWith p x))) (connected.trail-begin p ok con x h)
+      ∙ ap (λ (j : ℕ). choiceOf 0 (length (trailWith p x)) j (length (roundWith p x))) (connected.round-begin p ok con x h)
+      ∙ ap (λ (w : List ℕ). choiceOf 0 (length w) 0 (length (roundWith p x))) (connected.trail-with p ok con x h)
+      ∙ ap (λ (w : List ℕ). choiceOf 0 (length (trailOf p)) 0 (length w)) (connected.round-with p ok con x h)
+
+  pub one-component : OneComponent s p
   one-component = record {
     one-root = components.roots-one p (sound-valid p ok) (ok .start-in) con;
     in-use = connected.used-one p ok con;
@@ -142,6 +171,11 @@ module _ (p : Plant) (ok : Sound p) (con : Connected p) where
     trail-with = λ x h. (connected.trail-with p ok con x h, connected.trail-begin p ok con x h);
     round-with = λ x h. (connected.round-with p ok con x h, connected.round-begin p ok con x h);
     links = λ x h. (connected.links-with p ok con x h, same x h);
+    table = ap (λ (t : ℕ → Bool). tableIn (2 * p .count) (tail p) (head p) t) (connected.used-one p ok con);
+    span-ring = λ x h. own-span x (liveLinks p) h ∙ rw (eq-eqb (liveLinks p) (liveLinks p) refl) refl;
+    span = λ x m h n. own-span x m h ∙ rw (ne-eqb m (liveLinks p) n) refl;
+    choice = choice;
+    page = ap outputOf g ∙ printed-one p ok con;
   }
     where
       same : (x : ℕ) → x < p .switches → (l : ℕ) → linkWith p x l ≡ live p l
@@ -217,7 +251,7 @@ module _ (s : List ℕ) (b : Bytes s) (p : Plant) (g : answer (reading s) ≡ gi
       pub no-links : NoLinks s p x
       unfolding beginning checking checkIn statesShort roundRun
       no-links = record {
-        all-up = gives-so (planningAt s x) (λ q. newSearch (linksWith q x)) p (given-at s x p g x-in) ∙ ap given (injection-is p ok x x-in .no-links none .1);
+        all-up = (newSearch (linksWith p x), gives-so (planningAt s x) (λ q. newSearch (linksWith q x)) p (given-at s x p g x-in), injection-is p ok x x-in .no-links none .1);
         full-check = λ states h.
             goes-on (planningAt s x) (checkIn x (trailOf p) states) p (given-at s x p g x-in) ∙ rw (trail-own p, le-ltb (length states) (p .count) h, empty) (ap given (run-none (inTable p) (upByLink states) (head p) x 0));
         round-run = λ spare states h. taken-run s b p g x x-in spare states h ∙ rw empty-round (ap given (run-none (inAll p) (upByLabel states) (head p) x 0));

@@ -1,22 +1,27 @@
 -- What the condition of each refusal says. Assumes nothing.
 use mathlib.Core.Path.{_≡_, refl, sym, ap, _∙_, subst}
 use mathlib.Core.Logic.{_⊎_, inl, inr, _↔_}
-use mathlib.Core.Bool.{Bool, true, false, not, _&&_}
+use mathlib.Core.Bool.{Bool, true, false, not, _&&_, _||_}
 use mathlib.Core.List.{List, [], _∷_, _++_}
-use Prim.Native.Nat.{ℕ, _≤_, _<_}
+use Prim.Native.Nat.{ℕ, zero, suc, _+_, _*_, _/_, _%_, _^_, _≤_, _<_}
+use native.Mathlib.Nat.{div-one, div-div-eq-div-mul, pow-succ'}
 use native.Mathlib.Omega.{arith}
-use borrow.Author.Tests.{lt-ltb, ltb-true, le-leb, leb-true, eq-eqb}
-use lib.Dec.{leb, ltb}
+use borrow.Author.Tests.{lt-ltb, ltb-true, le-leb, leb-true, eq-eqb, eqb-true, not-true, not-false}
+use lib.Dec.{eqb, leb, ltb}
 use lib.ListN.{length, take, drop, take-append-drop}
-use Rattle.lists.proofs.Tests.{bool?, not-both, true-exactly}
+use Rattle.lists.specs.Members.{all, Each}
+use Rattle.lists.proofs.Tests.{bool?, not-both, not-true-false, true-exactly, and-true, or-false}
 use Rattle.answers.specs.Answers.{given, refused}
 use Rattle.answers.specs.Checks.{answer}
 use Rattle.answers.proofs.Checks.{given-refused}
+use Rattle.plant.specs.declared.Link.{Link}
 use Rattle.plant.specs.declared.Plant.{Plant}
+use Rattle.plant.specs.Links.{zeroLink}
 use Rattle.limits.specs.Limits.{maxSwitches, maxLinks}
+use Rattle.codec.specs.Given.{bitAt}
 use Rattle.codec.proofs.ConditionLaws.{map-missing, map-undefined, field-missing, field-redundant}
 use Rattle.listing.specs.Listing.{valueOutOfRange, encode}
-use Rattle.listing.specs.Writing.{bufferShort}
+use Rattle.listing.specs.Writing.{isZero, plantOutOfRange, bufferShort}
 use Rattle.listing.proofs.SoundLaws.{InRange}
 use Rattle.listing.proofs.ConditionLaws.{value-out-of-range, end-out-of-range, self-link, bytes-remain}
 use Rattle.quantity.specs.Quantity.{maxSpare, spareAbove}
@@ -27,9 +32,19 @@ use Rattle.search.specs.declared.Search.{Search}
 use Rattle.search.specs.declared.Search.the-variants.{Checking, Halving, AllUp, Down}
 use Rattle.search.specs.Search.{tries, sound, soundFor, ended}
 use Rattle.search.specs.Sound.{Good}
+use Rattle.search.specs.Values.{IsAllUp, IsDown}
+use Rattle.search.proofs.Values.{is-all-up, is-down}
+use Rattle.search.proofs.Sound.{counts-fits, checking-fits, halving-fits, good-sound}
 use Rattle.judging.specs.Conditions.{trailDiffers, hopsDiffer, statesShort, searchUnsound}
 use Rattle.judging.proofs.Lent.{trail-same, trail-own, hops-begin, hops-own}
 use Rattle.judging.proofs.Searching.{good-here}
+use Rattle.sheet.specs.declared.Sheet.{Sheet}
+use Rattle.sheet.specs.Page.{buyingPage, pageShort}
+use Rattle.sheet.specs.Form.{formed, countsIn}
+use Rattle.sheet.specs.Shown.{Shown}
+use Rattle.sheet.proofs.RoundTrip.{written-formed, read-shown, written-again}
+use Rattle.desk.specs.Console.{has, setOutOfRange, notBelow, outsideSet}
+use Rattle.desk.proofs.Sets.{beyond-is}
 use Rattle.consoles.specs.Calls.{consoleOutOfRange}
 use Rattle.demands.specs.Conditions.{ConditionsAre}
 
@@ -46,6 +61,36 @@ five a b c = (
   λ n. value-out-of-range a b c .1 (λ r. n (r .some-switch, r .few-switches, r .few-links, r .start-in)),
 )
 
+-- a place that is zero
+zero-is : (l : Link) → (isZero l ≡ true) ↔ (l ≡ zeroLink)
+unfolding isZero
+zero-is l = (
+  λ e.
+      let q = and-true (eqb (l .first) 0) (eqb (l .second) 0 && (eqb (l .tag) 0 && not (l .«out_of_service»))) e in
+      let r = and-true (eqb (l .second) 0) (eqb (l .tag) 0 && not (l .«out_of_service»)) (q .1) in
+      let u = and-true (eqb (l .tag) 0) (not (l .«out_of_service»)) (r .1) in
+      λ i. record { first = eqb-true (l .first) 0 (q .0) i; second = eqb-true (l .second) 0 (r .0) i; tag = eqb-true (l .tag) 0 (u .0) i; «out_of_service» = not-true (l .«out_of_service») (u .1) i },
+  λ e. ap isZero e,
+)
+
+each-zero : (ls : List Link) → (all isZero ls ≡ true) ↔ Each (λ l. l ≡ zeroLink) ls
+each-zero [] = (λ e. tt, λ h. refl)
+each-zero (l ∷ ls) = (
+  λ e. let r = and-true (isZero l) (all isZero ls) e in (zero-is l .0 (r .0), each-zero ls .0 (r .1)),
+  λ h. rw (zero-is l .1 (h .0)) (each-zero ls .1 (h .1)),
+)
+
+five-written : (p : Plant) → (plantOutOfRange p ≡ true)
+    ↔ ((valueOutOfRange (p .switches) (p .count) (p .start) ≡ false) × Each (λ l. l ≡ zeroLink) (drop (p .count) (p .links)) → ⊥)
+unfolding plantOutOfRange
+five-written p =
+    let v = valueOutOfRange (p .switches) (p .count) (p .start) in
+    let past = drop (p .count) (p .links) in
+    true-exactly (v || not (all isZero past)) (
+      λ f. let r = or-false v (not (all isZero past)) f in (r .0, each-zero past .0 (not-false (all isZero past) (r .1))),
+      λ h. rw (h .0, each-zero past .1 (h .1)) refl,
+    )
+
 ten : (w b : List ℕ) → (placesShort w b ≡ true) ↔ (length b < length w)
 unfolding placesShort
 ten w b = less (length b) (length w)
@@ -53,6 +98,10 @@ ten w b = less (length b) (length w)
 eleven : (p : Plant) (x : ℕ) → (switchOutOfRange p x ≡ true) ↔ (p .switches ≤ x)
 unfolding switchOutOfRange
 eleven p x = most (p .switches) x
+
+eleven-console : (p : Plant) (x : ℕ) → notBelow (p .switches) x ≡ switchOutOfRange p x
+unfolding switchOutOfRange
+eleven-console p x = refl
 
 twelve : (p : Plant) (lent : List ℕ) → (trailDiffers p lent ≡ true) ↔ (lent ≡ trailOf p → ⊥)
 twelve p lent = true-exactly (trailDiffers p lent) (trail-same p lent, λ e. subst (λ (w : List ℕ). trailDiffers p w ≡ false) (sym e) (trail-own p))
@@ -76,18 +125,31 @@ fine e (Halving low high lost) h g =
 fine e AllUp h g = refl
 fine e (Down place) h g = rw (lt-ltb 0 place (omega arith), le-leb place maxLinks (omega arith), le-leb place e (g .1))
 
-fifteen : (q : Search) → (ended q ≡ true) ↔ ((q ≡ AllUp) ⊎ ((k : ℕ) × (q ≡ Down k)))
+-- a state that is sound is sound for the links that it speaks of
+alone : (q : Search) → sound q ≡ true → (e : ℕ) × (e ≤ maxLinks) × Good e q
+alone (Checking count lost) t = let r = checking-fits count lost t in (count, r .1, (refl, r .0, r .2))
+alone (Halving low high lost) t = let r = halving-fits low high lost t in (high, r .2, (r .0, r .1, omega arith, r .3))
+alone AllUp t = (0, omega arith, tt)
+alone (Down place) t = let r = counts-fits place t in (place, r .1, (r .0, omega arith))
+
+fourteen-alone : (q : Search) → (sound q ≡ false) ↔ ((e : ℕ) × (e ≤ maxLinks) × Good e q → ⊥)
+fourteen-alone q = (
+  λ f g. not-both (sound q) (good-sound (g .0) q (g .1) (g .2) .0) f,
+  λ n. not-true-false (sound q) (λ t. n (alone q t)),
+)
+
+fifteen : (q : Search) → (ended q ≡ true) ↔ (IsAllUp q ⊎ ((k : ℕ) × IsDown k q))
 fifteen q = (to q, from)
   where
-    to : (r : Search) → ended r ≡ true → (r ≡ AllUp) ⊎ ((k : ℕ) × (r ≡ Down k))
+    to : (r : Search) → ended r ≡ true → IsAllUp r ⊎ ((k : ℕ) × IsDown k r)
     to (Checking count lost) e = absurd (not-both false e refl)
     to (Halving low high lost) e = absurd (not-both false e refl)
     to AllUp e = inl refl
     to (Down k) e = inr (k, refl)
 
-    from : (q ≡ AllUp) ⊎ ((k : ℕ) × (q ≡ Down k)) → ended q ≡ true
-    from (inl e) = ap ended e
-    from (inr r) = ap ended (r .1)
+    from : IsAllUp q ⊎ ((k : ℕ) × IsDown k q) → ended q ≡ true
+    from (inl e) = ap ended (is-all-up q e)
+    from (inr r) = ap ended (is-down q (r .0) (r .1))
 
 sixteen : (s b : List ℕ) → (bufferShort s b ≡ true) ↔ (length b < length s)
 unfolding bufferShort
@@ -97,9 +159,39 @@ seventeen : (spare : ℕ) → (spareAbove spare ≡ true) ↔ (maxSpare < spare)
 unfolding spareAbove
 seventeen spare = less maxSpare spare
 
+eighteen-read : (b : List ℕ) → (formed b ≡ false) ↔ ((c : Sheet) × Shown c × (buyingPage c ≡ b) → ⊥)
+eighteen-read b = (
+  λ f w. not-both (formed b) (ap formed (sym (w .2)) ∙ written-formed (w .0) (w .1)) f,
+  λ n. not-true-false (formed b) (λ t. n (countsIn b, read-shown b t, written-again b t)),
+)
+
 nineteen : (k : ℕ) → (consoleOutOfRange k ≡ true) ↔ (3 < k)
 unfolding consoleOutOfRange
 nineteen k = less 3 k
+
+-- the bits of a set
+has-bit : (set x : ℕ) → set / 2 ^ x % 2 ≡ bitAt set x
+has-bit set zero = ap (λ (n : ℕ). n % 2) (div-one set)
+has-bit set (suc x) = ap (λ (n : ℕ). n % 2) (ap (λ (d : ℕ). set / d) (pow-succ' 2 x) ∙ sym (div-div-eq-div-mul set 2 (2 ^ x))) ∙ has-bit (set / 2) x
+
+in-set : (set x : ℕ) → (has set x ≡ true) ↔ (bitAt set x ≡ 1)
+in-set set x = (λ t. sym (has-bit set x) ∙ eqb-true (set / 2 ^ x % 2) 1 t, λ e. eq-eqb (set / 2 ^ x % 2) 1 (has-bit set x ∙ e))
+
+twenty : (s set : ℕ) → (setOutOfRange s set ≡ true) ↔ ((x : ℕ) × (s ≤ x) × (bitAt set x ≡ 1))
+twenty s set = (
+  λ t. let b = beyond-is s set .0 t in (b .0, b .1, in-set set (b .0) .0 (b .2)),
+  λ b. beyond-is s set .1 (b .0, b .1, in-set set (b .0) .1 (b .2)),
+)
+
+outside : (b : Bool) → (not b ≡ true) ↔ (b ≡ true → ⊥)
+outside true = (λ e. absurd (not-both false e refl), λ n. absurd (n refl))
+outside false = (λ e t. not-both false t refl, λ n. refl)
+
+twenty-one : (set x : ℕ) → (outsideSet set x ≡ true) ↔ (bitAt set x ≡ 1 → ⊥)
+twenty-one set x = (
+  λ t e. outside (has set x) .0 t (in-set set x .1 e),
+  λ n. outside (has set x) .1 (λ t. n (in-set set x .0 t)),
+)
 
 pub conditions-are : ConditionsAre
 conditions-are = record {
@@ -108,17 +200,24 @@ conditions-are = record {
   three = field-missing;
   four = field-redundant;
   five = five;
+  five-written = five-written;
   six = end-out-of-range;
   seven = self-link;
   eight = bytes-remain;
   ten = ten;
   eleven = eleven;
+  eleven-console = eleven-console;
   twelve = twelve;
   twelve-hops = twelve-hops;
   thirteen = thirteen;
   fourteen = λ e q h. true-exactly (searchUnsound e q) (good-here e q, fine e q h);
+  fourteen-alone = fourteen-alone;
   fifteen = fifteen;
   sixteen = sixteen;
   seventeen = seventeen;
+  eighteen-written = λ switches b. less (length b) (32 * (switches + 1));
+  eighteen-read = eighteen-read;
   nineteen = nineteen;
+  twenty = twenty;
+  twenty-one = twenty-one;
 }

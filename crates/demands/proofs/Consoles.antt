@@ -18,9 +18,10 @@ use Rattle.judging.specs.Conditions.{wantedChecks}
 use Rattle.planning.proofs.Plans.{at-given}
 use Rattle.probing.proofs.Searching.{searches}
 use Rattle.desk.specs.declared.Held.the-variants.{From}
-use Rattle.desk.specs.Console.{has, setOutOfRange, switchChecks, consoleWith, replacing, starting, telling, givingTo}
+use Rattle.desk.specs.Console.{has, setOutOfRange, switchChecks, consoleWith, replacing, starting, telling}
+use Rattle.desk.specs.Inner.{givingTo}
 use Rattle.desk.specs.Desk.{consoleOf}
-use Rattle.desk.proofs.Sets.{small-has, none-above, beyond-is}
+use Rattle.desk.proofs.Sets.{small-has, none-above}
 use Rattle.desk.proofs.Consoles.{fresh-idle}
 use Rattle.desk.proofs.Feeding.{given-sound}
 use Rattle.consoles.specs.Calls.{newSet, start, outcome}
@@ -31,7 +32,6 @@ use Rattle.demands.specs.Order8.{Sets, ConsoleCalls, Isolated, Agreeing,
 
 pub sets : Sets
 sets = record {
-  beyond = beyond-is;
   none-beyond = λ set h. sym (none-above set maxSwitches h);
   fresh = fresh-idle;
   empty = λ x. sym (small-has 0 x (pow-pos x));

@@ -15,16 +15,52 @@ use Rattle.search.specs.declared.Outcome.{Outcome}
 use Rattle.search.specs.declared.Outcome.the-variants.{Returned, Lost}
 use Rattle.search.specs.Search.{tries}
 use Rattle.search.specs.Calls.{Sending, sent, returnsOf, lostInRow, countedIn}
+use Rattle.search.specs.Values.{IsReturned, IsLost}
+use Rattle.search.proofs.Values.{is-returned, is-lost}
 use Rattle.demands.specs.Order4.{ReturnedIn, LostInRow, Counted}
+
+-- the same with the outcomes named
+record Return (m : ℕ) (l : List Sending) : Type 0 where
+  before : List Sending
+  after : List Sending
+  there : l ≡ before ++ (sent m Returned ∷ after)
+
+record Losses (m : ℕ) (l : List Sending) : Type 0 where
+  before : List Sending
+  after : List Sending
+  there : l ≡ before ++ (sent m Lost ∷ sent m Lost ∷ sent m Lost ∷ after)
+
+return-in : (m : ℕ) (l : List Sending) → Return m l ↔ ReturnedIn m l
+return-in m l = (
+  λ r. record { before = r .before; after = r .after; o = Returned; returned = refl; there = r .there },
+  λ r. record {
+    before = r .before;
+    after = r .after;
+    there = r .there ∙ ap (λ (o : Outcome). r .before ++ (sent m o ∷ r .after)) (is-returned (r .o) (r .returned));
+  },
+)
+
+losses-in : (m : ℕ) (l : List Sending) → Losses m l ↔ LostInRow m l
+losses-in m l = (
+  λ r. record { before = r .before; after = r .after; a = Lost; b = Lost; c = Lost; lost = (refl, refl, refl); there = r .there },
+  λ r. record {
+    before = r .before;
+    after = r .after;
+    there =
+        r .there ∙ ap (λ (o : Outcome). r .before ++ (sent m o ∷ sent m (r .b) ∷ sent m (r .c) ∷ r .after)) (is-lost (r .a) (r .lost .0))
+        ∙ ap (λ (o : Outcome). r .before ++ (sent m Lost ∷ sent m o ∷ sent m (r .c) ∷ r .after)) (is-lost (r .b) (r .lost .1))
+        ∙ ap (λ (o : Outcome). r .before ++ (sent m Lost ∷ sent m Lost ∷ sent m o ∷ r .after)) (is-lost (r .c) (r .lost .2));
+  },
+)
 
 -- ---- returns
 
-returned : (m : ℕ) (l : List Sending) → 0 < returnsOf m l → ReturnedIn m l
+returned : (m : ℕ) (l : List Sending) → 0 < returnsOf m l → Return m l
 returned m [] h = absurd (omega arith)
 returned m (sent k Lost ∷ l) h = let r = returned m l h in record { before = sent k Lost ∷ r .before; after = r .after; there = ap (λ (v : List Sending). sent k Lost ∷ v) (r .there) }
 returned m (sent k Returned ∷ l) h = go (eq? m k) (λ i. returned m l i)
   where
-    go : (m ≡ k) ⊎ (m ≡ k → ⊥) → (0 < returnsOf m l → ReturnedIn m l) → ReturnedIn m (sent k Returned ∷ l)
+    go : (m ≡ k) ⊎ (m ≡ k → ⊥) → (0 < returnsOf m l → Return m l) → Return m (sent k Returned ∷ l)
     go (inl e) f = record { before = []; after = l; there = ap (λ (j : ℕ). sent j Returned ∷ l) (sym e) }
     go (inr d) f =
         let i : 0 < bit false + returnsOf m l = subst (λ (b : Bool). 0 < bit b + returnsOf m l) (ne-eqb m k d) h in
@@ -49,34 +85,34 @@ module _ (m : ℕ) where
       let z : suc (n + 1) ≡ suc n + 1 = omega arith in
       ap (λ (v : List Sending). sent m Lost ∷ v) (one-more n l) ∙ ap (λ (k : ℕ). lost k ++ l) z
 
-  three : (n : ℕ) (l : List Sending) → tries ≤ n → LostInRow m (lost n ++ l)
+  three : (n : ℕ) (l : List Sending) → tries ≤ n → Losses m (lost n ++ l)
   three zero l h = absurd (omega arith)
   three (suc zero) l h = absurd (omega arith)
   three (suc (suc zero)) l h = absurd (omega arith)
   three (suc (suc (suc n))) l h = record { before = []; after = lost n ++ l; there = refl }
 
-  later : (x l : List Sending) → LostInRow m l → LostInRow m (x ++ l)
+  later : (x l : List Sending) → Losses m l → Losses m (x ++ l)
   later x l r = record { before = x ++ r .before; after = r .after; there = ap (λ (v : List Sending). x ++ v) (r .there) ∙ sym (append-assoc x (r .before) _) }
 
   -- after a sending that ends the row
-  past : (n : ℕ) (s : Sending) (l : List Sending) → LostInRow m l → LostInRow m (lost n ++ (s ∷ l))
+  past : (n : ℕ) (s : Sending) (l : List Sending) → Losses m l → Losses m (lost n ++ (s ∷ l))
   past n s l r = later (lost n) (s ∷ l) (later (s ∷ []) l r)
 
-  in-row : (n : ℕ) (l : List Sending) → T (lostInRow m n l) → LostInRow m (lost n ++ l)
+  in-row : (n : ℕ) (l : List Sending) → T (lostInRow m n l) → Losses m (lost n ++ l)
   in-row n [] t = three n [] (leb→le tries n t)
   in-row n (sent k Returned ∷ l) t =
       ⊎-elim (λ h. three n (sent k Returned ∷ l) (leb→le tries n h)) (λ h. past n (sent k Returned) l (in-row 0 l h)) (or-cases (leb tries n) (lostInRow m 0 l) t)
   in-row n (sent k Lost ∷ l) t =
       ⊎-elim (λ h. three n (sent k Lost ∷ l) (leb→le tries n h)) (λ h. go (eq? m k) h (λ i. in-row i l)) (or-cases (leb tries n) (lostInRow m (choose (eqb m k) (n + 1) 0) l) t)
     where
-      go : (m ≡ k) ⊎ (m ≡ k → ⊥) → T (lostInRow m (choose (eqb m k) (n + 1) 0) l) → ((i : ℕ) → T (lostInRow m i l) → LostInRow m (lost i ++ l)) → LostInRow m (lost n ++ (sent k Lost ∷ l))
+      go : (m ≡ k) ⊎ (m ≡ k → ⊥) → T (lostInRow m (choose (eqb m k) (n + 1) 0) l) → ((i : ℕ) → T (lostInRow m i l) → Losses m (lost i ++ l)) → Losses m (lost n ++ (sent k Lost ∷ l))
       go (inl e) h f =
-          subst (λ (j : ℕ). LostInRow m (lost n ++ (sent j Lost ∷ l))) e
-          (subst (LostInRow m) (sym (one-more n l)) (f (n + 1) (subst (λ (b : Bool). T (lostInRow m (choose b (n + 1) 0) l)) (eq-eqb m k e) h)))
+          subst (λ (j : ℕ). Losses m (lost n ++ (sent j Lost ∷ l))) e
+          (subst (Losses m) (sym (one-more n l)) (f (n + 1) (subst (λ (b : Bool). T (lostInRow m (choose b (n + 1) 0) l)) (eq-eqb m k e) h)))
       go (inr d) h f = past n (sent k Lost) l (f 0 (subst (λ (b : Bool). T (lostInRow m (choose b (n + 1) 0) l)) (ne-eqb m k d) h))
 
   -- the other way: a sending of another kind ends the row
-  ends-row : (n : ℕ) (s : Sending) (l x y : List Sending) → (s ≡ sent m Lost → ⊥) → lost n ++ (s ∷ l) ≡ x ++ (sent m Lost ∷ sent m Lost ∷ sent m Lost ∷ y) → (tries ≤ n) ⊎ LostInRow m l
+  ends-row : (n : ℕ) (s : Sending) (l x y : List Sending) → (s ≡ sent m Lost → ⊥) → lost n ++ (s ∷ l) ≡ x ++ (sent m Lost ∷ sent m Lost ∷ sent m Lost ∷ y) → (tries ≤ n) ⊎ Losses m l
   ends-row zero s l [] y d e = absurd (d (let z : s ≡ sent m Lost = cc in z))
   ends-row zero s l (w ∷ x) y d e = inr (record { before = x; after = y; there = let z : l ≡ x ++ (sent m Lost ∷ sent m Lost ∷ sent m Lost ∷ y) = cc in z })
   ends-row (suc zero) s l [] y d e = absurd (d (let z : s ≡ sent m Lost = cc in z))
@@ -89,7 +125,7 @@ module _ (m : ℕ) where
   lost-length zero = refl
   lost-length (suc n) = ap suc (lost-length n)
 
-  row-in : (n : ℕ) (l : List Sending) → LostInRow m (lost n ++ l) → T (lostInRow m n l)
+  row-in : (n : ℕ) (l : List Sending) → Losses m (lost n ++ l) → T (lostInRow m n l)
   row-in n [] r =
       le→leb tries n (omega (arith, lost-length n, length-append (lost n) [], ap length (r .there), length-append (r .before) (sent m Lost ∷ sent m Lost ∷ sent m Lost ∷ r .after)))
   row-in n (sent k Returned ∷ l) r =
@@ -97,10 +133,10 @@ module _ (m : ℕ) where
       (ends-row n (sent k Returned) l (r .before) (r .after) (λ e. let z : _≡_ {A = ℕ} 0 1 = cc in omega arith) (r .there))
   row-in n (sent k Lost ∷ l) r = go (eq? m k) (λ i. row-in i l)
     where
-      go : (m ≡ k) ⊎ (m ≡ k → ⊥) → ((i : ℕ) → LostInRow m (lost i ++ l) → T (lostInRow m i l)) → T (leb tries n || lostInRow m (choose (eqb m k) (n + 1) 0) l)
+      go : (m ≡ k) ⊎ (m ≡ k → ⊥) → ((i : ℕ) → Losses m (lost i ++ l) → T (lostInRow m i l)) → T (leb tries n || lostInRow m (choose (eqb m k) (n + 1) 0) l)
       go (inl e) f =
           or-right (leb tries n) (lostInRow m (choose (eqb m k) (n + 1) 0) l)
-          (rw (eq-eqb m k e) (f (n + 1) (subst (LostInRow m) (one-more n l) (subst (λ (j : ℕ). LostInRow m (lost n ++ (sent j Lost ∷ l))) (sym e) r))))
+          (rw (eq-eqb m k e) (f (n + 1) (subst (Losses m) (one-more n l) (subst (λ (j : ℕ). Losses m (lost n ++ (sent j Lost ∷ l))) (sym e) r))))
       go (inr d) f =
           ⊎-elim (λ h. or-left (leb tries n) (lostInRow m (choose (eqb m k) (n + 1) 0) l) (le→leb tries n h))
           (λ q. or-right (leb tries n) (lostInRow m (choose (eqb m k) (n + 1) 0) l) (rw (ne-eqb m k d) (f 0 q)))
@@ -108,8 +144,9 @@ module _ (m : ℕ) where
 
 pub counted : Counted
 counted l m = (
-  λ t. ⊎-elim (λ h. inl (returned m l (ltb→lt 0 (returnsOf m l) h))) (λ h. inr (in-row m 0 l h)) (or-cases (ltb 0 (returnsOf m l)) (lostInRow m 0 l) t),
+  λ t. ⊎-elim (λ h. inl (return-in m l .0 (returned m l (ltb→lt 0 (returnsOf m l) h)))) (λ h. inr (losses-in m l .0 (in-row m 0 l h))) (or-cases (ltb 0 (returnsOf m l)) (lostInRow m 0 l) t),
   ⊎-elim
-      (λ r. or-left (ltb 0 (returnsOf m l)) (lostInRow m 0 l) (lt→ltb 0 (returnsOf m l) (subst (λ (v : List Sending). 0 < returnsOf m v) (sym (r .there)) (returns m (r .before) (r .after)))))
-      (λ r. or-right (ltb 0 (returnsOf m l)) (lostInRow m 0 l) (row-in m 0 l r)),
+      (λ s. let r = return-in m l .1 s in
+      or-left (ltb 0 (returnsOf m l)) (lostInRow m 0 l) (lt→ltb 0 (returnsOf m l) (subst (λ (v : List Sending). 0 < returnsOf m v) (sym (r .there)) (returns m (r .before) (r .after)))))
+      (λ r. or-right (ltb 0 (returnsOf m l)) (lostInRow m 0 l) (row-in m 0 l (losses-in m l .1 r))),
 )

@@ -4,10 +4,12 @@ pub mod Packets
 pub mod GotTo
 pub mod Tried
 pub mod Conditions
+pub mod CheckingOrder
 pub mod Demand1
 pub mod Components
 pub mod InUse
 pub mod Demand2
+pub mod SearchIs
 pub mod Naming
 pub mod Demand3
 pub mod BySwitches

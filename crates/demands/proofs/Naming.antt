@@ -6,6 +6,7 @@ use mathlib.Core.List.{List}
 use Prim.Native.Nat.{ℕ, _≤_, _<_}
 use native.Mathlib.Omega.{arith}
 use borrow.Author.Tests.{lt-ltb, le-leb}
+use lib.ListN.{getD}
 use Rattle.plant.specs.declared.Plant.{Plant}
 use Rattle.answers.specs.Answers.{given}
 use Rattle.answers.specs.Checks.{answer}
@@ -23,22 +24,18 @@ use Rattle.rings.specs.FirstDown.{FirstDown}
 use Rattle.judging.specs.Conditions.{searchUnsound}
 use Rattle.judging.proofs.Lent.{trail-own}
 use Rattle.search.specs.declared.Search.{Search}
-use Rattle.search.specs.declared.Search.the-variants.{AllUp, Down}
+use Rattle.search.specs.declared.Search.the-variants.{Down}
 use Rattle.search.specs.Search.{ended}
+use Rattle.search.specs.Values.{Values, IsDown}
+use Rattle.search.proofs.Values.{is-down}
 use Rattle.search.specs.Calls.{Call, perform, begun}
 use Rattle.planning.specs.Planning.{planningAt}
 use Rattle.planning.proofs.Plans.{given-at}
 use Rattle.probing.specs.Calls.{link, nameIn, naming}
-use Rattle.probing.specs.Searches.{AllTrue, OneOfThree}
+use Rattle.probing.specs.Searches.{NoneBroken, AllTrue, OneOfThree}
 use Rattle.probing.proofs.Injection.{order-length, links-few}
 use Rattle.probing.proofs.Searching.{searches}
 use Rattle.demands.specs.Names.{orderAt}
-
-down-up : (k : ℕ) → Down k ≡ AllUp → ⊥
-down-up k e = let z : _≡_ {A = ℕ} 0 1 = cc in omega arith
-
-down-down : (j k : ℕ) → Down j ≡ Down k → j ≡ k
-down-down j k e = cc
 
 module _ (s : List ℕ) (b : Bytes s) (p : Plant) (g : answer (reading s) ≡ given p) (x : ℕ) (x-in : x < p .switches) where
   ok : Sound p
@@ -51,10 +48,17 @@ module _ (s : List ℕ) (b : Bytes s) (p : Plant) (g : answer (reading s) ≡ gi
       goes-on (planningAt s x) (nameIn x (trailOf p) (Down k)) p (given-at s x p g x-in)
       ∙ rw (trail-own p, lt-ltb 0 k h, le-leb k maxLinks (omega (arith, links-few p ok x x-in)), le-leb k (linksWith p x) l) refl
 
-  pub names : (cs : List Call) (states : List ℕ) → AllTrue p x states cs → OneOfThree p x states cs → (k : ℕ) → perform (begun (linksWith p x)) cs .state ≡ Down k
-      → (answer (naming s x (trailOf p) (Down k)) ≡ given (link (nth (orderAt p x) k))) × FirstDown (upBy states) (orderAt p x) k
-  names cs states t o k e =
+  pub names : (cs : List Call) (states : List ℕ) → AllTrue p x states cs → OneOfThree p x states cs → (k : ℕ) → IsDown k (perform (begun (linksWith p x)) cs .state)
+      → (answer (naming s x (trailOf p) (perform (begun (linksWith p x)) cs .state)) ≡ given (link (nth (orderAt p x) k)))
+      × FirstDown (upBy states) (orderAt p x) k
+  names cs states t o k d =
+      let q = perform (begun (linksWith p x)) cs .state in
+      let e : q ≡ Down k = is-down q k d in
       let says = searches p ok x x-in cs .says states t o (ap ended e) in
-      let r = says .first-broken (λ n. down-up k (sym e ∙ says .all-up .1 n)) in
-      let f = subst (FirstDown (upBy states) (orderAt p x)) (down-down (r .0) k (sym (r .1) ∙ e)) (r .2) in
-      (named k (f .from-one) (omega (arith, f .to-last, order-length p ok x x-in)), f)
+      let not-up : NoneBroken p x states → ⊥ = λ n. let z : _≡_ {A = ℕ} 3 2 = ap (λ (v : Values). v .0) (sym d ∙ says .all-up .1 n) in omega (arith, z) in
+      let r = says .first-broken not-up in
+      let same : r .0 ≡ k = ap (λ (v : Values). getD (v .1) 0 0) (sym (r .1) ∙ d) in
+      let f = subst (FirstDown (upBy states) (orderAt p x)) same (r .2) in (
+        ap (λ (u : Search). answer (naming s x (trailOf p) u)) e ∙ named k (f .from-one) (omega (arith, f .to-last, order-length p ok x x-in)),
+        f,
+      )

@@ -2,8 +2,10 @@
 use Rattle.listing.proofs.RoundTrip.{decode-sound}
 use Rattle.demands.specs.Promises.{Promises}
 use Rattle.demands.proofs.Conditions.{conditions-are}
+use Rattle.demands.proofs.CheckingOrder.{checking-order}
 use Rattle.demands.proofs.Demand1.{demand-1, untouched}
 use Rattle.demands.proofs.Demand2.{demand-2}
+use Rattle.demands.proofs.SearchIs.{search-is}
 use Rattle.demands.proofs.Demand3.{demand-3}
 use Rattle.demands.proofs.GotTo.{got-to, packets-tell}
 use Rattle.demands.proofs.BySwitches.{same-totals-of, by-switches}
@@ -19,7 +21,9 @@ promises = record {
   demand-1 = demand-1;
   untouched = untouched;
   conditions = conditions-are;
+  checking-order = checking-order;
   demand-2 = demand-2;
+  search-is = search-is;
   demand-3 = λ s p r. demand-3 s (r .bytes) p (r .read);
   got-to = got-to;
   packets-tell = λ s p r. packets-tell s (r .bytes) p (r .read);
@@ -45,5 +49,5 @@ promises = record {
   parted = λ s p r. parted s (r .bytes) p (r .read);
   elsewhere = λ s p r. elsewhere s (r .bytes) p (r .read);
   no-links = λ s p r. no-links s (r .bytes) p (r .read);
-  one-component = λ s p r. one-component p (decode-sound s p (r .bytes) (r .read));
+  one-component = λ s p r. one-component s p (r .read) (decode-sound s p (r .bytes) (r .read));
 }

@@ -46,8 +46,8 @@ use Rattle.choosing.specs.Choice.{shorterOf, hopsIn}
 use Rattle.judging.specs.Conditions.{statesShort}
 use Rattle.judging.proofs.Lent.{hops-own}
 use Rattle.packet.specs.Outcome.{outcomeOf}
-use Rattle.search.specs.declared.Outcome.the-variants.{Returned}
 use Rattle.search.specs.Search.{ended}
+use Rattle.search.specs.Values.{IsReturned}
 use Rattle.search.specs.Calls.{TrueSending, OneReturns}
 use Rattle.planning.specs.Planning.{planningAt}
 use Rattle.planning.proofs.Plans.{given-at}
@@ -147,8 +147,8 @@ module _ (p : Plant) (ok : Sound p) (x : ℕ) (x-in : x < p .switches) where
       runs = runs;
       says = λ cs t o e.
           searches p ok x x-in cs .says (linkBytes p states)
-          (subst (λ (f : ℕ → End). Each (TrueSending (λ m. outcomeOf (f m) ≡ Returned)) (sentOver p x cs)) same t)
-          (subst (λ (f : ℕ → End). OneReturns (λ m. outcomeOf (f m) ≡ Returned) (sentOver p x cs)) same o) e;
+          (subst (λ (f : ℕ → End). Each (TrueSending (λ m. IsReturned (outcomeOf (f m)))) (sentOver p x cs)) same t)
+          (subst (λ (f : ℕ → End). OneReturns (λ m. IsReturned (outcomeOf (f m))) (sentOver p x cs)) same o) e;
     }
 
 -- ---- the calls

@@ -4,28 +4,34 @@ use mathlib.Core.Path.{_≡_}
 use mathlib.Core.Logic.{_⊎_, _↔_}
 use mathlib.Core.Bool.{Bool, true, false, not, _||_}
 use mathlib.Core.List.{List, [], _∷_, _++_}
-use Prim.Native.Nat.{ℕ, _^_, _≤_, _<_}
+use Prim.Native.Nat.{ℕ, _+_, _*_, _^_, _≤_, _<_}
 use lib.ListN.{length, drop}
 use Rattle.lists.specs.Members.{Each}
 use Rattle.answers.specs.Answers.{given, refused}
 use Rattle.answers.specs.Checks.{answer}
 use Rattle.plant.specs.declared.Link.{Link}
 use Rattle.plant.specs.declared.Plant.{Plant}
+use Rattle.plant.specs.Links.{zeroLink}
 use Rattle.limits.specs.Limits.{maxSwitches, maxLinks}
 use Rattle.codec.specs.declared.Field.{Field}
 use Rattle.codec.specs.Part.{mapByte, mapMissing, mapUndefined, fieldMissing, fieldRedundant}
 use Rattle.codec.specs.Given.{bitAt, SomeGiven, EndsBefore, HoldsAbsent}
 use Rattle.listing.specs.Listing.{valueOutOfRange, endOutOfRange, selfLink, bytesRemain}
-use Rattle.listing.specs.Writing.{bufferShort}
+use Rattle.listing.specs.Writing.{plantOutOfRange, bufferShort}
 use Rattle.quantity.specs.Quantity.{maxSpare, spareAbove}
 use Rattle.plan.specs.Plan.{trailOf}
 use Rattle.planning.specs.Planning.{switchOutOfRange}
 use Rattle.planner.specs.Calls.{placesShort}
 use Rattle.search.specs.declared.Search.{Search}
-use Rattle.search.specs.declared.Search.the-variants.{AllUp, Down}
-use Rattle.search.specs.Search.{ended}
+use Rattle.search.specs.Search.{sound, ended}
+use Rattle.search.specs.Values.{IsAllUp, IsDown}
 use Rattle.search.specs.Sound.{Good}
 use Rattle.judging.specs.Conditions.{trailDiffers, hopsDiffer, statesShort, searchUnsound}
+use Rattle.sheet.specs.declared.Sheet.{Sheet}
+use Rattle.sheet.specs.Page.{buyingPage, pageShort}
+use Rattle.sheet.specs.Form.{formed}
+use Rattle.sheet.specs.Shown.{Shown}
+use Rattle.desk.specs.Console.{setOutOfRange, notBelow, outsideSet}
 use Rattle.consoles.specs.Calls.{consoleOutOfRange}
 
 pub record ConditionsAre : Type 0 where
@@ -40,27 +46,39 @@ pub record ConditionsAre : Type 0 where
   pub five : (switches count start : ℕ)
       → (valueOutOfRange switches count start ≡ true)
       ↔ ((1 ≤ switches) × (switches ≤ maxSwitches) × (count ≤ maxLinks) × (start < switches) → ⊥)
+  -- of a plant that is written, also: "a plant place past E is not zero"
+  pub five-written : (p : Plant) → (plantOutOfRange p ≡ true)
+      ↔ ((valueOutOfRange (p .switches) (p .count) (p .start) ≡ false) × Each (λ l. l ≡ zeroLink) (drop (p .count) (p .links)) → ⊥)
   -- 6: an end is not below S; 7: a link joins a switch to itself; 8: bytes remain
   pub six : (switches : ℕ) (l : Link) → (endOutOfRange switches l ≡ true) ↔ ((switches ≤ l .first) ⊎ (switches ≤ l .second))
   pub seven : (l : Link) → (selfLink l ≡ true) ↔ (l .first ≡ l .second)
   pub eight : (s : List ℕ) → (bytesRemain s ≡ true) ↔ (s ≡ [] → ⊥)
   -- 10: a lent buffer b has fewer places than the trail w has hops
   pub ten : (w b : List ℕ) → (placesShort w b ≡ true) ↔ (length b < length w)
-  -- 11: a named switch is not below S
+  -- 11: a named switch is not below S; so it is in the calls of a console, which go by S alone
   pub eleven : (p : Plant) (x : ℕ) → (switchOutOfRange p x ≡ true) ↔ (p .switches ≤ x)
+  pub eleven-console : (p : Plant) (x : ℕ) → notBelow (p .switches) x ≡ switchOutOfRange p x
   -- 12: the lent trail is not the listing's trails; in the calls of order 6, it does not begin with the hops w, whatever comes after them
   pub twelve : (p : Plant) (lent : List ℕ) → (trailDiffers p lent ≡ true) ↔ (lent ≡ trailOf p → ⊥)
   pub twelve-hops : (w lent : List ℕ) → (hopsDiffer w lent ≡ true) ↔ ((spare : List ℕ) × (lent ≡ w ++ spare) → ⊥)
   -- 13: there are fewer state bytes than e, the links of the listing or in the round run its labels
   pub thirteen : (e : ℕ) (states : List ℕ) → (statesShort e states ≡ true) ↔ (length states < e)
-  -- 14: the state is unsound, or unsound for a listing with e links
+  -- 14: the state is unsound, or unsound for a listing with e links; in a call without a listing, it is sound for no number of links that a
+  -- plant can have
   pub fourteen : (e : ℕ) (q : Search) → e ≤ maxLinks → (searchUnsound e q ≡ true) ↔ (Good e q → ⊥)
+  pub fourteen-alone : (q : Search) → (sound q ≡ false) ↔ ((e : ℕ) × (e ≤ maxLinks) × Good e q → ⊥)
   -- 15: a probe is asked of All up or Down
-  pub fifteen : (q : Search) → (ended q ≡ true) ↔ ((q ≡ AllUp) ⊎ ((k : ℕ) × (q ≡ Down k)))
+  pub fifteen : (q : Search) → (ended q ≡ true) ↔ (IsAllUp q ⊎ ((k : ℕ) × IsDown k q))
   -- 16: a lent buffer b is shorter than the listing s
   pub sixteen : (s b : List ℕ) → (bufferShort s b ≡ true) ↔ (length b < length s)
   -- 17: the spare is above 100
   pub seventeen : (spare : ℕ) → (spareAbove spare ≡ true) ↔ (maxSpare < spare)
-  -- 18 is `PageForm` and `PageWritten` of order 3, 20 and 21 `Sets` of order 8
+  -- 18, in writing: the lent page b is too short for S + 1 lines of 32 bytes; in reading: b is the page of no counts that a page can hold
+  pub eighteen-written : (switches : ℕ) (b : List ℕ) → (pageShort switches b ≡ true) ↔ (length b < 32 * (switches + 1))
+  pub eighteen-read : (b : List ℕ) → (formed b ≡ false) ↔ ((c : Sheet) × Shown c × (buyingPage c ≡ b) → ⊥)
   -- 19: "console above 3"
   pub nineteen : (k : ℕ) → (consoleOutOfRange k ≡ true) ↔ (3 < k)
+  -- 20: "a bit at or above S in the calling console's set"
+  pub twenty : (s set : ℕ) → (setOutOfRange s set ≡ true) ↔ ((x : ℕ) × (s ≤ x) × (bitAt set x ≡ 1))
+  -- 21: "the switch is outside the set": its bit is not set
+  pub twenty-one : (set x : ℕ) → (outsideSet set x ≡ true) ↔ (bitAt set x ≡ 1 → ⊥)

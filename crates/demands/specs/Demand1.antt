@@ -1,9 +1,7 @@
 -- Demand 1: each call answers its result, or a refusal exactly under its condition, and a refusal leaves a lent buffer or desk as it was.
 use mathlib.Core.Bool.{true, not}
 use mathlib.Core.List.{List, [], _∷_}
-use Prim.Native.Nat.{ℕ, _+_, _*_}
-use lib.Dec.{ltb}
-use lib.ListN.{length}
+use Prim.Native.Nat.{ℕ, _*_}
 use Rattle.answers.specs.Answers.{Answer, given}
 use Rattle.answers.specs.Checks.{Conditions, answer}
 use Rattle.plant.specs.declared.Plant.{Plant}
@@ -25,14 +23,14 @@ use Rattle.search.specs.declared.Search.{Search}
 use Rattle.search.specs.declared.Outcome.{Outcome}
 use Rattle.search.specs.Search.{sound, ended, ask, give}
 use Rattle.search.specs.Calls.{Call}
-use Rattle.sheet.specs.Columns.{lineColumns}
+use Rattle.sheet.specs.Page.{pageShort}
 use Rattle.sheet.specs.Form.{formed, readingPage}
 use Rattle.planner.specs.Calls.{rewriting, rewritten, rereading, summing, bridging, parting, tabling, counting, placesShort, trailing, laidOut, roundTrailing, roundLaidOut, buying, boughtOut}
 use Rattle.probing.specs.Calls.{running, checking, roundRunning, choosing, ordering, outgoing, probing, naming, beginning, performing}
 use Rattle.desk.specs.declared.Held.{Held}
 use Rattle.desk.specs.declared.Held.the-variants.{Nothing, From}
 use Rattle.desk.specs.declared.Desk.{Desk}
-use Rattle.desk.specs.Console.{has, setOutOfRange}
+use Rattle.desk.specs.Console.{setOutOfRange, outsideSet}
 use Rattle.desk.specs.Desk.{freshDesk, consoleOf}
 use Rattle.consoles.specs.Calls.{newSet, start, outcome, serving, served}
 use Rattle.demands.specs.Tried.{Tries, TriesListing, TriesConsole, TriesNumbers, Keeps, ofListing, ofPlant}
@@ -41,7 +39,7 @@ use Rattle.demands.specs.Tried.{Tries, TriesListing, TriesConsole, Tries
 abbrev pub ofHeld : Plant → ℕ → Held → Conditions
 ofHeld p set Nothing = (15, true) ∷ []
 ofHeld p set (From x q) =
-    (11, switchOutOfRange p x) ∷ (21, not (has set x)) ∷ (14, searchUnsound (linksWith p x) q) ∷ (15, ended q) ∷ []
+    (11, switchOutOfRange p x) ∷ (21, outsideSet set x) ∷ (14, searchUnsound (linksWith p x) q) ∷ (15, ended q) ∷ []
 
 -- A field for each call, as in docs/CALLS.md: the conditions that it tries, each with its number, in their order; and for a call that is
 -- lent something to write to, a field more.
@@ -59,7 +57,7 @@ pub record Demand1 : Type 0 where
   pub lay-trail : (s b : List ℕ) → TriesListing s (λ p. (10, placesShort (trailOf p) b) ∷ []) (answer (trailing s b))
   pub lay-round-trail : (s b : List ℕ) → TriesListing s (λ p. (10, placesShort (roundOf p) b) ∷ []) (answer (roundTrailing s b))
   pub write-buying-page : (s : List ℕ) (spare : ℕ) (b : List ℕ)
-      → TriesListing s (λ p. (17, spareAbove spare) ∷ (18, ltb (length b) (lineColumns * (p .switches + 1))) ∷ []) (answer (buying s spare b))
+      → TriesListing s (λ p. (17, spareAbove spare) ∷ (18, pageShort (p .switches) b) ∷ []) (answer (buying s spare b))
   pub read-buying-page : (page : List ℕ) → Tries ((18, not (formed page)) ∷ []) (answer (readingPage page))
   pub order-quantity : (rules spare : ℕ) → Tries ((17, spareAbove spare) ∷ []) (answer (orderQuantity rules spare))
   pub allowance : (n : ℕ) → Tries [] (given (allowance n))
@@ -104,7 +102,7 @@ pub record Demand1 : Type 0 where
       → TriesConsole k s (λ p. (20, setOutOfRange (p .switches) set) ∷ []) (answer (serving d k s (newSet set)))
   pub start-search : (d : Desk) (s : List ℕ) (k x : ℕ)
       → TriesConsole k s
-      (λ p. (20, setOutOfRange (p .switches) (consoleOf d k .set)) ∷ (11, switchOutOfRange p x) ∷ (21, not (has (consoleOf d k .set) x)) ∷ [])
+      (λ p. (20, setOutOfRange (p .switches) (consoleOf d k .set)) ∷ (11, switchOutOfRange p x) ∷ (21, outsideSet (consoleOf d k .set) x) ∷ [])
       (answer (serving d k s (start x)))
   pub give-outcome : (d : Desk) (s : List ℕ) (k : ℕ) (o : Outcome)
       → TriesConsole k s

@@ -32,8 +32,8 @@ use Rattle.rings.specs.Probe.{upTo, back}
 use Rattle.plan.specs.Plan.{trailOf, trailWith, trailBegin, inTable}
 use Rattle.plan.specs.Trails.{AreTrails}
 use Rattle.order.specs.declared.Span.{Span}
-use Rattle.search.specs.declared.Search.the-variants.{AllUp}
 use Rattle.search.specs.Search.{newSearch, ended}
+use Rattle.search.specs.Values.{IsAllUp}
 use Rattle.planner.specs.Calls.{rewriting, rewritten, rereading, trailing, laidOut}
 use Rattle.probing.specs.Calls.{outSpan}
 use Rattle.demands.specs.Names.{ReadAs, ringAt, orderAt, placeAt, probeRunAt}
@@ -130,7 +130,7 @@ pub record InjectionIs (p : Plant) (x : ℕ) : Type 0 where
   -- "the ring is read from there to the trail's end, then from its front"
   pub ring : ringAt p x ≡ drop (placeAt p x) (trailWith p x) ++ take (placeAt p x) (trailWith p x)
   -- "an island without links has an empty ring and is All up"
-  pub no-links : linksWith p x ≡ 0 → (ringAt p x ≡ []) × (newSearch (linksWith p x) ≡ AllUp)
+  pub no-links : linksWith p x ≡ 0 → (ringAt p x ≡ []) × IsAllUp (newSearch (linksWith p x))
   -- "the order of links is by first crossing from that place": each link of the component once, and the earlier in the order is the earlier
   -- crossed
   pub order-each : (l : ℕ) → In l (orderAt p x) ↔ T (linkWith p x l)

@@ -20,8 +20,8 @@ use Rattle.rings.specs.Order.{nth}
 use Rattle.rings.specs.FirstDown.{FirstDown}
 use Rattle.table.specs.Rules.{tableWith}
 use Rattle.plan.specs.Plan.{trailOf, ruleOf, rulesOf}
-use Rattle.search.specs.declared.Search.the-variants.{Down}
 use Rattle.search.specs.Search.{newSearch, ended}
+use Rattle.search.specs.Values.{IsDown}
 use Rattle.search.specs.Calls.{Call, perform, begun}
 use Rattle.planner.specs.Calls.{tabling}
 use Rattle.probing.specs.Calls.{link, naming, beginning, performing}
@@ -72,5 +72,6 @@ pub record Demand3 (s : List ℕ) (p : Plant) : Type 0 where
   -- "names the first broken link in the trail's order from the injection switch": with Down k under both premises, the call that names a
   -- link answers that one
   pub names : (x : ℕ) → x < p .switches → (cs : List Call) (states : List ℕ) → AllTrue p x states cs → OneOfThree p x states cs
-      → (k : ℕ) → perform (begun (linksWith p x)) cs .state ≡ Down k
-      → (answer (naming s x (trailOf p) (Down k)) ≡ given (link (nth (orderAt p x) k))) × FirstDown (upBy states) (orderAt p x) k
+      → (k : ℕ) → IsDown k (perform (begun (linksWith p x)) cs .state)
+      → (answer (naming s x (trailOf p) (perform (begun (linksWith p x)) cs .state)) ≡ given (link (nth (orderAt p x) k)))
+      × FirstDown (upBy states) (orderAt p x) k

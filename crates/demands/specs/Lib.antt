@@ -1,8 +1,10 @@
 pub mod Names
 pub mod Tried
 pub mod Conditions
+pub mod CheckingOrder
 pub mod Demand1
 pub mod Demand2
+pub mod SearchIs
 pub mod Demand3
 pub mod Order1
 pub mod Order2

@@ -5,20 +5,27 @@ use mathlib.Core.Logic.{_⊎_, _↔_}
 use mathlib.Core.List.{List, _∷_, _++_}
 use Prim.Native.Nat.{ℕ}
 use lib.Dec.{T}
-use Rattle.search.specs.declared.Outcome.the-variants.{Returned, Lost}
+use Rattle.search.specs.declared.Outcome.{Outcome}
+use Rattle.search.specs.Values.{IsReturned, IsLost}
 use Rattle.search.specs.Calls.{Sending, sent, countedIn}
 
 -- a sending of probe m returned
 pub record ReturnedIn (m : ℕ) (l : List Sending) : Type 0 where
   pub before : List Sending
   pub after : List Sending
-  pub there : l ≡ before ++ (sent m Returned ∷ after)
+  pub o : Outcome
+  pub returned : IsReturned o
+  pub there : l ≡ before ++ (sent m o ∷ after)
 
 -- three sendings in a row of probe m were lost
 pub record LostInRow (m : ℕ) (l : List Sending) : Type 0 where
   pub before : List Sending
   pub after : List Sending
-  pub there : l ≡ before ++ (sent m Lost ∷ sent m Lost ∷ sent m Lost ∷ after)
+  pub a : Outcome
+  pub b : Outcome
+  pub c : Outcome
+  pub lost : IsLost a × IsLost b × IsLost c
+  pub there : l ≡ before ++ (sent m a ∷ sent m b ∷ sent m c ∷ after)
 
 -- "a probe counts as lost when three sendings in a row were lost, and as home at the first that returns"
 abbrev pub Counted : Type 0

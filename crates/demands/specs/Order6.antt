@@ -25,8 +25,8 @@ use Rattle.plan.specs.Rounds.{AreRounds}
 use Rattle.choosing.specs.declared.Choice.{Choice}
 use Rattle.choosing.specs.Choice.{hopsIn}
 use Rattle.packet.specs.Outcome.{outcomeOf}
-use Rattle.search.specs.declared.Outcome.the-variants.{Returned}
 use Rattle.search.specs.Search.{ended}
+use Rattle.search.specs.Values.{IsReturned}
 use Rattle.search.specs.Calls.{Call, perform, begun, TrueSending, OneReturns}
 use Rattle.planner.specs.Calls.{roundTrailing, roundLaidOut}
 use Rattle.probing.specs.Calls.{roundRunning, choosing, probeEnd}
@@ -99,6 +99,6 @@ pub record ByLabel (p : Plant) (x : ℕ) (states : List ℕ) : Type 0 where
   pub runs : (m : ℕ) → endByLabel p x states m ≡ probeEnd p x (linkBytes p states) m
   -- and after any list of calls, with demand 3's two premises on its sendings by the runs by label, the verdict is demand 3's
   pub says : (cs : List Call)
-      → Each (TrueSending (λ m. outcomeOf (endByLabel p x states m) ≡ Returned)) (sentOver p x cs)
-      → OneReturns (λ m. outcomeOf (endByLabel p x states m) ≡ Returned) (sentOver p x cs)
+      → Each (TrueSending (λ m. IsReturned (outcomeOf (endByLabel p x states m)))) (sentOver p x cs)
+      → OneReturns (λ m. IsReturned (outcomeOf (endByLabel p x states m))) (sentOver p x cs)
       → ended (perform (begun (linksWith p x)) cs .state) ≡ true → Says p x (linkBytes p states) (perform (begun (linksWith p x)) cs .state)

@@ -1,6 +1,5 @@
 -- Document 02, order 8: four consoles, each with its own switches.
 use mathlib.Core.Path.{_≡_}
-use mathlib.Core.Logic.{_↔_}
 use mathlib.Core.Bool.{true, false}
 use mathlib.Core.List.{List}
 use Prim.Native.Nat.{ℕ, _^_, _≤_, _<_}
@@ -27,9 +26,7 @@ use Rattle.consoles.specs.Lists.{DeskCall, answerTo, after, afterAll, callsOf, 
 
 -- sets of switches, and a fresh desk
 pub record Sets : Type 0 where
-  -- 20: "a bit at or above S in the calling console's set"
-  pub beyond : (s set : ℕ) → (setOutOfRange s set ≡ true) ↔ ((x : ℕ) × (s ≤ x) × (has set x ≡ true))
-  -- with as many switches as a plant can have, no set of 64 bits has one
+  -- 20, a bit at or above S (`ConditionsAre`): with as many switches as a plant can have, no set of 64 bits has one
   pub none-beyond : (set : ℕ) → set < 2 ^ maxSwitches → setOutOfRange maxSwitches set ≡ false
   -- "a fresh desk has empty sets and no search"
   pub fresh : (k : ℕ) → k ≤ 3 → consoleOf freshDesk k ≡ idle
@@ -58,7 +55,8 @@ pub record ConsoleCalls (k : ℕ) (s : List ℕ) (p : Plant) : Type 0 where
 pub record Isolated : Type 0 where
   -- what a call answers, and its console's set and search afterwards, are a function of that console's set and search and of the call
   pub own : (q : DeskCall) → (f : Console → Answer Console × Console)
-      × ((d : Desk) → (answerTo d q ≡ f (consoleOf d (q .console)) .0) × (consoleOf (after d q) (q .console) ≡ f (consoleOf d (q .console)) .1))
+      × ((d : Desk)
+      → (answerTo d q ≡ f (consoleOf d (q .console)) .0) × (consoleOf (after d q) (q .console) ≡ f (consoleOf d (q .console)) .1))
   -- "as they then stand"
   pub stands : (d : Desk) (q : DeskCall) (c : Console) → answerTo d q ≡ given c → consoleOf (after d q) (q .console) ≡ c
   -- the other three are equal before and after

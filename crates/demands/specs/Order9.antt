@@ -12,17 +12,23 @@ use Rattle.answers.specs.Answers.{given, numberOf}
 use Rattle.answers.specs.Checks.{answer}
 use Rattle.plant.specs.declared.Plant.{Plant}
 use Rattle.plant.specs.Links.{live}
+use Rattle.walks.specs.Arcs.{tail, head}
 use Rattle.walks.specs.Graph.{Crosses, liveLinks, bridges, usedFrom, switchesFrom, linksFrom, bridgesFrom, arcsUsedFrom}
 use Rattle.walks.specs.Components.{rootOf, roots, componentOf, linkWith, linksWith, used, arcsUsed}
 use Rattle.walks.specs.Round.{roundFrom}
 use Rattle.routes.specs.Plants.{trailFrom}
-use Rattle.plan.specs.Plan.{trailOf, trailWith, trailBegin, roundOf, roundWith, roundBegin}
+use Rattle.table.specs.Rules.{rulesIn, tableIn}
+use Rattle.plan.specs.Plan.{trailOf, trailWith, trailBegin, roundOf, roundWith, roundBegin, tableOf}
+use Rattle.order.specs.Span.{ringSpan, spanOf}
+use Rattle.choosing.specs.Choice.{choiceOf}
+use Rattle.text.specs.Lines.{summaryLine, ruleLines, trailLine}
+use Rattle.printing.specs.Output.{triple, printed}
 use Rattle.search.specs.declared.Search.{Search}
-use Rattle.search.specs.declared.Search.the-variants.{AllUp}
 use Rattle.search.specs.Search.{ended}
+use Rattle.search.specs.Values.{IsAllUp}
 use Rattle.planning.specs.Components.{zeroComponent, componentsOf}
 use Rattle.planner.specs.Calls.{parting}
-use Rattle.probing.specs.Calls.{checking, roundRunning, link, naming, beginning}
+use Rattle.probing.specs.Calls.{checking, roundRunning, choiceAt, outSpan, link, naming, beginning}
 use Rattle.consoles.specs.Calls.{start}
 use Rattle.demands.specs.Names.{ringAt, orderAt, roundRingAt}
 
@@ -65,15 +71,15 @@ pub record Elsewhere (s : List ℕ) (p : Plant) (x l : ℕ) : Type 0 where
 
 -- a switch x whose component has no links: "an empty ring", "All up", and a full check that ends at once
 pub record NoLinks (s : List ℕ) (p : Plant) (x : ℕ) : Type 0 where
-  pub all-up : answer (beginning s x) ≡ given AllUp
+  pub all-up : (q : Search) × (answer (beginning s x) ≡ given q) × IsAllUp q
   pub full-check : (states : List ℕ) → p .count ≤ length states
       → answer (checking s x (trailOf p) states) ≡ given (record { ended = true; hops = 0; last = x })
   pub round-run : (spare states : List ℕ) → 2 * p .count ≤ length states
       → answer (roundRunning s x (roundOf p ++ spare) states) ≡ given (record { ended = true; hops = 0; last = x })
 
--- "for a connected plant every earlier output remains": its one component is the plant, and every definition that this order changed is
--- what it was, from the start and over all links in service
-pub record OneComponent (p : Plant) : Type 0 where
+-- "for a connected plant every earlier output remains", where s is its listing: its one component is the plant, and every definition that
+-- this order changed is what it was, from the start and over all links in service
+pub record OneComponent (s : List ℕ) (p : Plant) : Type 0 where
   pub one-root : roots p ≡ p .start ∷ []
   pub in-use : used p ≡ usedFrom p (p .start)
   pub trail : trailOf p ≡ trailFrom p (p .start)
@@ -81,3 +87,14 @@ pub record OneComponent (p : Plant) : Type 0 where
   pub trail-with : (x : ℕ) → x < p .switches → (trailWith p x ≡ trailOf p) × (trailBegin p (componentOf p x) ≡ 0)
   pub round-with : (x : ℕ) → x < p .switches → (roundWith p x ≡ roundOf p) × (roundBegin p (componentOf p x) ≡ 0)
   pub links : (x : ℕ) → x < p .switches → (linksWith p x ≡ liveLinks p) × ((l : ℕ) → linkWith p x l ≡ live p l)
+  -- the forwarding table is that of the arcs in use from the start
+  pub table : tableOf p ≡ tableIn (2 * p .count) (tail p) (head p) (usedFrom p (p .start))
+  -- outward labels stand where they stand in the one trail: for the full check, m = E, the ring, and for any other m those of probe m
+  pub span-ring : (x : ℕ) → x < p .switches → outSpan p x (liveLinks p) ≡ ringSpan p (trailOf p) x
+  pub span : (x m : ℕ) → x < p .switches → (m ≡ liveLinks p → ⊥) → outSpan p x m ≡ spanOf p (trailOf p) x m
+  -- the shorter trail is chosen of the two whole ones
+  pub choice : (x : ℕ) → x < p .switches → choiceAt p x ≡ choiceOf 0 (length (trailOf p)) 0 (length (roundOf p))
+  -- what `rules` prints for its listing is document 01's page: the numbers, the rules by rising label, and one trail line
+  pub page : printed s
+      ≡ summaryLine (p .switches) (liveLinks p) (bridges p) (arcsUsedFrom p (p .start)) (length (trailFrom p (p .start)))
+      ++ (ruleLines (map triple (rulesIn (2 * p .count) (tail p) (head p) (usedFrom p (p .start)))) ++ trailLine (trailFrom p (p .start)))

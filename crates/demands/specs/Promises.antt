@@ -22,8 +22,10 @@ use Rattle.sheet.specs.declared.Sheet.{Sheet}
 use Rattle.planner.specs.Calls.{quotingFor}
 use Rattle.demands.specs.Names.{ReadAs}
 use Rattle.demands.specs.Conditions.{ConditionsAre}
+use Rattle.demands.specs.CheckingOrder.{CheckingOrder}
 use Rattle.demands.specs.Demand1.{Demand1, Untouched}
 use Rattle.demands.specs.Demand2.{Demand2}
+use Rattle.demands.specs.SearchIs.{SearchIs}
 use Rattle.demands.specs.Demand3.{Demand3}
 use Rattle.demands.specs.Order1.{GotTo, PacketsTell}
 use Rattle.demands.specs.Order2.{SameTotals, BySwitches}
@@ -39,7 +41,11 @@ pub record Promises : Type 0 where
   pub untouched : Untouched
   -- what the conditions that it tries say
   pub conditions : ConditionsAre
+  -- the order in which the reader and the writer try them
+  pub checking-order : CheckingOrder
   pub demand-2 : Demand2
+  -- the search is document 01's, in its values
+  pub search-is : SearchIs
   -- "the rule page is document 01's", and what a search does; order 4's and order 5's promises with it
   pub demand-3 : (s : List ℕ) (p : Plant) → ReadAs s p → Demand3 s p
   -- order 1: where a packet got to, whatever the rules are; and what the calls tell
@@ -76,4 +82,4 @@ pub record Promises : Type 0 where
   pub parted : (s : List ℕ) (p : Plant) → ReadAs s p → Parted s p
   pub elsewhere : (s : List ℕ) (p : Plant) → ReadAs s p → (x : ℕ) → x < p .switches → (l : ℕ) → (T (linkWith p x l) → ⊥) → Elsewhere s p x l
   pub no-links : (s : List ℕ) (p : Plant) → ReadAs s p → (x : ℕ) → x < p .switches → linksWith p x ≡ 0 → NoLinks s p x
-  pub one-component : (s : List ℕ) (p : Plant) → ReadAs s p → Connected p → OneComponent p
+  pub one-component : (s : List ℕ) (p : Plant) → ReadAs s p → Connected p → OneComponent s p

@@ -16,7 +16,8 @@ use Rattle.search.specs.declared.Told.the-variants as told
 use Rattle.search.specs.Search.{sound, soundFor, ended, next, give, toldOf}
 use Rattle.judging.specs.Conditions.{searchUnsound, wantedChecks}
 use Rattle.desk.specs.declared.Held.the-variants.{From}
-use Rattle.desk.specs.Console.{switchChecks, consoleWith, givingTo, feeding}
+use Rattle.desk.specs.Console.{switchChecks, consoleWith}
+use Rattle.desk.specs.Inner.{givingTo, feeding}
 
 and-false : (b : Bool) → b && false ≡ false
 and-false true = refl

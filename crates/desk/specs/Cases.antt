@@ -11,6 +11,7 @@ use Rattle.search.specs.declared.Search.{Search}
 use Rattle.search.specs.declared.Search.the-variants.{Checking, Halving, AllUp, Down}
 use Rattle.search.specs.declared.Outcome.the-variants.{Returned, Lost}
 use Rattle.search.specs.Search.{newSearch}
+use Rattle.search.specs.Values.{valuesOf}
 use Rattle.judging.specs.Conditions.{searchUnsound}
 use Rattle.desk.specs.declared.Held.{Held}
 use Rattle.desk.specs.declared.Held.the-variants.{Nothing, From}
@@ -19,10 +20,7 @@ use Rattle.desk.specs.Console.{setOutOfRange, consoleWith, replacing, st
 
 -- a search as numbers: its kind, 0 Checking, 1 Halving, 2 All up, 3 Down, and then its own
 abbrev numbers : Search → List ℕ
-numbers (Checking count lost) = 0 ∷ count ∷ lost ∷ []
-numbers (Halving low high lost) = 1 ∷ low ∷ high ∷ lost ∷ []
-numbers AllUp = 2 ∷ []
-numbers (Down place) = 3 ∷ place ∷ []
+numbers q = valuesOf q .0 ∷ valuesOf q .1
 
 -- with its switch before it, or nothing
 abbrev held : Held → List ℕ

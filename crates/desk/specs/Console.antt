@@ -6,7 +6,6 @@ use mathlib.Core.List.{[], _∷_, _++_}
 use Prim.Native.Nat.{ℕ, _/_, _%_, _^_}
 use lib.Dec.{eqb, leb}
 use Rattle.answers.specs.Checks.{Conditions, Checked, check}
-use Rattle.search.specs.declared.Search.{Search}
 use Rattle.search.specs.declared.Outcome.{Outcome}
 use Rattle.search.specs.Search.{newSearch, next}
 use Rattle.judging.specs.Conditions.{wantedChecks}
@@ -24,9 +23,17 @@ has set x = eqb (set / 2 ^ x % 2) 1
 unfoldable pub setOutOfRange : ℕ → ℕ → Bool
 setOutOfRange s set = leb (2 ^ s) set
 
--- 11, the switch is not below S; 21, "the switch is outside the set, just after 11"
+-- 11: the switch is not below S
+abbrev pub notBelow : ℕ → ℕ → Bool
+notBelow s x = leb s x
+
+-- 21: "the switch is outside the set"
+abbrev pub outsideSet : ℕ → ℕ → Bool
+outsideSet set x = not (has set x)
+
+-- 11, and 21 "just after 11"
 abbrev pub switchChecks : ℕ → ℕ → ℕ → Conditions
-switchChecks s set x = (11, leb s x) ∷ (21, not (has set x)) ∷ []
+switchChecks s set x = (11, notBelow s x) ∷ (21, outsideSet set x) ∷ []
 
 -- 20 of a set, then those of a switch
 abbrev pub startChecks : ℕ → ℕ → ℕ → Conditions
@@ -67,13 +74,3 @@ heldAfter o (From x q) = From x (next q o)
 -- 20 of its set, then those of its search
 unfoldable pub telling : ℕ → ℕ → Outcome → Console → Checked Console
 telling s e o c = check ((20, setOutOfRange s (c .set)) ∷ heldChecks s e (c .set) (c .search)) (consoleWith (c .set) (heldAfter o (c .search)))
-
--- ---- inner: the parts of an outcome, as the code takes them
-
--- 14 and 15 of a search over e links, then its next state
-unfoldable pub givingTo : ℕ → Search → Outcome → Checked Search
-givingTo e q o = check (wantedChecks e q) (next q o)
-
--- of a console that has a search
-unfoldable pub feeding : ℕ → ℕ → Outcome → ℕ → ℕ → Search → Checked Console
-feeding s e o set x q = check (heldChecks s e set (From x q)) (consoleWith set (heldAfter o (From x q)))

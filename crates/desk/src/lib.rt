@@ -9,7 +9,8 @@ use search::Told;
 ghost use mathlib.Core.Path.{_≡_};
 ghost use Rattle.answers.specs.Checks.{Judges, answer};
 ghost use Rattle.search.specs.Search.{toldOf};
-ghost use Rattle.desk.specs.Console.{has, setOutOfRange, switchChecks, startChecks, consoleWith, heldAt, replacing, starting, givingTo, feeding, telling};
+ghost use Rattle.desk.specs.Console.{has, setOutOfRange, switchChecks, startChecks, consoleWith, heldAt, replacing, starting, telling};
+ghost use Rattle.desk.specs.Inner.{givingTo, feeding};
 ghost use Rattle.desk.specs.declared.Held.the-variants.{From};
 ghost use Rattle.desk.specs.Desk.{consoleOf, withConsole, freshDesk, shownAnswer, Serves};
 

@@ -19,11 +19,10 @@ use Rattle.rings.specs.Injection.{orderOf}
 use Rattle.rings.specs.FirstDown.{FirstDown}
 use Rattle.packet.specs.Outcome.{outcomeOf}
 use Rattle.search.specs.declared.Search.{Search}
-use Rattle.search.specs.declared.Search.the-variants.{AllUp, Down}
 use Rattle.search.specs.declared.Outcome.{Outcome}
-use Rattle.search.specs.declared.Outcome.the-variants.{Returned}
 use Rattle.search.specs.declared.Progress.{Progress}
 use Rattle.search.specs.Search.{ended, ask, give}
+use Rattle.search.specs.Values.{IsAllUp, IsDown, IsReturned}
 use Rattle.search.specs.Calls.{Call, begun, Sending, sendings, returnsOf, lossesOf, countedIn, TrueSending, OneReturns}
 use Rattle.search.specs.Limit.{limit}
 use Rattle.planning.specs.Planning.{planningAt}
@@ -60,7 +59,7 @@ module _ (p : Plant) (x : ℕ) (states : List ℕ) where
 
   -- the packet rule brings probe m home: it goes over sound links alone
   abbrev pub ComesHome : ℕ → Type 0
-  ComesHome m = actualOutcome m ≡ Returned
+  ComesHome m = IsReturned (actualOutcome m)
 
   -- the first premise: every accepted outcome is true; returned is true if the packet rule says so, and lost always
   abbrev pub AllTrue : List Call → Type 0
@@ -74,8 +73,8 @@ module _ (p : Plant) (x : ℕ) (states : List ℕ) where
 
   -- "all up exactly when no link is broken, and otherwise names the first broken link in the trail's order from the injection switch"
   pub record Says (state : Search) : Type 0 where
-    pub all-up : (state ≡ AllUp) ↔ NoneBroken
-    pub first-broken : (NoneBroken → ⊥) → (k : ℕ) × (state ≡ Down k) × FirstDown (upBy states) (orderOf p (trailWith p x) x) k
+    pub all-up : IsAllUp state ↔ NoneBroken
+    pub first-broken : (NoneBroken → ⊥) → (k : ℕ) × IsDown k state × FirstDown (upBy states) (orderOf p (trailWith p x) x) k
 
 -- ---- the statement
 
@@ -97,7 +96,7 @@ pub record Searches (p : Plant) (x : ℕ) (cs : List Call) (r : Progress) : Type
   -- "the search's verdict, all up included, holds provided that, of three sendings in a row of one probe over sound links, one returns"
   pub says : (states : List ℕ) → AllTrue p x states cs → OneOfThree p x states cs → ended (r .state) ≡ true → Says p x states (r .state)
   -- All up is right by the first premise alone
-  pub up-right : (states : List ℕ) → AllTrue p x states cs → r .state ≡ AllUp → NoneBroken p x states
+  pub up-right : (states : List ℕ) → AllTrue p x states cs → IsAllUp (r .state) → NoneBroken p x states
 
 -- so it is of what `perform` answers, for a listing s that is read as a plant p with the switch x
 abbrev pub Performs : List ℕ → ℕ → List Call → Answer Progress → Type 0

@@ -22,13 +22,14 @@ use Rattle.answers.specs.Answers.{given}
 use Rattle.answers.specs.Checks.{answer}
 use Rattle.limits.specs.Limits.{maxLinks}
 use Rattle.search.specs.declared.Search.{Search}
-use Rattle.search.specs.declared.Search.the-variants.{AllUp, Down}
 use Rattle.search.specs.declared.Outcome.{Outcome}
 use Rattle.search.specs.declared.Outcome.the-variants.{Returned, Lost}
 use Rattle.search.specs.declared.Progress.{Progress}
 use Rattle.search.specs.Search.{tries, sound, soundFor, ended, wanted, lostSoFar, settles, next, ask, give}
 use Rattle.search.specs.Calls.{Call, asks, gives, counted, step, perform, begun, Sending, sent, sendingBy, sendings, TrueSending, OneReturns}
 use Rattle.search.specs.Limit.{limit}
+use Rattle.search.specs.Values.{valuesOf, IsAllUp, IsDown, outcomeNumber, IsReturned}
+use Rattle.search.proofs.Values.{is-all-up}
 use Rattle.search.specs.Sound.{Good}
 use Rattle.search.proofs.Sound.{good-sound, wanted-in, answers-15, answers-given}
 use Rattle.search.proofs.Intervals.{AtLeast, AtMost, left, new-good, new-least, new-most, new-left, new-lost, next-as, last-loss, earlier-loss, settled-good, settled-lost, settled-least, settled-most, settled-left, once-more-same, once-more-good, once-more-lost, good-lost, none-left, ended-lost, up-at, ended-at}
@@ -53,27 +54,27 @@ module _ (e f : ℕ) (home : ℕ → Type 0) where
     -- its state is never refused as unsound
     pub stays-sound : (sound (r .state) ≡ true) × (soundFor e (r .state) ≡ true)
     -- if every sending is true, All up is right
-    pub up-right : Each (TrueSending home) (sendings p cs) → r .state ≡ AllUp → f ≡ e + 1
+    pub up-right : Each (TrueSending home) (sendings p cs) → IsAllUp (r .state) → f ≡ e + 1
     -- if also one of three sendings in a row of a probe returns, an ended search is All up if no link is broken, and else Down at the first broken link
-    pub all-up : Each (TrueSending home) (sendings p cs) → OneReturns home (sendings p cs) → ended (r .state) ≡ true → f ≡ e + 1 → r .state ≡ AllUp
-    pub first-down : Each (TrueSending home) (sendings p cs) → OneReturns home (sendings p cs) → ended (r .state) ≡ true → f ≤ e → r .state ≡ Down f
+    pub all-up : Each (TrueSending home) (sendings p cs) → OneReturns home (sendings p cs) → ended (r .state) ≡ true → f ≡ e + 1 → IsAllUp (r .state)
+    pub first-down : Each (TrueSending home) (sendings p cs) → OneReturns home (sendings p cs) → ended (r .state) ≡ true → f ≤ e → IsDown f (r .state)
 
-not-returned : Lost ≡ Returned → ⊥
-not-returned i = let z : _≡_ {A = ℕ} 0 1 = cc in absurd (omega arith)
+not-returned : IsReturned Lost → ⊥
+not-returned i = omega (arith, i)
 
 -- so it is with outcomes by a test, if the test tells that
-returned-true : (b : Bool) → choose b Returned Lost ≡ Returned → b ≡ true
+returned-true : (b : Bool) → IsReturned (choose b Returned Lost) → b ≡ true
 returned-true true t = refl
 returned-true false t = absurd (not-returned t)
 
 pub tells-by : (e f : ℕ) → 1 ≤ f → f ≤ e + 1 → (test : ℕ → Bool) → ((m : ℕ) → 1 ≤ m → m ≤ e → test m ≡ ltb m f)
-    → Tells e f (λ m. choose (test m) Returned Lost ≡ Returned)
+    → Tells e f (λ m. IsReturned (choose (test m) Returned Lost))
 tells-by e f h i test told = record {
   from-one = h;
   to-none = i;
   before = λ m j k. (
     λ t. ltb-true m f (sym (told m j k) ∙ returned-true (test m) t),
-    λ l. ap (λ (b : Bool). choose b Returned Lost) (told m j k ∙ lt-ltb m f l),
+    λ l. ap (λ (b : Bool). outcomeNumber (choose b Returned Lost)) (told m j k ∙ lt-ltb m f l),
   );
 }
 
@@ -230,7 +231,7 @@ module _ (e : ℕ) (fits : e ≤ maxLinks) (most : ℕ) where
         two : LostLast 2 (wanted s) u
         two = subst (λ n. LostLast n (wanted s) u) third (a .row)
 
-        none : (Lost ≡ Returned) ⊎ ((Lost ≡ Returned) ⊎ (Lost ≡ Returned)) → ⊥
+        none : IsReturned Lost ⊎ (IsReturned Lost ⊎ IsReturned Lost) → ⊥
         none (inl i) = not-returned i
         none (inr (inl i)) = not-returned i
         none (inr (inr i)) = not-returned i
@@ -282,9 +283,9 @@ module _ (e : ℕ) (fits : e ≤ maxLinks) (most : ℕ) where
           packets-few = packets-most (perform p cs) k;
           goes-on = λ q. let i = wanted-in e s (k .good) q in (wanted s, i .0, i .1, asks-on s (k .good) q);
           stays-sound = good-sound e s fits (k .good);
-          up-right = λ t q. omega (arith, up-at e s f (least t) q, tells .to-none);
-          all-up = λ t h q. ended-at e s f (k .good) (least t) (top h) q .0;
-          first-down = λ t h q. ended-at e s f (k .good) (least t) (top h) q .1;
+          up-right = λ t q. omega (arith, up-at e s f (least t) (is-all-up s q), tells .to-none);
+          all-up = λ t h q i. ap valuesOf (ended-at e s f (k .good) (least t) (top h) q .0 i);
+          first-down = λ t h q i. ap valuesOf (ended-at e s f (k .good) (least t) (top h) q .1 i);
         }
 
 -- a new search is such a state

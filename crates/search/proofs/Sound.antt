@@ -32,7 +32,7 @@ judged-sound s v j e = not-false (sound s) (none-judged (callChecks s) v j e .0)
 
 -- ---- a sound state
 
-counts-fits : (n : ℕ) → counts n ≡ true → (1 ≤ n) × (n ≤ maxLinks)
+pub counts-fits : (n : ℕ) → counts n ≡ true → (1 ≤ n) × (n ≤ maxLinks)
 counts-fits n t = let r = and-true (ltb 0 n) (leb n maxLinks) t in (ltb-true 0 n (r .0), leb-true n maxLinks (r .1))
 
 halves-fits : (low high : ℕ) → halves low high ≡ true → (1 ≤ low) × (low < high) × (high ≤ maxLinks)
@@ -42,7 +42,7 @@ halves-fits low high t =
     (ltb-true 0 low (r .0), ltb-true low high (q .0), leb-true high maxLinks (q .1))
 
 -- a number of sendings lost that is short of settling a probe
-checking-fits : (count lost : ℕ) → sound (Checking count lost) ≡ true → (1 ≤ count) × (count ≤ maxLinks) × (lost < tries)
+pub checking-fits : (count lost : ℕ) → sound (Checking count lost) ≡ true → (1 ≤ count) × (count ≤ maxLinks) × (lost < tries)
 checking-fits count lost t =
     let r = and-true (counts count) (short lost) t in
     let q = counts-fits count (r .0) in

@@ -1,7 +1,7 @@
 -- The theorem of Finds is not empty, and its limits are not too large. If every outcome is the one of the packet rule, so that no packet vanishes, both premises hold; for
 -- every place of the first broken link there is such a list that ends the search there. The allowance alone, without the full check, is refuted, and so are two packets for
 -- each probe. Without the second premise an ended search can name a link that is up. Assumes nothing.
-use mathlib.Core.Path.{_≡_, refl, sym, subst, _∙_}
+use mathlib.Core.Path.{_≡_, refl, sym, ap, subst, _∙_}
 use mathlib.Core.Logic.{_⊎_, inl, inr}
 use mathlib.Core.Bool.{true, false}
 use mathlib.Core.List.{List, [], _∷_}
@@ -15,13 +15,13 @@ use Rattle.lists.proofs.Members.{each-parts}
 use Rattle.lists.specs.Least.{leastFrom}
 use Rattle.limits.specs.Limits.{maxLinks}
 use Rattle.allowance.specs.Allowance.{allowance}
-use Rattle.search.specs.declared.Search.the-variants.{AllUp, Down}
 use Rattle.search.specs.declared.Outcome.{Outcome}
 use Rattle.search.specs.declared.Outcome.the-variants.{Returned, Lost}
 use Rattle.search.specs.declared.Progress.{Progress}
 use Rattle.search.specs.Search.{tries, newSearch, ended, wanted, lostSoFar, ask, give}
 use Rattle.search.specs.Calls.{Call, gives, step, perform, begun, Sending, sent, sendings, TrueSending, OneReturns}
 use Rattle.search.specs.Limit.{limit}
+use Rattle.search.specs.Values.{Values, IsAllUp, IsDown, outcomeNumber, IsReturned}
 use Rattle.search.proofs.Intervals.{left, next-as, settled-left, settled-lost, once-more-same, once-more-lost, good-lost, none-left}
 use Rattle.search.proofs.Finds.{tells-by, moved, accepted, sends, Kept, kept-new, kept-step, sound-kept, finds}
 
@@ -31,10 +31,10 @@ module _ (actual : ℕ → Outcome) where
   Quiet (sent m o) = o ≡ actual m
 
   abbrev home : ℕ → Type 0
-  home m = actual m ≡ Returned
+  home m = IsReturned (actual m)
 
   quiet-true : (s : Sending) → Quiet s → TrueSending home s
-  quiet-true (sent m Returned) e = sym e
+  quiet-true (sent m Returned) e = ap outcomeNumber (sym e)
   quiet-true (sent m Lost) e = tt
 
   -- then both premises hold
@@ -43,7 +43,7 @@ module _ (actual : ℕ → Outcome) where
   all-true (s ∷ l) h = (quiet-true s (h .0), all-true l (h .1))
 
   pub one-returns : (l : List Sending) → Each Quiet l → OneReturns home l
-  one-returns l h before after m a b c e i = inl (each-parts Quiet before (sent m a ∷ sent m b ∷ sent m c ∷ after) (subst (Each Quiet) e h) .1 .0 ∙ i)
+  one-returns l h before after m a b c e i = inl (ap outcomeNumber (each-parts Quiet before (sent m a ∷ sent m b ∷ sent m c ∷ after) (subst (Each Quiet) e h) .1 .0) ∙ i)
 
   -- a list of outcomes from p on that ends the search, each the one that its probe has
   abbrev pub Ends : Progress → Type 0
@@ -82,10 +82,10 @@ module _ (e : ℕ) (fits : e ≤ maxLinks) (f : ℕ) (from-one : 1 ≤ f) (to-no
   actual m = choose (ltb m f) Returned Lost
 
   pub found : (cs : List Call) × Each (Quiet actual) (sendings (begun e) cs)
-      × (f ≤ e → perform (begun e) cs .state ≡ Down f) × (f ≡ e + 1 → perform (begun e) cs .state ≡ AllUp)
+      × (f ≤ e → IsDown f (perform (begun e) cs .state)) × (f ≡ e + 1 → IsAllUp (perform (begun e) cs .state))
   found =
       let r = ends-new actual e fits in
-      let t = finds e fits f (λ m. actual m ≡ Returned) (tells-by e f from-one to-none (λ m. ltb m f) (λ m h i. refl)) (r .0) in
+      let t = finds e fits f (λ m. IsReturned (actual m)) (tells-by e f from-one to-none (λ m. ltb m f) (λ m h i. refl)) (r .0) in
       let h = one-returns actual (sendings (begun e) (r .0)) (r .1) in
       let i = all-true actual (sendings (begun e) (r .0)) (r .1) in
       (r .0, r .1, t .first-down i h (r .2), t .all-up i h (r .2))
@@ -109,6 +109,6 @@ fewer-packets f = let h : 9 < 9 = f 3 (losses 9) in omega arith
 
 -- true outcomes alone do not give the verdict: where every probe comes home by the packet rule, three losses in a row end at a link that is up
 truth-alone : ((cs : List Call) → Each (TrueSending (λ m. Unit)) (sendings (begun 1) cs) → ended (perform (begun 1) cs .state) ≡ true
-    → perform (begun 1) cs .state ≡ AllUp) → ⊥
+    → IsAllUp (perform (begun 1) cs .state)) → ⊥
 unfolding begun newSearch give ask
-truth-alone f = let q : Down 1 ≡ AllUp = f (losses 3) (tt, (tt, (tt, tt))) refl in let z : _≡_ {A = ℕ} 0 1 = cc in omega arith
+truth-alone f = let z : _≡_ {A = ℕ} 3 2 = ap (λ (v : Values). v .0) (f (losses 3) (tt, (tt, (tt, tt))) refl) in omega (arith, z)

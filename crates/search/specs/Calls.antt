@@ -16,6 +16,7 @@ use Rattle.search.specs.declared.Outcome.{Outcome}
 use Rattle.search.specs.declared.Outcome.the-variants.{Returned, Lost}
 use Rattle.search.specs.declared.Progress.{Progress}
 use Rattle.search.specs.Search.{tries, newSearch, settles, ask, give}
+use Rattle.search.specs.Values.{IsReturned}
 
 pub data Call : Type 0 where
   asks : Call
@@ -102,4 +103,4 @@ module _ (home : ℕ → Type 0) where
   -- "of three sendings in a row of one probe over sound links, one returns", wherever in the list they stand
   abbrev pub OneReturns : List Sending → Type 0
   OneReturns l = (before after : List Sending) (m : ℕ) (a b c : Outcome) → l ≡ before ++ (sent m a ∷ sent m b ∷ sent m c ∷ after)
-      → home m → (a ≡ Returned) ⊎ ((b ≡ Returned) ⊎ (c ≡ Returned))
+      → home m → IsReturned a ⊎ (IsReturned b ⊎ IsReturned c)

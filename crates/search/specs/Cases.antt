@@ -8,11 +8,12 @@ use Rattle.answers.specs.Answers.{Answer, given, refused, _>>=_}
 use Rattle.answers.specs.Checks.{answer}
 use Rattle.answers.specs.Tables.{agreed}
 use Rattle.search.specs.declared.Search.{Search}
-use Rattle.search.specs.declared.Search.the-variants.{Checking, Halving, AllUp, Down}
+use Rattle.search.specs.declared.Search.the-variants.{Checking, Halving}
 use Rattle.search.specs.declared.Outcome.{Outcome}
 use Rattle.search.specs.declared.Outcome.the-variants.{Returned, Lost}
 use Rattle.search.specs.declared.Progress.{Progress}
 use Rattle.search.specs.Search.{newSearch, ask, give}
+use Rattle.search.specs.Values.{valuesOf, outcomeNumber}
 use Rattle.search.specs.Calls.{Call, asks, gives, perform, begun, Sending, sent, sendings, countedIn}
 
 -- the calls that count a probe as returned, and as lost
@@ -29,10 +30,7 @@ probesAfter (suc n) p = probesAfter n (perform p returns) ++ probesAfter n (perf
 
 -- a state as numbers: its kind, 0 Checking, 1 Halving, 2 All up, 3 Down, and then its own
 abbrev numbers : Search → List ℕ
-numbers (Checking count lost) = 0 ∷ count ∷ lost ∷ []
-numbers (Halving low high lost) = 1 ∷ low ∷ high ∷ lost ∷ []
-numbers AllUp = 2 ∷ []
-numbers (Down place) = 3 ∷ place ∷ []
+numbers q = valuesOf q .0 ∷ valuesOf q .1
 
 -- where calls lead to after a new search over e links: probes, packets, and the state
 abbrev after : ℕ → List Call → Answer (List ℕ)
@@ -41,8 +39,7 @@ after e cs = let p = perform (begun e) cs in given (p .probes ∷ p .packets ∷
 -- their sendings, each as the m of its probe and 1 if it returned, else 0
 abbrev pairs : List Sending → List ℕ
 pairs [] = []
-pairs (sent m Returned ∷ l) = m ∷ 1 ∷ pairs l
-pairs (sent m Lost ∷ l) = m ∷ 0 ∷ pairs l
+pairs (sent m o ∷ l) = m ∷ outcomeNumber o ∷ pairs l
 
 abbrev sends : ℕ → List Call → Answer (List ℕ)
 sends e cs = given (pairs (sendings (begun e) cs))

@@ -1,4 +1,5 @@
 pub mod Search
+pub mod Values
 pub mod Calls
 pub mod Limit
 pub mod Sound

@@ -1,4 +1,5 @@
 -- The buying page (document 02, order 3): a line from its fields, and a page from its lines.
+use mathlib.Core.Bool.{Bool}
 use mathlib.Core.List.{List, [], _∷_, _++_}
 use Prim.Native.Nat.{ℕ, _+_, _*_}
 use lib.Dec.{ltb}
@@ -23,6 +24,10 @@ unfoldable pub lineOf : List ℕ → ℕ → ℕ → List ℕ
 lineOf field rules links =
     leftIn lastColumn (field ++ rightIn rulesColumns (decimal rules) ++ rightIn linksColumns (decimal links)) ++ (newline ∷ [])
 
+-- 18: "the lent page is too short", for S + 1 lines
+abbrev pub pageShort : ℕ → List ℕ → Bool
+pageShort switches b = ltb (length b) (lineColumns * (switches + 1))
+
 module _ (s : Sheet) where
   -- the line of a switch: the switch, its rules, the links at it
   abbrev pub switchLine : ℕ → List ℕ
@@ -40,10 +45,11 @@ module _ (s : Sheet) where
   abbrev pub pageLength : ℕ
   pageLength = lineColumns * (s .switches + 1)
 
-  -- ---- into a lent buffer: 18, "the lent page is too short"
+  -- ---- into a lent buffer
 
+  -- the length of the page
   unfoldable pub writingPage : List ℕ → Checked ℕ
-  writingPage b = check ((18, ltb (length b) pageLength) ∷ []) pageLength
+  writingPage b = check ((18, pageShort (s .switches) b) ∷ []) pageLength
 
   -- the page, "and bytes after it stay untouched"; at a refusal the buffer as it was
   abbrev pub pageLeft : List ℕ → Answer ℕ → List ℕ

@@ -5,7 +5,8 @@ use Rattle.answers.proofs.Checks.{holds, fails}
 use Rattle.answers.specs.Answers.{given}
 use Rattle.answers.specs.Checks.{trying}
 use Rattle.desk.specs.declared.Held.{Held}
-use Rattle.desk.specs.Console.{consoleWith, heldChecks, heldAfter, telling, feeding}
+use Rattle.desk.specs.Console.{consoleWith, heldChecks, heldAfter, telling}
+use Rattle.desk.specs.Inner.{feeding}
 use Rattle.desk.proofs.told.Statement.{statement}
 use Rattle.desk.proofs.told.Tie as tie
 
