@@ -8,7 +8,7 @@ use Rattle.answers.specs.Answers.{Answer, given, refused, _>>=_}
 use Rattle.answers.specs.Checks.{answer}
 use Rattle.answers.specs.Tables.{agreed}
 use Rattle.search.specs.declared.Search.{Search}
-use Rattle.search.specs.declared.Search.the-variants.{Checking, Halving}
+use Rattle.search.specs.declared.Search.the-variants.{Checking, Halving, AllUp, Down}
 use Rattle.search.specs.declared.Outcome.{Outcome}
 use Rattle.search.specs.declared.Outcome.the-variants.{Returned, Lost}
 use Rattle.search.specs.declared.Progress.{Progress}
