@@ -1,6 +1,6 @@
 -- The order of checking: of conditions with rising numbers the first that holds is the lowest that holds; and what is tried one after the other. Assumes nothing.
 use mathlib.Core.Path.{_≡_, refl, sym, ap, _∙_, subst}
-use mathlib.Core.Logic.{_⊎_, inl, inr}
+use mathlib.Core.Logic.{inl, inr}
 use mathlib.Core.Bool.{Bool, true, false, _&&_}
 use mathlib.Core.List.{List, [], _∷_, _++_}
 use Prim.Native.Nat.{ℕ, zero, suc, _≤_, _<_}
@@ -11,7 +11,7 @@ use borrow.Author.Tests.{leb-true}
 use Rattle.lists.specs.Members.{all}
 use Rattle.lists.proofs.Tests.{and-true, not-both}
 use Rattle.answers.specs.Answers.{Answer, given, refused, refuse, _>>=_}
-use Rattle.answers.specs.Checks.{Conditions, Checked, check, answer, trying, _then_}
+use Rattle.answers.specs.Checks.{Conditions, check, answer, trying, _then_}
 use Rattle.answers.proofs.Checks.{given-given, refused-refused, then-given, then-assoc, then-is, goes-on, stops, came-from}
 use Rattle.plant.specs.declared.Link.{Link}
 use Rattle.plant.specs.declared.Plant.{Plant}

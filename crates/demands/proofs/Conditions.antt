@@ -8,21 +8,17 @@ use native.Mathlib.Nat.{div-one, div-div-eq-div-mul, pow-succ'}
 use native.Mathlib.Omega.{arith}
 use borrow.Author.Tests.{lt-ltb, ltb-true, le-leb, leb-true, eq-eqb, eqb-true, not-true, not-false}
 use lib.Dec.{eqb, leb, ltb}
-use lib.ListN.{length, take, drop, take-append-drop}
+use lib.ListN.{length, drop, take-append-drop}
 use Rattle.lists.specs.Members.{all, Each}
-use Rattle.lists.proofs.Tests.{bool?, not-both, not-true-false, true-exactly, and-true, or-false}
-use Rattle.answers.specs.Answers.{given, refused}
-use Rattle.answers.specs.Checks.{answer}
-use Rattle.answers.proofs.Checks.{given-refused}
+use Rattle.lists.proofs.Tests.{not-both, not-true-false, true-exactly, and-true, or-false}
 use Rattle.plant.specs.declared.Link.{Link}
 use Rattle.plant.specs.declared.Plant.{Plant}
 use Rattle.plant.specs.Links.{zeroLink}
 use Rattle.limits.specs.Limits.{maxSwitches, maxLinks}
 use Rattle.codec.specs.Given.{bitAt}
 use Rattle.codec.proofs.ConditionLaws.{map-missing, map-undefined, field-missing, field-redundant}
-use Rattle.listing.specs.Listing.{valueOutOfRange, encode}
+use Rattle.listing.specs.Listing.{valueOutOfRange}
 use Rattle.listing.specs.Writing.{isZero, plantOutOfRange, bufferShort}
-use Rattle.listing.proofs.SoundLaws.{InRange}
 use Rattle.listing.proofs.ConditionLaws.{value-out-of-range, end-out-of-range, self-link, bytes-remain}
 use Rattle.quantity.specs.Quantity.{maxSpare, spareAbove}
 use Rattle.plan.specs.Plan.{trailOf}
@@ -30,7 +26,7 @@ use Rattle.planning.specs.Planning.{switchOutOfRange}
 use Rattle.planner.specs.Calls.{placesShort}
 use Rattle.search.specs.declared.Search.{Search}
 use Rattle.search.specs.declared.Search.the-variants.{Checking, Halving, AllUp, Down}
-use Rattle.search.specs.Search.{tries, sound, soundFor, ended}
+use Rattle.search.specs.Search.{tries, sound, ended}
 use Rattle.search.specs.Sound.{Good}
 use Rattle.search.specs.Values.{IsAllUp, IsDown}
 use Rattle.search.proofs.Values.{is-all-up, is-down}
@@ -39,7 +35,7 @@ use Rattle.judging.specs.Conditions.{trailDiffers, hopsDiffer, statesShort, sea
 use Rattle.judging.proofs.Lent.{trail-same, trail-own, hops-begin, hops-own}
 use Rattle.judging.proofs.Searching.{good-here}
 use Rattle.sheet.specs.declared.Sheet.{Sheet}
-use Rattle.sheet.specs.Page.{buyingPage, pageShort}
+use Rattle.sheet.specs.Page.{buyingPage}
 use Rattle.sheet.specs.Form.{formed, countsIn}
 use Rattle.sheet.specs.Shown.{Shown}
 use Rattle.sheet.proofs.RoundTrip.{written-formed, read-shown, written-again}

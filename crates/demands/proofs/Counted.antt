@@ -1,7 +1,7 @@
 -- What counts as a probe, of any list of sendings: one of its sendings returned, or three in a row were lost. Assumes nothing.
 use mathlib.Core.Path.{_≡_, refl, sym, ap, _∙_, subst}
 use mathlib.Core.Logic.{_⊎_, inl, inr, ⊎-elim, _↔_}
-use mathlib.Core.Bool.{Bool, true, false, _||_}
+use mathlib.Core.Bool.{Bool, false, _||_}
 use mathlib.Core.List.{List, [], _∷_, _++_, append-assoc}
 use Prim.Native.Nat.{ℕ, zero, suc, _+_, _≤_, _<_}
 use native.Mathlib.Omega.{arith}
@@ -14,8 +14,7 @@ use Rattle.lists.proofs.Tests.{eq?, or-left, or-right, or-cases}
 use Rattle.search.specs.declared.Outcome.{Outcome}
 use Rattle.search.specs.declared.Outcome.the-variants.{Returned, Lost}
 use Rattle.search.specs.Search.{tries}
-use Rattle.search.specs.Calls.{Sending, sent, returnsOf, lostInRow, countedIn}
-use Rattle.search.specs.Values.{IsReturned, IsLost}
+use Rattle.search.specs.Calls.{Sending, sent, returnsOf, lostInRow}
 use Rattle.search.proofs.Values.{is-returned, is-lost}
 use Rattle.demands.specs.Order4.{ReturnedIn, LostInRow, Counted}
 

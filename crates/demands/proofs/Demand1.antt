@@ -21,7 +21,7 @@ use Rattle.sheet.specs.Page.{writingPage}
 use Rattle.sheet.specs.Form.{readingPage}
 use Rattle.plan.specs.Plan.{trailOf, roundOf}
 use Rattle.quoting.specs.Quotes.{pricing, quoting}
-use Rattle.planner.specs.Calls.{rewriting, rewritten, rereading, summing, bridging, parting, tabling, counting, laying, trailing, laidOut, roundTrailing, roundLaidOut, buying, boughtOut}
+use Rattle.planner.specs.Calls.{rewriting, rewritten, rereading, summing, bridging, parting, tabling, counting, laying, trailing, laidOut, roundTrailing, roundLaidOut, buying}
 use Rattle.planner.proofs.Trailing.{trail-kept}
 use Rattle.planner.proofs.Buying.{buying-kept}
 use Rattle.probing.specs.Calls.{runIn, running, checkIn, checking, roundIn, roundRunning, choiceIn, choosing, orderIn, ordering, outwardIn, outgoing, probeIn, probing, nameIn, naming, beginning, performing}
@@ -32,7 +32,8 @@ use Rattle.desk.specs.declared.Desk.{Desk}
 use Rattle.desk.specs.Desk.{withConsole, consoleOf}
 use Rattle.consoles.specs.Calls.{newSet, start, outcome, consoleOutOfRange, sizing, calling, serving, served}
 use Rattle.demands.specs.Tried.{isNumber}
-use Rattle.demands.specs.Demand1.{ofHeld, Demand1, Untouched}
+use Rattle.demands.specs.Demand1.{ofHeld, Demand1}
+use Rattle.demands.specs.Untouched.{Untouched}
 use Rattle.demands.proofs.Tried.{tries, after, at, called, listed, written}
 
 each-held : (p : Plant) (set : ℕ) (h : Held) → all isNumber (map (λ q. q .0) (ofHeld p set h)) ≡ true

@@ -2,7 +2,6 @@
 use mathlib.Core.Path.{_≡_, refl, sym, ap, _∙_}
 use mathlib.Core.List.{List, [], _∷_, _++_}
 use Prim.Native.Nat.{ℕ, _≤_}
-use native.Mathlib.Omega.{arith}
 use borrow.Author.Tests.{le-ltb}
 use lib.ListN.{length, drop}
 use Rattle.lists.specs.Members.{In}
@@ -23,7 +22,7 @@ use Rattle.walks.proofs.ByLinks.{visited-by-links}
 use Rattle.walks.proofs.Components.{used-arc, used-of, listed-in}
 use Rattle.routes.proofs.Plants.{distance-fewest, by-rule, only-by-rule}
 use Rattle.plan.specs.Plan.{trailOf}
-use Rattle.plan.proofs.Trails.{trails-are, trails-closed}
+use Rattle.plan.proofs.Trails.{trails-are}
 use Rattle.planner.specs.Calls.{rewriting, rewritten, rereading, trailing, laidOut}
 use Rattle.planner.proofs.Trailing.{lay-enough, laid-by, trail-given, left-given}
 use Rattle.demands.specs.Demand2.{TrailIs, PlanIs, Demand2}

@@ -1,6 +1,6 @@
 -- The arcs in use are the paper's three cases. Assumes a sound plant.
-use mathlib.Core.Path.{_≡_, refl, sym, ap, ap₂, _∙_, subst}
-use mathlib.Core.Bool.{Bool, true, false, _&&_, _||_}
+use mathlib.Core.Path.{_≡_, sym, ap, ap₂, _∙_, subst}
+use mathlib.Core.Bool.{Bool, false, _&&_, _||_}
 use Prim.Native.Nat.{ℕ, _/_}
 use lib.Dec.{T}
 use Rattle.lists.specs.Tests.{choose}

@@ -1,7 +1,6 @@
 -- A search that has ended with Down, under demand 3's two premises, is at the first broken link, and the call that names a link answers it. Assumes a listing that is read as a
 -- plant, and one of its switches.
 use mathlib.Core.Path.{_≡_, refl, sym, ap, _∙_, subst}
-use mathlib.Core.Bool.{true, false}
 use mathlib.Core.List.{List}
 use Prim.Native.Nat.{ℕ, _≤_, _<_}
 use native.Mathlib.Omega.{arith}

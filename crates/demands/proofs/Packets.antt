@@ -32,7 +32,6 @@ use Rattle.rings.proofs.Probe as probes
 use Rattle.rings.proofs.Rules.{all-rules}
 use Rattle.rings.proofs.Injection.{has-place, order-once, full-run}
 use Rattle.search.specs.Search.{newSearch}
-use Rattle.order.specs.declared.Span.{Span}
 use Rattle.order.specs.Span.{shiftedBy}
 use Rattle.probing.specs.Calls.{outSpan}
 use Rattle.probing.proofs.OutwardLabels.{own-stands, own-from}

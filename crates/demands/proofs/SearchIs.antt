@@ -5,7 +5,6 @@ use Prim.Native.Nat.{ℕ, _+_, _/_, _≤_, _<_}
 use native.Mathlib.Omega.{arith}
 use borrow.Author.Tests.{lt-ltb, le-ltb, eq-eqb, ne-eqb}
 use Rattle.answers.specs.Answers.{Answer, given, _>>=_}
-use Rattle.answers.specs.Checks.{answer}
 use Rattle.limits.specs.Limits.{maxLinks}
 use Rattle.search.specs.declared.Search.{Search}
 use Rattle.search.specs.declared.Search.the-variants.{Checking, Halving}

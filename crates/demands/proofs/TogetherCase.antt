@@ -4,11 +4,11 @@
 use native.Mathlib.Omega.{arith}
 use mathlib.Core.Path.{_≡_, refl, sym}
 use mathlib.Core.Bool.{true, false, false≢true}
-use mathlib.Core.List.{List, [], _∷_, flatten}
+use mathlib.Core.List.{List, [], _∷_}
 use Prim.Native.Nat.{ℕ, zero, suc}
-use lib.Dec.{T, eqb}
+use lib.Dec.{eqb}
 use Rattle.lists.proofs.Tests.{and-left}
-use Rattle.lists.specs.Count.{bit, count}
+use Rattle.lists.specs.Count.{count}
 use Rattle.lists.specs.Least.{leastFrom}
 use Rattle.lists.specs.Numbers.{every}
 use Rattle.answers.specs.Answers.{given}
@@ -25,7 +25,7 @@ use Rattle.walks.proofs.Live.{live-below}
 use Rattle.walks.specs.Components.{rootOf, begunAt, roots, used, linkWith, linksWith}
 use Rattle.routes.specs.Distance.{sources, within, dist, hop, hops, route}
 use Rattle.routes.specs.Trail.{near, nearest, legs, trail}
-use Rattle.rings.specs.Packet.{End, run, rulesFor}
+use Rattle.rings.specs.Packet.{run, rulesFor}
 use Rattle.rings.specs.Rules.{upBy, inAll}
 use Rattle.rings.specs.Ring.{readFrom, place, ring}
 use Rattle.rings.specs.Injection.{ringOf, probeRules, probeOf, probeRun}

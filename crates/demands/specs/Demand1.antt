@@ -1,12 +1,13 @@
--- Demand 1: each call answers its result, or a refusal exactly under its condition, and a refusal leaves a lent buffer or desk as it was.
+-- Demand 1: each call answers its result, or a refusal exactly under its condition. That a refusal leaves what is lent as it was is in
+-- `Untouched`, what each condition says in `Conditions`.
 use mathlib.Core.Bool.{true, not}
 use mathlib.Core.List.{List, [], _∷_}
 use Prim.Native.Nat.{ℕ, _*_}
-use Rattle.answers.specs.Answers.{Answer, given}
+use Rattle.answers.specs.Answers.{given}
 use Rattle.answers.specs.Checks.{Conditions, answer}
 use Rattle.plant.specs.declared.Plant.{Plant}
 use Rattle.listing.specs.Listing.{reading}
-use Rattle.listing.specs.Writing.{bufferShort, writing, bufferAfter}
+use Rattle.listing.specs.Writing.{bufferShort, writing}
 use Rattle.walks.specs.Components.{linksWith}
 use Rattle.rings.specs.Packet.{End}
 use Rattle.plan.specs.Plan.{trailOf, roundOf}
@@ -25,15 +26,15 @@ use Rattle.search.specs.Search.{sound, ended, ask, give}
 use Rattle.search.specs.Calls.{Call}
 use Rattle.sheet.specs.Page.{pageShort}
 use Rattle.sheet.specs.Form.{formed, readingPage}
-use Rattle.planner.specs.Calls.{rewriting, rewritten, rereading, summing, bridging, parting, tabling, counting, placesShort, trailing, laidOut, roundTrailing, roundLaidOut, buying, boughtOut}
+use Rattle.planner.specs.Calls.{rewriting, rereading, summing, bridging, parting, tabling, counting, placesShort, trailing, roundTrailing, buying}
 use Rattle.probing.specs.Calls.{running, checking, roundRunning, choosing, ordering, outgoing, probing, naming, beginning, performing}
 use Rattle.desk.specs.declared.Held.{Held}
 use Rattle.desk.specs.declared.Held.the-variants.{Nothing, From}
 use Rattle.desk.specs.declared.Desk.{Desk}
 use Rattle.desk.specs.Console.{setOutOfRange, outsideSet}
 use Rattle.desk.specs.Desk.{freshDesk, consoleOf}
-use Rattle.consoles.specs.Calls.{newSet, start, outcome, serving, served}
-use Rattle.demands.specs.Tried.{Tries, TriesListing, TriesConsole, TriesNumbers, Keeps, ofListing, ofPlant}
+use Rattle.consoles.specs.Calls.{newSet, start, outcome, serving}
+use Rattle.demands.specs.Tried.{Tries, TriesListing, TriesConsole, TriesNumbers, ofListing, ofPlant}
 
 -- what an outcome tries of the search that a console holds, with this set, in a plant: 15 if it has none
 abbrev pub ofHeld : Plant → ℕ → Held → Conditions
@@ -41,8 +42,7 @@ ofHeld p set Nothing = (15, true) ∷ []
 ofHeld p set (From x q) =
     (11, switchOutOfRange p x) ∷ (21, outsideSet set x) ∷ (14, searchUnsound (linksWith p x) q) ∷ (15, ended q) ∷ []
 
--- A field for each call, as in docs/CALLS.md: the conditions that it tries, each with its number, in their order; and for a call that is
--- lent something to write to, a field more.
+-- A field for each call, as in docs/CALLS.md: the conditions that it tries, each with its number, in their order.
 pub record Demand1 : Type 0 where
   -- calls that are given a listing s or a plant p, and lent a buffer b
   pub read : (s : List ℕ) → TriesNumbers (ofListing s) (reading s)
@@ -108,16 +108,3 @@ pub record Demand1 : Type 0 where
       → TriesConsole k s
       (λ p. (20, setOutOfRange (p .switches) (consoleOf d k .set)) ∷ ofHeld p (consoleOf d k .set) (consoleOf d k .search))
       (answer (serving d k s (outcome o)))
-
--- "a refusal … leaves all lent memory untouched": the buffers of six calls, and the desk of three
-pub record Untouched : Type 0 where
-  pub write : (p : Plant) (b : List ℕ) → Keeps (answer (writing p b)) b (bufferAfter p b)
-  pub rewrite : (s b : List ℕ) → Keeps (answer (rewriting s b)) b (rewritten s b)
-  pub reread : (p : Plant) (b : List ℕ) → Keeps (answer (rereading p b)) b (bufferAfter p b)
-  pub lay-trail : (s b : List ℕ) → Keeps (answer (trailing s b)) b (laidOut s b)
-  pub lay-round-trail : (s b : List ℕ) → Keeps (answer (roundTrailing s b)) b (roundLaidOut s b)
-  pub write-buying-page : (s : List ℕ) (spare : ℕ) (b : List ℕ) → Keeps (answer (buying s spare b)) b (boughtOut s spare b)
-  pub replace-set : (d : Desk) (s : List ℕ) (k set : ℕ) → Keeps (answer (serving d k s (newSet set))) d (served d k s (newSet set))
-  pub start-search : (d : Desk) (s : List ℕ) (k x : ℕ) → Keeps (answer (serving d k s (start x))) d (served d k s (start x))
-  pub give-outcome : (d : Desk) (s : List ℕ) (k : ℕ) (o : Outcome)
-      → Keeps (answer (serving d k s (outcome o))) d (served d k s (outcome o))

@@ -2,7 +2,7 @@
 use mathlib.Core.Path.{_≡_}
 use mathlib.Core.Logic.{_↔_}
 use mathlib.Core.Bool.{Bool, true, false}
-use mathlib.Core.List.{List, [], _∷_, _++_, map}
+use mathlib.Core.List.{List, [], _∷_, _++_}
 use Prim.Native.Nat.{ℕ, suc, _+_, _-_, _*_, _/_, _≤_, _<_}
 use lib.Dec.{T}
 use lib.ListN.{length, getD, take, drop}
@@ -19,7 +19,7 @@ use Rattle.limits.specs.Sound.{Sound}
 use Rattle.listing.specs.Listing.{encode, reading}
 use Rattle.listing.specs.Writing.{bufferAfter}
 use Rattle.walks.specs.Arcs.{tail, head, Arc}
-use Rattle.walks.specs.Graph.{To, Bridge, bridge, liveLinks, bridges, visitedFrom, enteredFrom, earlierFrom, usedFrom}
+use Rattle.walks.specs.Graph.{To, Bridge, bridge, liveLinks, visitedFrom, enteredFrom, earlierFrom, usedFrom}
 use Rattle.walks.specs.Components.{rootOf, roots, componentOf, linkWith, linksWith, used}
 use Rattle.walks.specs.ByLinks.{visitLinks}
 use Rattle.routes.specs.Meaning.{Fewest}

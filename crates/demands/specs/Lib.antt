@@ -3,6 +3,7 @@ pub mod Tried
 pub mod Conditions
 pub mod CheckingOrder
 pub mod Demand1
+pub mod Untouched
 pub mod Demand2
 pub mod SearchIs
 pub mod Demand3

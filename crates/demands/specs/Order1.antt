@@ -23,7 +23,6 @@ use Rattle.search.specs.declared.Search.{Search}
 use Rattle.search.specs.Search.{wanted, ended}
 use Rattle.probing.specs.Calls.{running, checking, outLabels, probing}
 use Rattle.probing.specs.Searches.{actualOutcome}
-use Rattle.consoles.specs.Calls.{outcome}
 use Rattle.demands.specs.Names.{ringAt, orderAt, probeAt, probeRunAt}
 
 -- what the answer e of a run tells: of a packet from switch `at` with labels w, under these rules, by the labels that are up

@@ -7,11 +7,9 @@ use Prim.Native.Nat.{ℕ, _+_, _*_, _/_, _≤_, _<_}
 use lib.Dec.{T}
 use lib.ListN.{length, take, drop}
 use Rattle.lists.specs.Members.{In, Each}
-use Rattle.lists.specs.Count.{count}
 use Rattle.answers.specs.Answers.{given, refused}
 use Rattle.answers.specs.Checks.{answer}
 use Rattle.plant.specs.declared.Plant.{Plant}
-use Rattle.plant.specs.Links.{live}
 use Rattle.walks.specs.Arcs.{opposite, tail, head}
 use Rattle.walks.specs.Graph.{ClosedWalk, liveLinks, visitedFrom, enteredFrom, earlierFrom}
 use Rattle.walks.specs.Components.{rootOf, roots, componentOf, linkWith, linksWith}

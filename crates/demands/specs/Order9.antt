@@ -5,7 +5,6 @@ use mathlib.Core.List.{List, [], _∷_, _++_, map}
 use Prim.Native.Nat.{ℕ, suc, _+_, _*_, _≤_, _<_}
 use lib.ListN.{length, getD}
 use Rattle.lists.specs.Members.{In}
-use Rattle.lists.specs.Count.{count}
 use Rattle.lists.specs.Sum.{sumOf}
 use Rattle.answers.specs.declared.Refusal.{Refusal}
 use Rattle.answers.specs.Answers.{given, numberOf}
@@ -29,7 +28,6 @@ use Rattle.search.specs.Values.{IsAllUp}
 use Rattle.planning.specs.Components.{zeroComponent, componentsOf}
 use Rattle.planner.specs.Calls.{parting}
 use Rattle.probing.specs.Calls.{checking, roundRunning, choiceAt, outSpan, link, naming, beginning}
-use Rattle.consoles.specs.Calls.{start}
 use Rattle.demands.specs.Names.{ringAt, orderAt, roundRingAt}
 
 -- "9 never occurs": no refusal has its number, so that no call can answer it

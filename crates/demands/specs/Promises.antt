@@ -23,7 +23,8 @@ use Rattle.planner.specs.Calls.{quotingFor}
 use Rattle.demands.specs.Names.{ReadAs}
 use Rattle.demands.specs.Conditions.{ConditionsAre}
 use Rattle.demands.specs.CheckingOrder.{CheckingOrder}
-use Rattle.demands.specs.Demand1.{Demand1, Untouched}
+use Rattle.demands.specs.Demand1.{Demand1}
+use Rattle.demands.specs.Untouched.{Untouched}
 use Rattle.demands.specs.Demand2.{Demand2}
 use Rattle.demands.specs.SearchIs.{SearchIs}
 use Rattle.demands.specs.Demand3.{Demand3}

@@ -2,7 +2,6 @@
 -- (search/specs/Values): of what the calls answer on every sound state that has not ended. An ended one is refused (15 of `ConditionsAre`),
 -- and so is an unsound one (14).
 use mathlib.Core.Path.{_≡_}
-use mathlib.Core.List.{List}
 use Prim.Native.Nat.{ℕ, _+_, _/_, _≤_, _<_}
 use Rattle.answers.specs.Answers.{Answer, given, _>>=_}
 use Rattle.answers.specs.Checks.{answer}

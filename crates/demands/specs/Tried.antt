@@ -35,10 +35,6 @@ pub record TriesConsole {A : Type 0} (k : ℕ) (s : List ℕ) (cs : Plant → Co
   pub console-first : consoleOutOfRange k ≡ true → a ≡ refused 19
   pub then-tries : consoleOutOfRange k ≡ false → TriesListing s cs a
 
--- a refusal leaves what is lent, b before and `after` afterwards, as it was
-abbrev pub Keeps : {A B : Type 0} → Answer A → B → B → Type 0
-Keeps a b after = (n : ℕ) → a ≡ refused n → after ≡ b
-
 -- ---- a reading and a writing themselves, by the numbers of their conditions; how these follow each other part by part is in `CheckingOrder`
 
 pub record TriesNumbers {A : Type 0} (ns : List ℕ) (c : Checked A) : Type 0 where
