@@ -7,7 +7,7 @@ use mathlib.Core.List.{List, [], _∷_, _++_}
 use Prim.Native.Nat.{ℕ}
 use native.Mathlib.Omega.{arith}
 use Rattle.answers.specs.Answers.{Answer, given, refused, refuse, _>>=_, numberOf, verdictAnswer, firstOf}
-use Rattle.answers.specs.Checks.{Conditions, NoneHolds, FirstHolds, trying, Judges, Checked, answer, _then_, _giving_, leaves, Answers}
+use Rattle.answers.specs.Checks.{Conditions, NoneHolds, FirstHolds, trying, Judges, Checked, answer, _then_, _giving_, leaves}
 use Rattle.answers.specs.declared.Refusal.{Refusal}
 use Rattle.answers.specs.declared.Verdict.{Verdict}
 use Rattle.answers.specs.declared.Verdict.the-variants as verdict
@@ -133,13 +133,6 @@ otherwise-none cs h = go (trying cs (given tt)) refl
     go (refused n) e = absurd (h n (refused-exactly cs tt n .0 e))
 
 -- ---- a call
-
--- what demand 1 says of a call, whatever it tries and gives
-pub answers : {A : Type 0} (c : Checked A) → Answers c
-answers c = record {
-  refusals = refused-exactly (c .checks) (c .result);
-  otherwise = λ h. none-trying (c .checks) (given (c .result)) (otherwise-none (c .checks) h);
-}
 
 -- a call that gives a, gives its result
 pub result-given : {A : Type 0} (c : Checked A) (a : A) → answer c ≡ given a → c .result ≡ a

@@ -1,4 +1,5 @@
--- The numbers of the refusals, and what a call answers: its result or the number of a refusal (document 01, "Refusals in checking order"). Assumes nothing.
+-- The numbers of the refusals, and what a call answers: its result or the number of a refusal (document 01, "Refusals in checking order").
+-- Assumes nothing.
 use mathlib.Core.Path.{_≡_}
 use Prim.Native.Nat.{ℕ}
 use mathlib.Core.Bool.{Bool, true, false}

@@ -1,7 +1,6 @@
--- What a call comes to: the conditions of its refusals, each with its number, in the order in which they are tried, and its result where none of them holds. What a call
--- answers, and what demand 1 says of it, is read off that. Assumes nothing.
+-- What a call comes to: the conditions of its refusals, each with its number, in the order in which they are tried, and its result where
+-- none of them holds. What a call answers is read off that. Assumes nothing.
 use mathlib.Core.Path.{_≡_}
-use mathlib.Core.Logic.{_↔_}
 use mathlib.Core.Bool.{Bool, true, false}
 use mathlib.Core.List.{List, [], _∷_, _++_}
 use Prim.Native.Nat.{ℕ}
@@ -60,15 +59,3 @@ c giving f = check (c .checks) (f (c .result))
 abbrev pub leaves : {A B : Type 0} → (A → B) → B → Answer A → B
 leaves f b (given a) = f a
 leaves f b (refused n) = b
-
--- ---- what demand 1 says of a call
-
--- it is refused with n exactly when condition n holds and none that is tried before it does; otherwise it answers its result
-pub record Answers {A : Type 0} (c : Checked A) : Type 0 where
-  pub refusals : (n : ℕ) → (answer c ≡ refused n) ↔ FirstHolds n (c .checks)
-  pub otherwise : ((n : ℕ) → FirstHolds n (c .checks) → ⊥) → answer c ≡ given (c .result)
-
--- and a refusal leaves what is lent, b before and `after` afterwards, as it was
-pub record AnswersInto {A B : Type 0} (c : Checked A) (b after : B) : Type 0 where
-  pub answers : Answers c
-  pub kept : (n : ℕ) → answer c ≡ refused n → after ≡ b

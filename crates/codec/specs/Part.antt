@@ -1,4 +1,5 @@
--- A part of a listing (document 01, "Listing bytes"): a map byte, then the fields whose bit is set, by rising bit. Reading it, with refusals 1 to 4, and writing it.
+-- A part of a listing (document 01, "Listing bytes"): a map byte, then the fields whose bit is set, by rising bit. Reading it, with
+-- refusals 1 to 4, and writing it.
 use mathlib.Core.Bool.{Bool, false, not, _&&_, _||_}
 use mathlib.Core.List.{List, [], _∷_, _++_}
 use Prim.Native.Nat.{ℕ, _+_, _*_, _/_, _%_}

@@ -1,4 +1,5 @@
--- Fields of so many columns: a text at the right or at the left of one, with spaces in the other columns, and the number in one (document 02, order 3). Assumes nothing.
+-- Fields of so many columns: a text at the right or at the left of one, with spaces in the other columns, and the number in one (document
+-- 02, order 3). Assumes nothing.
 use mathlib.Core.Bool.{Bool, _&&_}
 use mathlib.Core.List.{List, [], _∷_, _++_}
 use Prim.Native.Nat.{ℕ, suc, _-_}
@@ -7,11 +8,10 @@ use lib.ListN.{length, drop, replicate}
 use Rattle.lists.specs.Tests.{choose}
 use Rattle.text.specs.Decimal.{readDecimal, isDecimal}
 use Rattle.text.specs.Lines.{space}
-use Rattle.text.specs.Sizes.{digitsShort}
 
--- the most digits of a number on the page
+-- "numbers of one to three digits": the most digits of a number on the page
 abbrev pub mostDigits : ℕ
-mostDigits = digitsShort
+mostDigits = 3
 
 abbrev pub spaces : ℕ → List ℕ
 spaces n = replicate n space

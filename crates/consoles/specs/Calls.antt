@@ -1,5 +1,5 @@
--- The calls on a desk of four consoles (document 02, orders 8 and 9): what each tries, in which order, what it answers, and the desk after it. Of the desk a call knows its own
--- console's set and search alone.
+-- The calls on a desk of four consoles (document 02, orders 8 and 9): what each tries, in which order, what it answers, and the desk after
+-- it. Of the desk a call knows its own console's set and search alone.
 use mathlib.Core.Bool.{Bool}
 use mathlib.Core.List.{List, [], _∷_}
 use Prim.Native.Nat.{ℕ}

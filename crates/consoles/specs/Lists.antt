@@ -1,4 +1,5 @@
--- Lists of calls on a desk: what the calls of one console answer, the desk after them, and which of them start and feed that console's search. Assumes nothing.
+-- Lists of calls on a desk: what the calls of one console answer, the desk after them, and which of them start and feed that console's
+-- search. Assumes nothing.
 use mathlib.Core.List.{List, [], _∷_, _++_}
 use Prim.Native.Nat.{ℕ}
 use lib.Dec.{eqb}

@@ -8,7 +8,7 @@ use Rattle.lists.specs.Members.{all}
 use Rattle.plant.specs.declared.Plant.{Plant}
 use Rattle.answers.specs.Answers.{refused}
 use Rattle.answers.specs.Checks.{Conditions, answer}
-use Rattle.answers.proofs.Checks.{answers, left-kept}
+use Rattle.answers.proofs.Checks.{refused-exactly, left-kept}
 use Rattle.listing.specs.Listing.{reading}
 use Rattle.listing.specs.Writing.{writing}
 use Rattle.walks.specs.Components.{linksWith}
@@ -96,7 +96,8 @@ demand-1 = record {
 -- what is written and read again is refused as what is written is
 reread-refused : (p : Plant) (b : List ℕ) (n : ℕ) → answer (rereading p b) ≡ refused n → answer (writing p b) ≡ refused n
 unfolding rereading
-reread-refused p b n e = answers (writing p b) .refusals n .1 (answers (rereading p b) .refusals n .0 e)
+reread-refused p b n e =
+    refused-exactly (writing p b .checks) (writing p b .result) n .1 (refused-exactly (rereading p b .checks) (rereading p b .result) n .0 e)
 
 pub untouched : Untouched
 unfolding rewritten served laidOut trailing roundLaidOut roundTrailing

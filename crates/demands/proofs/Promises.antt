@@ -11,6 +11,7 @@ use Rattle.demands.proofs.GotTo.{got-to, packets-tell}
 use Rattle.demands.proofs.BySwitches.{same-totals-of, by-switches}
 use Rattle.demands.proofs.BuyingPages.{page-written, page-form}
 use Rattle.demands.proofs.Counted.{counted}
+use Rattle.demands.proofs.Ceilings.{ceilings}
 use Rattle.demands.proofs.Rounds.{round-trail, round-run, shorter-trail, by-label}
 use Rattle.demands.proofs.Service.{marks, out-of-service, states-of, all-in-service}
 use Rattle.demands.proofs.Consoles.{sets, console-calls, isolated, agreeing, console-searches}
@@ -32,6 +33,7 @@ promises = record {
   page-written = λ s p r. page-written s (r .bytes) p (r .read);
   page-form = page-form;
   counted = counted;
+  ceilings = ceilings;
   round-trail = λ s p r. round-trail s (r .bytes) p (r .read);
   round-run = λ s p r. round-run s (r .bytes) p (r .read);
   shorter-trail = λ s p r. shorter-trail s (r .bytes) p (r .read);

@@ -1,21 +1,12 @@
 -- The order in which the reader and the writer try what they are given ("Refusals in checking order" of document 01): "Header, then records
 -- in order, each tried against those that concern it. A map is judged before its fields. … Within one part the lowest number goes first.
 -- The writer tries all of 5, then 6 and 7 record by record, then 16." What each condition says is in `ConditionsAre`.
-use mathlib.Core.Path.{_≡_}
-use mathlib.Core.Logic.{_⊎_}
-use mathlib.Core.Bool.{true, false}
-use mathlib.Core.List.{List, [], _∷_, _++_}
-use Prim.Native.Nat.{ℕ, suc, _≤_, _<_}
-use lib.ListN.{length}
-use Rattle.answers.specs.Answers.{given, refused, refuse, _>>=_}
-use Rattle.answers.specs.Checks.{Conditions, Checked, answer}
-use Rattle.plant.specs.declared.Link.{Link}
-use Rattle.plant.specs.declared.Plant.{Plant}
-use Rattle.plant.specs.Links.{zeroLink}
-use Rattle.codec.specs.declared.Field.{Field}
-use Rattle.codec.specs.Part.{mapMissing, mapUndefined, fieldMissing, fieldRedundant, fieldValues}
-use Rattle.listing.specs.Listing.{headerFields, linkFields, linkFrom, headerOutOfRange, endOutOfRange, selfLink, bytesRemain, header, soundLink, link, links, withLinks, linksOf, reading, encode}
-use Rattle.listing.specs.Writing.{plantOutOfRange, soundLinks, bufferShort, writing}
+use Rattle.demands.specs.Vocabulary.{_≡_, _⊎_, true, false, List, [], _∷_, _++_, ℕ, suc, _≤_, _<_, length, given, refused, refuse}
+use Rattle.demands.specs.Vocabulary.{_>>=_, Conditions, Checked, answer, Link, Plant, zeroLink, Field, mapMissing, mapUndefined}
+use Rattle.demands.specs.Vocabulary.{fieldMissing, fieldRedundant, fieldValues, headerFields, linkFields, linkFrom, headerOutOfRange}
+use Rattle.demands.specs.Vocabulary.{endOutOfRange, selfLink, bytesRemain, header, soundLink, links, withLinks, linksOf, reading}
+use Rattle.demands.specs.Vocabulary.{encode, plantOutOfRange, soundLinks, bufferShort, writing}
+use Rattle.listing.specs.Listing.{link}
 
 -- condition n is one of these, and holds
 abbrev pub Holds : ℕ → Conditions → Type 0

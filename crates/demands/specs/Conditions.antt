@@ -1,36 +1,12 @@
 -- What the condition of each refusal says, in the papers' words ("Refusals in checking order" of document 01; document 02). Which of them a
 -- call tries, and in which order, is in its field of `Demand1`.
-use mathlib.Core.Path.{_≡_}
-use mathlib.Core.Logic.{_⊎_, _↔_}
-use mathlib.Core.Bool.{true, false}
-use mathlib.Core.List.{List, [], _∷_, _++_}
-use Prim.Native.Nat.{ℕ, _+_, _*_, _≤_, _<_}
-use lib.ListN.{length, drop}
-use Rattle.lists.specs.Members.{Each}
-use Rattle.plant.specs.declared.Link.{Link}
-use Rattle.plant.specs.declared.Plant.{Plant}
-use Rattle.plant.specs.Links.{zeroLink}
-use Rattle.limits.specs.Limits.{maxSwitches, maxLinks}
-use Rattle.codec.specs.declared.Field.{Field}
-use Rattle.codec.specs.Part.{mapByte, mapMissing, mapUndefined, fieldMissing, fieldRedundant}
-use Rattle.codec.specs.Given.{bitAt, SomeGiven, EndsBefore, HoldsAbsent}
-use Rattle.listing.specs.Listing.{valueOutOfRange, endOutOfRange, selfLink, bytesRemain}
-use Rattle.listing.specs.Writing.{plantOutOfRange, bufferShort}
-use Rattle.quantity.specs.Quantity.{maxSpare, spareAbove}
-use Rattle.plan.specs.Plan.{trailOf}
-use Rattle.planning.specs.Planning.{switchOutOfRange}
-use Rattle.planner.specs.Calls.{placesShort}
-use Rattle.search.specs.declared.Search.{Search}
-use Rattle.search.specs.Search.{sound, ended}
-use Rattle.search.specs.Values.{IsAllUp, IsDown}
-use Rattle.search.specs.Sound.{Good}
-use Rattle.judging.specs.Conditions.{trailDiffers, hopsDiffer, statesShort, searchUnsound}
-use Rattle.sheet.specs.declared.Sheet.{Sheet}
-use Rattle.sheet.specs.Page.{buyingPage, pageShort}
-use Rattle.sheet.specs.Form.{formed}
-use Rattle.sheet.specs.Shown.{Shown}
-use Rattle.desk.specs.Console.{setOutOfRange, notBelow, outsideSet}
-use Rattle.consoles.specs.Calls.{consoleOutOfRange}
+use Rattle.demands.specs.Vocabulary.{_≡_, _⊎_, _↔_, true, false, List, [], _∷_, _++_, ℕ, _≤_, _<_, _+_, _*_, length, drop, Each, Link}
+use Rattle.demands.specs.Vocabulary.{Plant, zeroLink, maxSwitches, maxLinks, Field, bitAt, SomeGiven, EndsBefore, HoldsAbsent}
+use Rattle.demands.specs.Vocabulary.{mapMissing, mapUndefined, fieldMissing, fieldRedundant, mapByte, endOutOfRange, selfLink}
+use Rattle.demands.specs.Vocabulary.{bytesRemain, valueOutOfRange, plantOutOfRange, bufferShort, trailOf, switchOutOfRange, maxSpare}
+use Rattle.demands.specs.Vocabulary.{spareAbove, Search, sound, ended, Good, IsAllUp, IsDown, trailDiffers, hopsDiffer, statesShort}
+use Rattle.demands.specs.Vocabulary.{searchUnsound, Sheet, formed, buyingPage, pageShort, Shown, placesShort, setOutOfRange, notBelow}
+use Rattle.demands.specs.Vocabulary.{outsideSet, consoleOutOfRange}
 
 pub record ConditionsAre : Type 0 where
   -- 1: "a part's map byte is missing"

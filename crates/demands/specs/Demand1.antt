@@ -1,39 +1,13 @@
 -- Demand 1: each call answers its result, or a refusal exactly under its condition. That a refusal leaves what is lent as it was is in
 -- `Untouched`, what each condition says in `Conditions`.
-use mathlib.Core.Bool.{true, not}
-use mathlib.Core.List.{List, [], _∷_}
-use Prim.Native.Nat.{ℕ, _*_}
-use Rattle.answers.specs.Answers.{given}
-use Rattle.answers.specs.Checks.{Conditions, answer}
-use Rattle.plant.specs.declared.Plant.{Plant}
-use Rattle.listing.specs.Listing.{reading}
-use Rattle.listing.specs.Writing.{bufferShort, writing}
-use Rattle.walks.specs.Components.{linksWith}
-use Rattle.rings.specs.Packet.{End}
-use Rattle.plan.specs.Plan.{trailOf, roundOf}
-use Rattle.planning.specs.Planning.{switchOutOfRange}
-use Rattle.judging.specs.Conditions.{trailDiffers, hopsDiffer, statesShort, searchUnsound}
-use Rattle.choosing.specs.declared.Choice.{Choice}
-use Rattle.choosing.specs.Choice.{hopsIn}
-use Rattle.order.specs.declared.Span.{Span}
-use Rattle.order.specs.Span.{stretchOf, frontOf}
-use Rattle.packet.specs.Outcome.{outcomeOf}
-use Rattle.allowance.specs.Allowance.{allowance}
-use Rattle.quantity.specs.Quantity.{spareAbove, orderQuantity}
-use Rattle.search.specs.declared.Search.{Search}
-use Rattle.search.specs.declared.Outcome.{Outcome}
-use Rattle.search.specs.Search.{sound, ended, ask, give}
-use Rattle.search.specs.Calls.{Call}
-use Rattle.sheet.specs.Page.{pageShort}
-use Rattle.sheet.specs.Form.{formed, readingPage}
-use Rattle.planner.specs.Calls.{rewriting, rereading, summing, bridging, parting, tabling, counting, placesShort, trailing, roundTrailing, buying}
-use Rattle.probing.specs.Calls.{running, checking, roundRunning, choosing, ordering, outgoing, probing, naming, beginning, performing}
-use Rattle.desk.specs.declared.Held.{Held}
-use Rattle.desk.specs.declared.Held.the-variants.{Nothing, From}
-use Rattle.desk.specs.declared.Desk.{Desk}
-use Rattle.desk.specs.Console.{setOutOfRange, outsideSet}
-use Rattle.desk.specs.Desk.{freshDesk, consoleOf}
-use Rattle.consoles.specs.Calls.{newSet, start, outcome, serving}
+use Rattle.demands.specs.Vocabulary.{true, not, List, [], _∷_, ℕ, _*_, given, Conditions, answer, Plant, reading, bufferShort}
+use Rattle.demands.specs.Vocabulary.{writing, linksWith, End, trailOf, roundOf, switchOutOfRange, Span, stretchOf, frontOf, Choice}
+use Rattle.demands.specs.Vocabulary.{hopsIn, spareAbove, orderQuantity, allowance, Outcome, Search, Call, sound, ended, ask, give}
+use Rattle.demands.specs.Vocabulary.{outcomeOf, trailDiffers, hopsDiffer, statesShort, searchUnsound, formed, readingPage, pageShort}
+use Rattle.demands.specs.Vocabulary.{placesShort, rewriting, rereading, summing, bridging, parting, tabling, counting, trailing}
+use Rattle.demands.specs.Vocabulary.{roundTrailing, buying, running, checking, roundRunning, choosing, ordering, outgoing, probing}
+use Rattle.demands.specs.Vocabulary.{naming, beginning, performing, Desk, Held, Nothing, From, setOutOfRange, outsideSet, freshDesk}
+use Rattle.demands.specs.Vocabulary.{consoleOf, newSet, start, outcome, serving}
 use Rattle.demands.specs.Tried.{Tries, TriesListing, TriesConsole, TriesNumbers, ofListing, ofPlant}
 
 -- what an outcome tries of the search that a console holds, with this set, in a plant: 15 if it has none
@@ -102,7 +76,8 @@ pub record Demand1 : Type 0 where
       → TriesConsole k s (λ p. (20, setOutOfRange (p .switches) set) ∷ []) (answer (serving d k s (newSet set)))
   pub start-search : (d : Desk) (s : List ℕ) (k x : ℕ)
       → TriesConsole k s
-      (λ p. (20, setOutOfRange (p .switches) (consoleOf d k .set)) ∷ (11, switchOutOfRange p x) ∷ (21, outsideSet (consoleOf d k .set) x) ∷ [])
+      (λ p. (20, setOutOfRange (p .switches) (consoleOf d k .set)) ∷ (11, switchOutOfRange p x)
+      ∷ (21, outsideSet (consoleOf d k .set) x) ∷ [])
       (answer (serving d k s (start x)))
   pub give-outcome : (d : Desk) (s : List ℕ) (k : ℕ) (o : Outcome)
       → TriesConsole k s

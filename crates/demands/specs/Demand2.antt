@@ -1,41 +1,12 @@
 -- Demand 2: the definitions are document 01's, the round trips and the trail.
-use mathlib.Core.Path.{_≡_}
-use mathlib.Core.Logic.{_↔_}
-use mathlib.Core.Bool.{Bool, true, false}
-use mathlib.Core.List.{List, [], _∷_, _++_}
-use Prim.Native.Nat.{ℕ, suc, _+_, _-_, _*_, _/_, _≤_, _<_}
-use lib.Dec.{T}
-use lib.ListN.{length, getD, take, drop}
-use Rattle.lists.specs.Members.{In, Distinct}
-use Rattle.lists.specs.Count.{count}
-use Rattle.lists.specs.Arrays.{at}
-use Rattle.lists.specs.Numbers.{range, keep}
-use Rattle.answers.specs.Answers.{given}
-use Rattle.answers.specs.Checks.{answer}
-use Rattle.plant.specs.declared.Plant.{Plant}
-use Rattle.plant.specs.Links.{live}
-use Rattle.limits.specs.Limits.{maxSwitches, maxRules, maxHops}
-use Rattle.limits.specs.Sound.{Sound}
-use Rattle.listing.specs.Listing.{encode, reading}
-use Rattle.listing.specs.Writing.{bufferAfter}
-use Rattle.walks.specs.Arcs.{tail, head, Arc}
-use Rattle.walks.specs.Graph.{To, Bridge, bridge, liveLinks, visitedFrom, enteredFrom, earlierFrom, usedFrom}
-use Rattle.walks.specs.Components.{rootOf, roots, componentOf, linkWith, linksWith, used}
-use Rattle.walks.specs.ByLinks.{visitLinks}
-use Rattle.routes.specs.Meaning.{Fewest}
-use Rattle.routes.specs.Plants.{distanceFrom, trailFrom, TrailByRule}
-use Rattle.rings.specs.Packet.{run}
-use Rattle.rings.specs.Rules.{inAll, allRules}
-use Rattle.rings.specs.Ring.{FirstHop}
-use Rattle.rings.specs.Order.{nth}
-use Rattle.rings.specs.Probe.{upTo, back}
-use Rattle.plan.specs.Plan.{trailOf, trailWith, trailBegin, inTable}
-use Rattle.plan.specs.Trails.{AreTrails}
-use Rattle.order.specs.declared.Span.{Span}
-use Rattle.search.specs.Search.{newSearch, ended}
-use Rattle.search.specs.Values.{IsAllUp}
-use Rattle.planner.specs.Calls.{rewriting, rewritten, rereading, trailing, laidOut}
-use Rattle.probing.specs.Calls.{outSpan}
+use Rattle.demands.specs.Vocabulary.{_≡_, _↔_, true, false, Bool, List, [], _∷_, _++_, ℕ, suc, _≤_, _<_, _+_, _*_, _-_, _/_, T}
+use Rattle.demands.specs.Vocabulary.{length, drop, getD, take, count, In, Distinct, range, keep, given, answer, Plant, live}
+use Rattle.demands.specs.Vocabulary.{maxSwitches, maxRules, maxHops, Sound, reading, encode, bufferAfter, tail, head, Arc, visitLinks}
+use Rattle.demands.specs.Vocabulary.{linksWith, rootOf, roots, componentOf, linkWith, used, To, Bridge, bridge, liveLinks}
+use Rattle.demands.specs.Vocabulary.{visitedFrom, enteredFrom, earlierFrom, usedFrom, Fewest, distanceFrom, trailFrom, TrailByRule}
+use Rattle.demands.specs.Vocabulary.{nth, run, upTo, back, FirstHop, inAll, allRules, trailOf, trailWith, trailBegin, inTable}
+use Rattle.demands.specs.Vocabulary.{AreTrails, Span, newSearch, IsAllUp, rewriting, rereading, trailing, rewritten, laidOut}
+use Rattle.demands.specs.Vocabulary.{outSpan}
 use Rattle.demands.specs.Names.{ReadAs, ringAt, orderAt, placeAt, probeRunAt}
 
 -- the components of a plant: what is joined over links in service, and in which order they are planned (document 02, order 9)

@@ -1,31 +1,9 @@
 -- Demand 3: the rule page and the search.
-use mathlib.Core.Path.{_≡_}
-use mathlib.Core.Logic.{_↔_}
-use mathlib.Core.Bool.{true}
-use mathlib.Core.List.{List, map, flatten}
-use Prim.Native.Nat.{ℕ, _+_, _*_, _≤_, _<_}
-use lib.Dec.{T}
-use lib.ListN.{length, getD}
-use Rattle.lists.specs.Members.{In, memb, Distinct}
-use Rattle.lists.specs.Count.{count}
-use Rattle.answers.specs.Answers.{given}
-use Rattle.answers.specs.Checks.{answer}
-use Rattle.plant.specs.declared.Plant.{Plant}
-use Rattle.plant.specs.Links.{live}
-use Rattle.walks.specs.Graph.{Crosses, ClosedWalk, ClosedWalks, liveLinks, bridges}
-use Rattle.walks.specs.Components.{roots, linksWith}
-use Rattle.routes.specs.Plants.{trailFrom}
-use Rattle.rings.specs.Rules.{upBy}
-use Rattle.rings.specs.Order.{nth}
-use Rattle.rings.specs.FirstDown.{FirstDown}
-use Rattle.table.specs.Rules.{tableWith}
-use Rattle.plan.specs.Plan.{trailOf, ruleOf, rulesOf}
-use Rattle.search.specs.Search.{newSearch, ended}
-use Rattle.search.specs.Values.{IsDown}
-use Rattle.search.specs.Calls.{Call, perform, begun}
-use Rattle.planner.specs.Calls.{tabling}
-use Rattle.probing.specs.Calls.{link, naming, beginning, performing}
-use Rattle.probing.specs.Searches.{AllTrue, OneOfThree, Searches}
+use Rattle.demands.specs.Vocabulary.{_≡_, _↔_, true, List, map, flatten, ℕ, _≤_, _<_, _+_, _*_, T, length, getD, count, In, Distinct}
+use Rattle.demands.specs.Vocabulary.{memb, given, answer, Plant, live, linksWith, roots, liveLinks, Crosses, ClosedWalk, ClosedWalks}
+use Rattle.demands.specs.Vocabulary.{bridges, trailFrom, FirstDown, nth, upBy, tableWith, trailOf, ruleOf, rulesOf, Call, perform}
+use Rattle.demands.specs.Vocabulary.{begun, ended, newSearch, IsDown, tabling, naming, beginning, performing, link, AllTrue}
+use Rattle.demands.specs.Vocabulary.{OneOfThree, Searches}
 use Rattle.demands.specs.Names.{orderAt}
 
 -- the labels of the rules

@@ -1,3 +1,4 @@
+pub mod Vocabulary
 pub mod Names
 pub mod Tried
 pub mod Conditions
@@ -7,6 +8,7 @@ pub mod Untouched
 pub mod Demand2
 pub mod SearchIs
 pub mod Demand3
+pub mod Ceilings
 pub mod Order1
 pub mod Order2
 pub mod Order3

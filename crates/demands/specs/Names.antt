@@ -1,18 +1,7 @@
 -- Names for what the promises say again and again, of a plant p and one of its switches x. E, the number of links of the component of x, is
 -- `linksWith p x`.
-use mathlib.Core.Path.{_≡_}
-use mathlib.Core.Bool.{Bool}
-use mathlib.Core.List.{List}
-use Prim.Native.Nat.{ℕ}
-use Rattle.answers.specs.Answers.{given}
-use Rattle.answers.specs.Checks.{answer}
-use Rattle.plant.specs.declared.Plant.{Plant}
-use Rattle.codec.specs.Field.{Bytes}
-use Rattle.listing.specs.Listing.{reading}
-use Rattle.walks.specs.Components.{linksWith, used}
-use Rattle.rings.specs.Packet.{End}
-use Rattle.rings.specs.Injection.{placeOf, ringOf, orderOf, probeOf, probeRun}
-use Rattle.plan.specs.Plan.{trailWith, roundWith}
+use Rattle.demands.specs.Vocabulary.{_≡_, Bool, List, ℕ, given, answer, Plant, Bytes, reading, linksWith, used, placeOf, ringOf}
+use Rattle.demands.specs.Vocabulary.{orderOf, probeOf, probeRun, End, trailWith, roundWith}
 
 -- the bytes s are read as the plant p
 pub record ReadAs (s : List ℕ) (p : Plant) : Type 0 where

@@ -1,28 +1,8 @@
 -- Document 02, order 1: where the packet got to.
-use mathlib.Core.Path.{_≡_}
-use mathlib.Core.Logic.{_⊎_, _↔_}
-use mathlib.Core.Bool.{Bool, true, false}
-use mathlib.Core.List.{List}
-use Prim.Native.Nat.{ℕ, _*_, _/_, _≤_, _<_}
-use lib.ListN.{length, getD, take}
-use Rattle.lists.specs.Arrays.{at}
-use Rattle.answers.specs.Answers.{given}
-use Rattle.answers.specs.Checks.{answer}
-use Rattle.plant.specs.declared.Plant.{Plant}
-use Rattle.walks.specs.Arcs.{head}
-use Rattle.walks.specs.Components.{linksWith, used}
-use Rattle.rings.specs.Packet.{End, leadsTo, run}
-use Rattle.rings.specs.Rules.{upBy, upByLink, inAll}
-use Rattle.rings.specs.Order.{nth}
-use Rattle.rings.specs.Probe.{back}
-use Rattle.rings.specs.Injection.{probeRules}
-use Rattle.rings.specs.FirstDown.{FirstDown}
-use Rattle.plan.specs.Plan.{inTable}
-use Rattle.packet.specs.Outcome.{outcomeOf}
-use Rattle.search.specs.declared.Search.{Search}
-use Rattle.search.specs.Search.{wanted, ended}
-use Rattle.probing.specs.Calls.{running, checking, outLabels, probing}
-use Rattle.probing.specs.Searches.{actualOutcome}
+use Rattle.demands.specs.Vocabulary.{_≡_, _⊎_, _↔_, true, false, Bool, List, ℕ, _≤_, _<_, _*_, _/_, length, getD, take, given}
+use Rattle.demands.specs.Vocabulary.{answer, Plant, head, linksWith, used, FirstDown, probeRules, nth, End, run, leadsTo, back, inAll}
+use Rattle.demands.specs.Vocabulary.{upBy, upByLink, inTable, Search, wanted, outcomeOf, running, checking, probing, outLabels}
+use Rattle.demands.specs.Vocabulary.{actualOutcome}
 use Rattle.demands.specs.Names.{ringAt, orderAt, probeAt, probeRunAt}
 
 -- what the answer e of a run tells: of a packet from switch `at` with labels w, under these rules, by the labels that are up

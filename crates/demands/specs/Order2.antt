@@ -1,19 +1,6 @@
 -- Document 02, order 2: rules for each switch.
-use mathlib.Core.Path.{_≡_}
-use mathlib.Core.List.{List}
-use Prim.Native.Nat.{ℕ, _*_, _≤_}
-use Rattle.lists.specs.Count.{count}
-use Rattle.lists.specs.Arrays.{at}
-use Rattle.lists.specs.Sum.{sum}
-use Rattle.answers.specs.Answers.{given}
-use Rattle.answers.specs.Checks.{answer}
-use Rattle.plant.specs.declared.Plant.{Plant}
-use Rattle.walks.specs.Components.{used}
-use Rattle.senders.specs.Senders.{sentBy, pastSenders, bySwitch}
-use Rattle.plan.specs.Plan.{rulesOf, tableOf}
-use Rattle.plan.specs.Totals.{Totals}
-use Rattle.quantity.specs.Quantity.{maxSpare, withSpare}
-use Rattle.planner.specs.Calls.{counting}
+use Rattle.demands.specs.Vocabulary.{_≡_, List, ℕ, _≤_, _*_, at, count, sum, given, answer, Plant, used, sentBy, pastSenders}
+use Rattle.demands.specs.Vocabulary.{bySwitch, rulesOf, tableOf, Totals, maxSpare, withSpare, counting}
 
 -- for every plant value, sound or not: `tableOf p` is its forwarding table, and `bySwitch` what is answered of it
 pub record SameTotals (p : Plant) : Type 0 where

@@ -1,25 +1,7 @@
 -- Document 02, order 3: the buying page.
-use mathlib.Core.Path.{_≡_}
-use mathlib.Core.Logic.{_↔_}
-use mathlib.Core.Bool.{true, false}
-use mathlib.Core.List.{List, _++_}
-use Prim.Native.Nat.{ℕ, _+_, _*_, _≤_, _<_}
-use lib.ListN.{length, drop}
-use Rattle.lists.specs.Arrays.{at}
-use Rattle.lists.specs.Sum.{sum}
-use Rattle.answers.specs.Answers.{given, refused}
-use Rattle.answers.specs.Checks.{answer}
-use Rattle.plant.specs.declared.Plant.{Plant}
-use Rattle.walks.specs.Graph.{liveLinks, bridges, linksAt}
-use Rattle.senders.specs.Senders.{sentBy}
-use Rattle.plan.specs.Plan.{rulesOf}
-use Rattle.quantity.specs.Quantity.{orderQuantity}
-use Rattle.sheet.specs.declared.Sheet.{Sheet}
-use Rattle.sheet.specs.Columns.{lineColumns}
-use Rattle.sheet.specs.Page.{switchLine, totalLine, buyingPage}
-use Rattle.sheet.specs.Form.{formed, readingPage}
-use Rattle.sheet.specs.Shown.{ThreeDigits, Shown}
-use Rattle.planner.specs.Calls.{buying, boughtOut}
+use Rattle.demands.specs.Vocabulary.{_≡_, _↔_, true, false, List, _++_, ℕ, _≤_, _<_, _+_, _*_, length, drop, at, sum, given, refused}
+use Rattle.demands.specs.Vocabulary.{answer, Plant, liveLinks, bridges, linksAt, sentBy, rulesOf, orderQuantity, Sheet, lineColumns}
+use Rattle.demands.specs.Vocabulary.{formed, readingPage, buyingPage, switchLine, totalLine, Shown, ThreeDigits, buying, boughtOut}
 
 -- for every listing s that is read as a plant p, and every spare that is not refused: what the page of the counts c is
 pub record PageWritten (s : List ℕ) (p : Plant) (spare : ℕ) (c : Sheet) : Type 0 where

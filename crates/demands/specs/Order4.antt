@@ -1,13 +1,6 @@
 -- Document 02, order 4: packets that vanish. What a search does with them is in `Searches` of probing/specs/Searches; here what counts as a
 -- probe, of any list of sendings.
-use mathlib.Core.Path.{_≡_}
-use mathlib.Core.Logic.{_⊎_, _↔_}
-use mathlib.Core.List.{List, _∷_, _++_}
-use Prim.Native.Nat.{ℕ}
-use lib.Dec.{T}
-use Rattle.search.specs.declared.Outcome.{Outcome}
-use Rattle.search.specs.Values.{IsReturned, IsLost}
-use Rattle.search.specs.Calls.{Sending, sent, countedIn}
+use Rattle.demands.specs.Vocabulary.{_≡_, _⊎_, _↔_, List, _∷_, _++_, ℕ, T, Outcome, Sending, sent, countedIn, IsReturned, IsLost}
 
 -- a sending of probe m returned
 pub record ReturnedIn (m : ℕ) (l : List Sending) : Type 0 where

@@ -1,34 +1,11 @@
 -- Document 02, order 6: links that fail one way.
-use mathlib.Core.Path.{_≡_}
-use mathlib.Core.Logic.{_↔_}
-use mathlib.Core.Bool.{true}
-use mathlib.Core.List.{List, _∷_, _++_}
-use Prim.Native.Nat.{ℕ, _+_, _*_, _/_, _≤_, _<_}
-use lib.Dec.{T}
-use lib.ListN.{length, take, drop}
-use Rattle.lists.specs.Members.{In, Each}
-use Rattle.answers.specs.Answers.{given, refused}
-use Rattle.answers.specs.Checks.{answer}
-use Rattle.plant.specs.declared.Plant.{Plant}
-use Rattle.walks.specs.Arcs.{opposite, tail, head}
-use Rattle.walks.specs.Graph.{ClosedWalk, liveLinks, visitedFrom, enteredFrom, earlierFrom}
-use Rattle.walks.specs.Components.{rootOf, roots, componentOf, linkWith, linksWith}
-use Rattle.walks.specs.Round.{tourFrom, roundFrom}
-use Rattle.rings.specs.Packet.{End}
-use Rattle.rings.specs.Rules.{upBy, inAll}
-use Rattle.rings.specs.Ring.{FirstHop}
-use Rattle.rings.specs.Round.{upByLabel, EveryUp, Vouches, linkBytes}
-use Rattle.plan.specs.Plan.{trailOf, trailWith, roundOf, roundWith, roundBegin}
-use Rattle.plan.specs.Rounds.{AreRounds}
-use Rattle.choosing.specs.declared.Choice.{Choice}
-use Rattle.choosing.specs.Choice.{hopsIn}
-use Rattle.packet.specs.Outcome.{outcomeOf}
-use Rattle.search.specs.Search.{ended}
-use Rattle.search.specs.Values.{IsReturned}
-use Rattle.search.specs.Calls.{Call, perform, begun, TrueSending, OneReturns}
-use Rattle.planner.specs.Calls.{roundTrailing, roundLaidOut}
-use Rattle.probing.specs.Calls.{roundRunning, choosing, probeEnd}
-use Rattle.probing.specs.Searches.{sentOver, Says}
+use Rattle.demands.specs.Vocabulary.{_≡_, _↔_, true, List, _∷_, _++_, ℕ, _≤_, _<_, _+_, _*_, _/_, T, length, drop, take, Each, In}
+use Rattle.demands.specs.Vocabulary.{given, refused, answer, Plant, tail, head, opposite, linksWith, rootOf, roots, componentOf}
+use Rattle.demands.specs.Vocabulary.{linkWith, liveLinks, visitedFrom, enteredFrom, earlierFrom, ClosedWalk, tourFrom, roundFrom, End}
+use Rattle.demands.specs.Vocabulary.{FirstHop, upByLabel, EveryUp, Vouches, linkBytes, inAll, upBy, trailOf, roundOf, trailWith}
+use Rattle.demands.specs.Vocabulary.{roundWith, roundBegin, AreRounds, Choice, hopsIn, Call, perform, begun, TrueSending, OneReturns}
+use Rattle.demands.specs.Vocabulary.{ended, IsReturned, outcomeOf, roundTrailing, roundLaidOut, roundRunning, choosing, probeEnd}
+use Rattle.demands.specs.Vocabulary.{sentOver, Says}
 use Rattle.demands.specs.Names.{probeRunAt, roundRingAt, roundPlaceAt}
 use Rattle.demands.specs.Order1.{GotTo}
 

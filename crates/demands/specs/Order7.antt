@@ -1,29 +1,9 @@
 -- Document 02, order 7: links laid up, here out of service.
-use mathlib.Core.Path.{_≡_}
-use mathlib.Core.Logic.{_↔_}
-use mathlib.Core.Bool.{Bool, true, false}
-use mathlib.Core.List.{List, [], _∷_, _++_}
-use Prim.Native.Nat.{ℕ, _+_, _*_, _/_, _≤_, _<_}
-use lib.Dec.{T, ltb}
-use lib.ListN.{length}
-use Rattle.lists.specs.Members.{In}
-use Rattle.lists.specs.Arrays.{at}
-use Rattle.answers.specs.Answers.{given, refused, _>>=_}
-use Rattle.answers.specs.Checks.{check, answer, _then_}
-use Rattle.plant.specs.declared.Link.{Link}
-use Rattle.plant.specs.declared.Plant.{Plant}
-use Rattle.plant.specs.Links.{marked, outOfService, live}
-use Rattle.codec.specs.Part.{part, partBytes}
+use Rattle.demands.specs.Vocabulary.{_≡_, _↔_, true, false, Bool, List, [], _∷_, _++_, ℕ, _≤_, _<_, _+_, _*_, _/_, T, ltb, length}
+use Rattle.demands.specs.Vocabulary.{In, given, refused, _>>=_, answer, check, _then_, Link, Plant, live, marked, outOfService, part}
+use Rattle.demands.specs.Vocabulary.{partBytes, writing, linkWith, bridge, liveLinks, Crosses, ClosedWalk, upByLabel, linkBytes}
+use Rattle.demands.specs.Vocabulary.{inAll, upBy, trailOf, roundOf, inTable, Search, running, checking, roundRunning, probing, Says}
 use Rattle.listing.specs.Listing as listing
-use Rattle.listing.specs.Writing.{writing}
-use Rattle.walks.specs.Graph.{Crosses, ClosedWalk, bridge, liveLinks}
-use Rattle.walks.specs.Components.{linkWith}
-use Rattle.rings.specs.Rules.{upBy, inAll}
-use Rattle.rings.specs.Round.{upByLabel, linkBytes}
-use Rattle.plan.specs.Plan.{trailOf, roundOf, inTable}
-use Rattle.search.specs.declared.Search.{Search}
-use Rattle.probing.specs.Calls.{running, checking, roundRunning, probing}
-use Rattle.probing.specs.Searches.{Says}
 use Rattle.demands.specs.Names.{probeAt}
 use Rattle.demands.specs.Demand3.{ruleLabels}
 
@@ -40,7 +20,8 @@ pub record Marks : Type 0 where
   pub plain-read : (switches : ℕ) (before : Link) (m : ℕ) (s : List ℕ) → m < 8
       → listing.link switches before (m ∷ s)
       ≡ (part (listing.plainFields before) (m ∷ s)
-      then λ r. listing.soundLink switches (marked false (listing.linkFrom (r .0))) then λ _. check [] (marked false (listing.linkFrom (r .0)), r .1))
+      then λ r. listing.soundLink switches (marked false (listing.linkFrom (r .0)))
+      then λ _. check [] (marked false (listing.linkFrom (r .0)), r .1))
   pub plain-written : (before l : Link) → l .«out_of_service» ≡ false
       → listing.linkBytes before l ≡ partBytes (listing.plainFields before) (l .first ∷ l .second ∷ l .tag ∷ [])
   -- the record after a marked one takes its ends from it, as from any other

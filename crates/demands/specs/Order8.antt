@@ -1,28 +1,9 @@
 -- Document 02, order 8: four consoles, each with its own switches.
-use mathlib.Core.Path.{_≡_}
-use mathlib.Core.Bool.{true, false}
-use mathlib.Core.List.{List}
-use Prim.Native.Nat.{ℕ, _^_, _≤_, _<_}
-use Rattle.answers.specs.Answers.{Answer, given, refused, _>>=_}
-use Rattle.answers.specs.Checks.{answer}
-use Rattle.plant.specs.declared.Plant.{Plant}
-use Rattle.limits.specs.Limits.{maxSwitches}
-use Rattle.codec.specs.Field.{Bytes}
-use Rattle.walks.specs.Components.{linksWith}
-use Rattle.search.specs.declared.Search.{Search}
-use Rattle.search.specs.declared.Outcome.{Outcome}
-use Rattle.search.specs.Search.{newSearch, soundFor, give}
-use Rattle.search.specs.Calls.{Call, perform, begun}
-use Rattle.planning.specs.Planning.{planningAt}
-use Rattle.probing.specs.Searches.{Searches}
-use Rattle.desk.specs.declared.Held.{Held}
-use Rattle.desk.specs.declared.Held.the-variants.{Nothing, From}
-use Rattle.desk.specs.declared.Console.{Console}
-use Rattle.desk.specs.declared.Desk.{Desk}
-use Rattle.desk.specs.Console.{has, setOutOfRange, consoleWith, idle}
-use Rattle.desk.specs.Desk.{freshDesk, consoleOf}
-use Rattle.consoles.specs.Calls.{Request, newSet, start, outcome, switchOf, asking, calling}
-use Rattle.consoles.specs.Lists.{DeskCall, answerTo, after, afterAll, callsOf, answersOf, since, fedIn}
+use Rattle.demands.specs.Vocabulary.{_≡_, true, false, List, ℕ, _≤_, _<_, _^_, given, refused, _>>=_, Answer, answer, Plant}
+use Rattle.demands.specs.Vocabulary.{maxSwitches, Bytes, linksWith, planningAt, Outcome, Search, Call, perform, begun, give}
+use Rattle.demands.specs.Vocabulary.{newSearch, soundFor, Searches, Console, Desk, Held, Nothing, From, setOutOfRange, has}
+use Rattle.demands.specs.Vocabulary.{consoleWith, idle, freshDesk, consoleOf, newSet, start, outcome, Request, switchOf, asking}
+use Rattle.demands.specs.Vocabulary.{calling, DeskCall, answerTo, after, afterAll, callsOf, answersOf, since, fedIn}
 
 -- sets of switches, and a fresh desk
 pub record Sets : Type 0 where

@@ -1,33 +1,11 @@
 -- Document 02, order 9: plants in several islands, here components.
-use mathlib.Core.Path.{_≡_}
-use mathlib.Core.Bool.{true}
-use mathlib.Core.List.{List, [], _∷_, _++_, map}
-use Prim.Native.Nat.{ℕ, suc, _+_, _*_, _≤_, _<_}
-use lib.ListN.{length, getD}
-use Rattle.lists.specs.Members.{In}
-use Rattle.lists.specs.Sum.{sumOf}
-use Rattle.answers.specs.declared.Refusal.{Refusal}
-use Rattle.answers.specs.Answers.{given, numberOf}
-use Rattle.answers.specs.Checks.{answer}
-use Rattle.plant.specs.declared.Plant.{Plant}
-use Rattle.plant.specs.Links.{live}
-use Rattle.walks.specs.Arcs.{tail, head}
-use Rattle.walks.specs.Graph.{Crosses, liveLinks, bridges, usedFrom, switchesFrom, linksFrom, bridgesFrom, arcsUsedFrom}
-use Rattle.walks.specs.Components.{rootOf, roots, componentOf, linkWith, linksWith, used, arcsUsed}
-use Rattle.walks.specs.Round.{roundFrom}
-use Rattle.routes.specs.Plants.{trailFrom}
-use Rattle.table.specs.Rules.{rulesIn, tableIn}
-use Rattle.plan.specs.Plan.{trailOf, trailWith, trailBegin, roundOf, roundWith, roundBegin, tableOf}
-use Rattle.order.specs.Span.{ringSpan, spanOf}
-use Rattle.choosing.specs.Choice.{choiceOf}
-use Rattle.text.specs.Lines.{summaryLine, ruleLines, trailLine}
-use Rattle.printing.specs.Output.{triple, printed}
-use Rattle.search.specs.declared.Search.{Search}
-use Rattle.search.specs.Search.{ended}
-use Rattle.search.specs.Values.{IsAllUp}
-use Rattle.planning.specs.Components.{zeroComponent, componentsOf}
-use Rattle.planner.specs.Calls.{parting}
-use Rattle.probing.specs.Calls.{checking, roundRunning, choiceAt, outSpan, link, naming, beginning}
+use Rattle.demands.specs.Vocabulary.{_≡_, true, List, [], _∷_, _++_, map, ℕ, suc, _≤_, _<_, _+_, _*_, length, getD, In, sumOf}
+use Rattle.demands.specs.Vocabulary.{Refusal, given, numberOf, answer, Plant, live, tail, head, linksWith, rootOf, roots, componentOf}
+use Rattle.demands.specs.Vocabulary.{linkWith, used, arcsUsed, liveLinks, usedFrom, Crosses, bridges, switchesFrom, linksFrom}
+use Rattle.demands.specs.Vocabulary.{bridgesFrom, arcsUsedFrom, roundFrom, trailFrom, rulesIn, tableIn, trailOf, roundOf, trailWith}
+use Rattle.demands.specs.Vocabulary.{trailBegin, roundWith, tableOf, roundBegin, zeroComponent, componentsOf, ringSpan, spanOf}
+use Rattle.demands.specs.Vocabulary.{choiceOf, Search, IsAllUp, summaryLine, ruleLines, trailLine, triple, printed, parting}
+use Rattle.demands.specs.Vocabulary.{checking, roundRunning, naming, beginning, outSpan, link, choiceAt}
 use Rattle.demands.specs.Names.{ringAt, orderAt, roundRingAt}
 
 -- "9 never occurs": no refusal has its number, so that no call can answer it

@@ -4,22 +4,8 @@
 -- .count` all links of the listing. What document 01 says of a connected plant is said of each component (order 9): `roots p` has the
 -- switch at which each begins, `trailOf p` their trails one after another; of a named switch x, `trailWith p x` is the trail of its
 -- component, `linkWith p x l` says whether link l is one of it, and `linksWith p x` is E.
-use mathlib.Core.Path.{_≡_}
-use mathlib.Core.Bool.{Bool, true, false}
-use mathlib.Core.List.{List}
-use Prim.Native.Nat.{ℕ, _≤_, _<_}
-use lib.Dec.{T}
-use Rattle.answers.specs.Answers.{given}
-use Rattle.answers.specs.Checks.{answer}
-use Rattle.plant.specs.declared.Plant.{Plant}
-use Rattle.plant.specs.Links.{outOfService}
-use Rattle.listing.specs.Listing.{reading}
-use Rattle.walks.specs.Components.{linkWith, linksWith}
-use Rattle.rings.specs.Packet.{run}
-use Rattle.rings.specs.Round.{Together}
-use Rattle.plan.specs.Plan.{Connected}
-use Rattle.sheet.specs.declared.Sheet.{Sheet}
-use Rattle.planner.specs.Calls.{quotingFor}
+use Rattle.demands.specs.Vocabulary.{_≡_, true, false, Bool, List, ℕ, _≤_, _<_, T, given, answer, Plant, outOfService, reading}
+use Rattle.demands.specs.Vocabulary.{linksWith, linkWith, run, Together, Connected, Sheet, quotingFor}
 use Rattle.demands.specs.Names.{ReadAs}
 use Rattle.demands.specs.Conditions.{ConditionsAre}
 use Rattle.demands.specs.CheckingOrder.{CheckingOrder}
@@ -32,6 +18,7 @@ use Rattle.demands.specs.Order1.{GotTo, PacketsTell}
 use Rattle.demands.specs.Order2.{SameTotals, BySwitches}
 use Rattle.demands.specs.Order3.{PageWritten, PageForm}
 use Rattle.demands.specs.Order4.{Counted}
+use Rattle.demands.specs.Ceilings.{Ceilings}
 use Rattle.demands.specs.Order6.{RoundTrail, RoundRun, ShorterTrail, ByLabel}
 use Rattle.demands.specs.Order7.{Marks, OutOfService, StatesOf, AllInService}
 use Rattle.demands.specs.Order8.{Sets, ConsoleCalls, Isolated, Agreeing, ConsoleSearches}
@@ -47,7 +34,7 @@ pub record Promises : Type 0 where
   pub demand-2 : Demand2
   -- the search is document 01's, in its values
   pub search-is : SearchIs
-  -- "the rule page is document 01's", and what a search does; order 4's and order 5's promises with it
+  -- "the rule page is document 01's", and what a search does; order 4's promises with it
   pub demand-3 : (s : List ℕ) (p : Plant) → ReadAs s p → Demand3 s p
   -- order 1: where a packet got to, whatever the rules are; and what the calls tell
   pub got-to : (rule : ℕ → ℕ → Bool) (up : ℕ → Bool) (hd : ℕ → ℕ) (at : ℕ) (w : List ℕ) → GotTo rule up hd at w (run rule up hd at 0 w)
@@ -61,6 +48,8 @@ pub record Promises : Type 0 where
   pub page-form : (b : List ℕ) → PageForm b
   -- order 4: what counts as a probe
   pub counted : Counted
+  -- order 5: the allowance keeps its meaning, as the order quantity has document 01's
+  pub ceilings : Ceilings
   -- order 6: links that fail one way
   pub round-trail : (s : List ℕ) (p : Plant) → ReadAs s p → RoundTrail s p
   pub round-run : (s : List ℕ) (p : Plant) → ReadAs s p → (x : ℕ) → x < p .switches → RoundRun s p x

@@ -1,15 +1,9 @@
 -- Document 01's section "Search", with the sendings lost of document 02's order 4, in the values of states and outcomes
 -- (search/specs/Values): of what the calls answer on every sound state that has not ended. An ended one is refused (15 of `ConditionsAre`),
 -- and so is an unsound one (14).
-use mathlib.Core.Path.{_≡_}
-use Prim.Native.Nat.{ℕ, _+_, _/_, _≤_, _<_}
-use Rattle.answers.specs.Answers.{Answer, given, _>>=_}
-use Rattle.answers.specs.Checks.{answer}
-use Rattle.limits.specs.Limits.{maxLinks}
-use Rattle.search.specs.declared.Search.{Search}
-use Rattle.search.specs.declared.Outcome.{Outcome}
-use Rattle.search.specs.Search.{newSearch, ask, give}
-use Rattle.search.specs.Values.{Values, valuesOf, checking, halving, allUp, down, outcomeNumber, IsReturned, IsLost}
+use Rattle.demands.specs.Vocabulary.{_≡_, ℕ, _≤_, _<_, _+_, _/_, given, _>>=_, Answer, answer, maxLinks, Outcome, Search, ask, give}
+use Rattle.demands.specs.Vocabulary.{newSearch, IsReturned, IsLost, Values, valuesOf, halving, allUp, down, outcomeNumber}
+use Rattle.search.specs.Values.{checking}
 
 -- what the call that gives an outcome answers, in values
 abbrev pub after : Search → Outcome → Answer Values

@@ -1,24 +1,15 @@
--- What demand 1 says of a call: which conditions it tries, each with its number and in which order, and that it is refused by the first that
--- holds and by nothing else. What each condition says is in `Conditions`. Assumes nothing.
-use mathlib.Core.Path.{_≡_}
-use mathlib.Core.Logic.{_↔_}
-use mathlib.Core.Bool.{Bool, true, false, _&&_, _||_}
-use mathlib.Core.List.{List, [], _∷_, _++_, map}
-use Prim.Native.Nat.{ℕ, zero, suc}
-use lib.Dec.{T, leb}
-use Rattle.answers.specs.Answers.{Answer, given, refused}
-use Rattle.answers.specs.Checks.{Conditions, NoneHolds, FirstHolds, Checked, answer}
-use Rattle.plant.specs.declared.Link.{Link}
-use Rattle.plant.specs.declared.Plant.{Plant}
-use Rattle.listing.specs.Listing.{header, linksOf, reading}
-use Rattle.consoles.specs.Calls.{consoleOutOfRange}
+-- What demand 1 says of a call: which conditions it tries, each with its number and in which order, and that it is refused by the first
+-- that holds and by nothing else. What each condition says is in `Conditions`. Assumes nothing.
+use Rattle.demands.specs.Vocabulary.{_≡_, _↔_, true, false, Bool, _&&_, _||_, List, [], _∷_, _++_, map, ℕ, suc, zero, T, leb, given}
+use Rattle.demands.specs.Vocabulary.{refused, Answer, Conditions, Checked, answer, NoneHolds, FirstHolds, Link, Plant, header}
+use Rattle.demands.specs.Vocabulary.{linksOf, reading, consoleOutOfRange}
 
 -- the numbers of refusals: 1 to 8 and, since order 9, 10 to 21
 abbrev pub isNumber : ℕ → Bool
 isNumber n = (leb 1 n && leb n 8) || (leb 10 n && leb n 21)
 
--- the answer a is that of a call which tries these conditions in this order: it is refusal n exactly if condition n holds and none before it
--- does, and a result where none holds
+-- the answer a is that of a call which tries these conditions in this order: it is refusal n exactly if condition n holds and none before
+-- it does, and a result where none holds
 pub record Tries {A : Type 0} (cs : Conditions) (a : Answer A) : Type 0 where
   pub refusals : (n : ℕ) → (a ≡ refused n) ↔ FirstHolds n cs
   pub otherwise : NoneHolds cs → (r : A) × (a ≡ given r)
@@ -35,7 +26,7 @@ pub record TriesConsole {A : Type 0} (k : ℕ) (s : List ℕ) (cs : Plant → Co
   pub console-first : consoleOutOfRange k ≡ true → a ≡ refused 19
   pub then-tries : consoleOutOfRange k ≡ false → TriesListing s cs a
 
--- ---- a reading and a writing themselves, by the numbers of their conditions; how these follow each other part by part is in `CheckingOrder`
+-- ---- a reading and a writing themselves, by the numbers of their conditions; part by part they are in `CheckingOrder`
 
 pub record TriesNumbers {A : Type 0} (ns : List ℕ) (c : Checked A) : Type 0 where
   pub numbers : map (λ q. q .0) (c .checks) ≡ ns

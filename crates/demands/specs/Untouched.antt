@@ -1,15 +1,7 @@
 -- Demand 1: a refusal changes no lent buffer, and no lent desk.
-use mathlib.Core.Path.{_≡_}
-use mathlib.Core.List.{List}
-use Prim.Native.Nat.{ℕ}
-use Rattle.answers.specs.Answers.{Answer, refused}
-use Rattle.answers.specs.Checks.{answer}
-use Rattle.plant.specs.declared.Plant.{Plant}
-use Rattle.listing.specs.Writing.{writing, bufferAfter}
-use Rattle.search.specs.declared.Outcome.{Outcome}
-use Rattle.planner.specs.Calls.{rewriting, rewritten, rereading, trailing, laidOut, roundTrailing, roundLaidOut, buying, boughtOut}
-use Rattle.desk.specs.declared.Desk.{Desk}
-use Rattle.consoles.specs.Calls.{newSet, start, outcome, serving, served}
+use Rattle.demands.specs.Vocabulary.{_≡_, List, ℕ, refused, Answer, answer, Plant, writing, bufferAfter, Outcome, rewriting}
+use Rattle.demands.specs.Vocabulary.{rereading, trailing, roundTrailing, buying, rewritten, laidOut, boughtOut, roundLaidOut, Desk}
+use Rattle.demands.specs.Vocabulary.{newSet, start, outcome, serving, served}
 
 -- a refusal leaves what is lent, b before and `after` afterwards, as it was
 abbrev pub Keeps : {A B : Type 0} → Answer A → B → B → Type 0

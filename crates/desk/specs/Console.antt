@@ -1,6 +1,6 @@
--- A console of document 02's order 8: its set of switches and its search, and what each of the three calls of a console tries and does to them, for a listing with s
--- switches, where the component of the switch of the start, or of the search, has e links in service (order 9). A call is given its own console's set and search and nothing
--- else of the desk. Assumes nothing.
+-- A console of document 02's order 8: its set of switches and its search, and what each of the three calls of a console tries and does to
+-- them, for a listing with s switches, where the component of the switch of the start, or of the search, has e links in service (order 9).
+-- A call is given its own console's set and search and nothing else of the desk. Assumes nothing.
 use mathlib.Core.Bool.{Bool, true, not}
 use mathlib.Core.List.{[], _∷_, _++_}
 use Prim.Native.Nat.{ℕ, _/_, _%_, _^_}
@@ -73,4 +73,5 @@ heldAfter o (From x q) = From x (next q o)
 
 -- 20 of its set, then those of its search
 unfoldable pub telling : ℕ → ℕ → Outcome → Console → Checked Console
-telling s e o c = check ((20, setOutOfRange s (c .set)) ∷ heldChecks s e (c .set) (c .search)) (consoleWith (c .set) (heldAfter o (c .search)))
+telling s e o c =
+    check ((20, setOutOfRange s (c .set)) ∷ heldChecks s e (c .set) (c .search)) (consoleWith (c .set) (heldAfter o (c .search)))

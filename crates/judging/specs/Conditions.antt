@@ -1,4 +1,5 @@
--- The conditions of refusals 12 to 15 in a call that is given a listing (document 01, "Refusals in checking order"), each once; and what calls try alike.
+-- The conditions of refusals 12 to 15 in a call that is given a listing (document 01, "Refusals in checking order"), each once; and what
+-- calls try alike.
 use mathlib.Core.Bool.{Bool, not, _&&_}
 use mathlib.Core.List.{List, [], _∷_}
 use Prim.Native.Nat.{ℕ, _*_}
@@ -11,12 +12,13 @@ use Rattle.trail.specs.Filled.{beginsWith}
 use Rattle.search.specs.declared.Search.{Search}
 use Rattle.search.specs.Search.{sound, soundFor, ended, wanted}
 
--- 12: the lent trail, in its whole length, differs from the listing's trails, one after another: it does not begin with their hops, or has another length
+-- 12: the lent trail, in its whole length, differs from the listing's trails, one after another: it does not begin with their hops, or has
+-- another length
 unfoldable pub trailDiffers : Plant → List ℕ → Bool
 trailDiffers p w = not (beginsWith w (trailOf p) && eqb (length w) (length (trailOf p)))
 
--- 12 in the calls of document 02's order 6, where "a lent trail may have spare places": it "looks at the hops alone and includes a slice too short". The lent trail does not
--- begin with the hops w
+-- 12 in the calls of document 02's order 6, where "a lent trail may have spare places": it "looks at the hops alone and includes a slice
+-- too short". The lent trail does not begin with the hops w
 unfoldable pub hopsDiffer : List ℕ → List ℕ → Bool
 hopsDiffer w lent = not (beginsWith lent w)
 
@@ -24,7 +26,8 @@ hopsDiffer w lent = not (beginsWith lent w)
 unfoldable pub statesShort : ℕ → List ℕ → Bool
 statesShort e states = ltb (length states) e
 
--- 14: the search is unsound by itself, or in a call with a listing, where a search is over e links: those in service of the component of its switch
+-- 14: the search is unsound by itself, or in a call with a listing, where a search is over e links: those in service of the component of
+-- its switch
 unfoldable pub searchUnsound : ℕ → Search → Bool
 searchUnsound e q = not (sound q && soundFor e q)
 

@@ -1,4 +1,5 @@
--- The listing (document 01, "Listing bytes" and refusals 1 to 8; document 02, order 7, the mark of a link): from bytes to a plant, and from a plant to bytes.
+-- The listing (document 01, "Listing bytes" and refusals 1 to 8; document 02, order 7, the mark of a link): from bytes to a plant, and from
+-- a plant to bytes.
 use mathlib.Core.Bool.{Bool, not, _&&_}
 use mathlib.Core.List.{List, [], _∷_, _++_}
 use Prim.Native.Nat.{ℕ, zero, suc}
@@ -78,7 +79,8 @@ soundLink switches l = check ((6, endOutOfRange switches l) ∷ (7, selfLink l) 
 
 -- one link, after the record `before`
 unfoldable pub link : ℕ → Link → List ℕ → Checked (Link × List ℕ)
-link switches before s = part (linkFields before) s then λ r. soundLink switches (linkFrom (r .0)) then λ _. check [] (linkFrom (r .0), r .1)
+link switches before s =
+    part (linkFields before) s then λ r. soundLink switches (linkFrom (r .0)) then λ _. check [] (linkFrom (r .0), r .1)
 
 -- so many links in order
 unfoldable pub links : ℕ → ℕ → Link → List ℕ → Checked (List Link × List ℕ)

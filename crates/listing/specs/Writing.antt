@@ -13,7 +13,8 @@ use Rattle.listing.specs.Listing.{valueOutOfRange, soundLink, linksOf, e
 unfoldable pub isZero : Link → Bool
 isZero l = eqb (l .first) 0 && (eqb (l .second) 0 && (eqb (l .tag) 0 && not (l .«out_of_service»)))
 
--- 5, of a plant: a header value is outside its range, the start is not below the switch count, or a place past the links is not zero, a mark included
+-- 5, of a plant: a header value is outside its range, the start is not below the switch count, or a place past the links is not zero, a
+-- mark included
 unfoldable pub plantOutOfRange : Plant → Bool
 plantOutOfRange p = valueOutOfRange (p .switches) (p .count) (p .start) || not (all isZero (drop (p .count) (p .links)))
 

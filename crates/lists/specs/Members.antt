@@ -1,4 +1,5 @@
--- Membership in a list of numbers, as a relation and as a test; a test at all members; what holds of each; distinct members. The laws are in proofs/.
+-- Membership in a list of numbers, as a relation and as a test; a test at all members; what holds of each; distinct members. The laws are
+-- in proofs/.
 use mathlib.Core.Path.{_≡_}
 use mathlib.Core.Logic.{_⊎_}
 use mathlib.Core.Bool.{Bool, true, false, _&&_, _||_}

@@ -1,4 +1,5 @@
--- The outward labels of a probe as parts of the trail (document 01, "Rules, packets, ring"): where they stand, and what stands there in a lent trail.
+-- The outward labels of a probe as parts of the trail (document 01, "Rules, packets, ring"): where they stand, and what stands there in a
+-- lent trail.
 use mathlib.Core.List.{List}
 use Prim.Native.Nat.{ℕ, _+_, _-_}
 use lib.ListN.{length, take, drop}

@@ -1,5 +1,5 @@
--- The plan of a plant: what is said of all its components together, and of the component of a named switch. Below this, all is said from any root, and of any arcs that have
--- rules.
+-- The plan of a plant: what is said of all its components together, and of the component of a named switch. Below this, all is said from
+-- any root, and of any arcs that have rules.
 use mathlib.Core.Bool.{Bool}
 use mathlib.Core.List.{List, map, flatten}
 use Prim.Native.Nat.{ℕ, _*_}

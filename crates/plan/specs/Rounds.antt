@@ -1,5 +1,5 @@
--- What document 02's order 6 says of a round trail, for each component of a plant (order 9): a closed walk from its root that crosses each of its arcs just once; and of the
--- round trails one after another.
+-- What document 02's order 6 says of a round trail, for each component of a plant (order 9): a closed walk from its root that crosses each
+-- of its arcs just once; and of the round trails one after another.
 use mathlib.Core.Path.{_≡_}
 use mathlib.Core.Logic.{_↔_}
 use mathlib.Core.List.{List}

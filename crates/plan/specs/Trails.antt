@@ -1,5 +1,5 @@
--- What document 01 says of a trail, for each component of a plant (document 02, order 9): a closed walk from its root over exactly its arcs in use; and of the trails one after
--- another, that they have at most so many hops.
+-- What document 01 says of a trail, for each component of a plant (document 02, order 9): a closed walk from its root over exactly its arcs
+-- in use; and of the trails one after another, that they have at most so many hops.
 use mathlib.Core.Logic.{_↔_}
 use mathlib.Core.List.{List}
 use Prim.Native.Nat.{ℕ, _≤_}

@@ -1,5 +1,5 @@
--- The components of a plant as a call answers them (document 02, order 9): how many, and for each its root, where its trail begins among the trails of all and its hops, and the
--- same of its round trail.
+-- The components of a plant as a call answers them (document 02, order 9): how many, and for each its root, where its trail begins among
+-- the trails of all and its hops, and the same of its round trail.
 use mathlib.Core.List.{List, map}
 use Prim.Native.Nat.{ℕ}
 use lib.ListN.{length, getD}
@@ -26,7 +26,13 @@ module _ (p : Plant) where
   unfoldable pub componentAt : ℕ → Component
   componentAt i =
       let r = getD (roots p) i 0 in
-      record { first = r; begin = trailBegin p i; hops = length (trailFrom p r); «round_begin» = roundBegin p i; «round_hops» = length (roundFrom p r) }
+      record {
+        first = r;
+        begin = trailBegin p i;
+        hops = length (trailFrom p r);
+        «round_begin» = roundBegin p i;
+        «round_hops» = length (roundFrom p r);
+      }
 
   -- that of a switch
   abbrev pub componentWith : ℕ → Component

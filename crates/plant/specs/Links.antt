@@ -1,4 +1,5 @@
--- The link places of a plant: the zero place, a plant with zeros in all places, and by its number the ends of a link and whether it is in service.
+-- The link places of a plant: the zero place, a plant with zeros in all places, and by its number the ends of a link and whether it is in
+-- service.
 use Prim.Native.Nat.{ℕ, zero, suc}
 use mathlib.Core.Bool.{Bool, false, not, _&&_}
 use lib.Dec.{ltb}

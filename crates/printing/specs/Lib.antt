@@ -1,3 +1,4 @@
 pub mod Output
+pub mod Room
 pub mod Stretches
 pub mod Cases

@@ -1,17 +1,15 @@
--- The bytes that the program `rules` prints (document 01, "Edges and marked cases"), by the definitions of the plan, and the most of them. Assumes nothing.
+-- The bytes that the program `rules` prints (document 01, "Edges and marked cases"), by the definitions of the plan. Assumes nothing.
 use mathlib.Core.List.{List, map}
-use Prim.Native.Nat.{ℕ, _+_, _*_}
+use Prim.Native.Nat.{ℕ}
 use lib.ListN.{length}
 use Rattle.plant.specs.declared.Plant.{Plant}
 use Rattle.answers.specs.Answers.{Answer, given, refused}
-use Rattle.limits.specs.Limits.{maxSwitches, maxRules}
 use Rattle.walks.specs.Graph.{liveLinks, bridges}
 use Rattle.walks.specs.Components.{roots, arcsUsed}
 use Rattle.routes.specs.Plants.{trailFrom}
 use Rattle.plan.specs.Plan.{trailOf, rulesOf}
 use Rattle.table.specs.declared.Rule.{Rule}
 use Rattle.text.specs.Lines.{pageOf, refusalOf}
-use Rattle.text.specs.Sizes.{summaryMost, ruleMost, trailsMost}
 use Rattle.answers.specs.Checks.{answer}
 use Rattle.listing.specs.Listing.{reading}
 
@@ -21,7 +19,8 @@ triple r = (r .from, r .label, r .to)
 
 -- the page of a plant: its numbers and its rules over all components, and a line for the trail of each (document 02, order 9)
 unfoldable pub plantOutput : Plant → List ℕ
-plantOutput p = pageOf (p .switches) (liveLinks p) (bridges p) (arcsUsed p) (length (trailOf p)) (map triple (rulesOf p)) (map (trailFrom p) (roots p))
+plantOutput p =
+    pageOf (p .switches) (liveLinks p) (bridges p) (arcsUsed p) (length (trailOf p)) (map triple (rulesOf p)) (map (trailFrom p) (roots p))
 
 -- the page of a plant, or the line of a refusal
 abbrev pub outputOf : Answer Plant → List ℕ
@@ -31,7 +30,3 @@ outputOf (refused n) = refusalOf n
 -- the bytes that `rules` prints for a listing
 abbrev pub printed : List ℕ → List ℕ
 printed s = outputOf (answer (reading s))
-
--- the most bytes of a page with so many hops: a line of numbers, and as many rules and trails as there can be
-abbrev pub pageRoom : ℕ → ℕ
-pageRoom hops = summaryMost + maxRules * ruleMost + trailsMost maxSwitches hops

@@ -21,7 +21,8 @@ ghost use Rattle.planning.specs.Plans.{Plan};
 ghost use Rattle.text.specs.Lines.{summaryLine, ruleLine, ruleLines, trailLine, trailLines, refusalOf};
 ghost use Rattle.text.specs.Sizes.{summaryMost};
 ghost use Rattle.text.specs.Laid.{Room, Laid};
-ghost use Rattle.printing.specs.Output.{triple, plantOutput, printed, pageRoom};
+ghost use Rattle.printing.specs.Output.{triple, plantOutput, printed};
+ghost use Rattle.printing.specs.Room.{pageRoom};
 ghost use Rattle.printing.specs.Stretches.{stretchOf, Stretches};
 
 // The most bytes of a page: `pageRoom maxHops` of specs/Output.antt.

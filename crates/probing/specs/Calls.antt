@@ -1,6 +1,6 @@
--- What each call on packets, probes and searches comes to that is given a listing: in the plant of the listing, after 1 to 8 and 11. Ring, order, probes and E belong to the
--- component of the named switch x (document 02, order 9): its trail is `trailWith p x`, and E, the number of links that a search is over, `linksWith p x`. State bytes are counted
--- against the listing's link count, `p .count`.
+-- What each call on packets, probes and searches comes to that is given a listing: in the plant of the listing, after 1 to 8 and 11. Ring,
+-- order, probes and E belong to the component of the named switch x (document 02, order 9): its trail is `trailWith p x`, and E, the number
+-- of links that a search is over, `linksWith p x`. State bytes are counted against the listing's link count, `p .count`.
 use mathlib.Core.Path.{_≡_}
 use mathlib.Core.List.{List, [], _∷_, _++_}
 use Prim.Native.Nat.{ℕ}
@@ -63,7 +63,8 @@ roundRunning s x w states = planningAt s x then roundIn x w states
 
 -- ---- the shorter of two lent trails (document 02, order 6): 1 to 8, 11, 12
 
--- of the trail and the round trail of the component of x the one that has fewer hops: where it begins among those of all components, and how many
+-- of the trail and the round trail of the component of x the one that has fewer hops: where it begins among those of all components, and
+-- how many
 abbrev pub choiceAt : Plant → ℕ → Choice
 choiceAt p x = choiceOf (trailBegin p (componentOf p x)) (length (trailWith p x)) (roundBegin p (componentOf p x)) (length (roundWith p x))
 
@@ -150,7 +151,8 @@ namedIn ls said.AllUp = none
 namedIn ls (said.Down place) = link (nth ls place)
 
 unfoldable pub nameIn : ℕ → List ℕ → Search → Plant → Checked Name
-nameIn x w q p = check ((12, trailDiffers p w) ∷ (14, searchUnsound (linksWith p x) q) ∷ []) (namedIn (orderOf p (trailWith p x) x) (says q))
+nameIn x w q p =
+    check ((12, trailDiffers p w) ∷ (14, searchUnsound (linksWith p x) q) ∷ []) (namedIn (orderOf p (trailWith p x) x) (says q))
 
 unfoldable pub naming : List ℕ → ℕ → List ℕ → Search → Checked Name
 naming s x w q = planningAt s x then nameIn x w q

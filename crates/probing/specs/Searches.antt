@@ -1,5 +1,6 @@
--- What demand 3 says of a list of calls to a search, document 02's order 4 included, as one statement: `Searches`. Demand 3 (demands/specs/Demands) is this for every
--- list of calls, and the contract of the call `perform` is this of what it answers (`Performs`). Assumes nothing.
+-- What demand 3 says of a list of calls to a search, document 02's order 4 included, as one statement: `Searches`. Demand 3
+-- (demands/specs/Demands) is this for every list of calls, and the contract of the call `perform` is this of what it answers (`Performs`).
+-- Assumes nothing.
 use mathlib.Core.Path.{_≡_}
 use mathlib.Core.Logic.{_↔_}
 use mathlib.Core.Bool.{true, false}
@@ -42,14 +43,15 @@ pub record MostProbes (e n : ℕ) : Type 0 where
 
 -- ---- the sendings, and what is assumed of them
 
--- the accepted outcomes of a list of calls after a new search from injection switch x, each with the m of its probe; E, the links in service of the component of x, is
--- `linksWith p x`
+-- the accepted outcomes of a list of calls after a new search from injection switch x, each with the m of its probe; E, the links in
+-- service of the component of x, is `linksWith p x`
 abbrev pub sentOver : Plant → ℕ → List Call → List Sending
 sentOver p x cs = sendings (begun (linksWith p x)) cs
 
 -- injection switch x, and the states of the links, a byte for each, which do not change during the list
 module _ (p : Plant) (x : ℕ) (states : List ℕ) where
-  -- no link is broken, where a link is broken if its state is down: its byte is 0. "A search's verdict speaks of its island's links in service alone"
+  -- no link is broken, where a link is broken if its state is down: its byte is 0. "A search's verdict speaks of its island's links in
+  -- service alone"
   abbrev pub NoneBroken : Type 0
   NoneBroken = (l : ℕ) → T (linkWith p x l) → upBy states l ≡ false → ⊥
 
@@ -65,9 +67,10 @@ module _ (p : Plant) (x : ℕ) (states : List ℕ) where
   abbrev pub AllTrue : List Call → Type 0
   AllTrue cs = Each (TrueSending ComesHome) (sentOver p x cs)
 
-  -- the second: "of three sendings in a row of one probe over sound links, one returns". It goes by the list of the accepted outcomes, whatever the state holds, so that a
-  -- search with a broken counter does not meet the demand for nothing: one that gave a probe up after two losses, or took the losses of one probe for those of the next,
-  -- would have no three in a row there, and its verdict would be wrong; one that never gave it up would pass the bound on packets
+  -- the second: "of three sendings in a row of one probe over sound links, one returns". It goes by the list of the accepted outcomes,
+  -- whatever the state holds, so that a search with a broken counter does not meet the demand for nothing: one that gave a probe up after
+  -- two losses, or took the losses of one probe for those of the next, would have no three in a row there, and its verdict would be wrong;
+  -- one that never gave it up would pass the bound on packets
   abbrev pub OneOfThree : List Call → Type 0
   OneOfThree cs = OneReturns ComesHome (sentOver p x cs)
 
@@ -80,7 +83,8 @@ module _ (p : Plant) (x : ℕ) (states : List ℕ) where
 
 -- what holds of r, where the calls cs led to after a new search from injection switch x, over the E links of its component
 pub record Searches (p : Plant) (x : ℕ) (cs : List Call) (r : Progress) : Type 0 where
-  -- what is counted, by the sendings alone: a probe is told by its m, and counts if one of its sendings returned or three in a row were lost; each sending is a packet
+  -- what is counted, by the sendings alone: a probe is told by its m, and counts if one of its sendings returned or three in a row were
+  -- lost; each sending is a packet
   pub probes-are : r .probes ≡ count (linksWith p x + 1) (countedIn (sentOver p x cs))
   pub packets-are : r .packets ≡ length (sentOver p x cs)
   -- "whatever fates are given, the probes number at most 1 + ⌈log2 E⌉, or none for E = 0, and with that many the search has ended"

@@ -18,7 +18,13 @@ use Rattle.quoting.specs.declared.Priced.{Priced}
 -- the counts of a plant with these rules, for an order quantity: the rules of each switch, and the links at it
 abbrev pub sheetWith : Plant → BySwitch → ℕ → Sheet
 sheetWith p rules quantity =
-    record { switches = p .switches; rules = rules .counts; links = map (linksAt p) (range 0 maxSwitches); total = rules .total; quantity = quantity }
+    record {
+      switches = p .switches;
+      rules = rules .counts;
+      links = map (linksAt p) (range 0 maxSwitches);
+      total = rules .total;
+      quantity = quantity;
+    }
 
 -- 17, or the counts with the order quantity of all rules
 unfoldable pub pricing : Plant → ℕ → Checked Sheet

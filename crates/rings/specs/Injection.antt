@@ -1,5 +1,6 @@
--- Injection at a switch of a plant with a trail: place, ring, order of links, probes and their runs (document 01, "Rules, packets, ring"). E, the number of links that a
--- search is over, is the e of a probe, and `table` tells the arcs that the forwarding table (rule page) has a rule for: the calls say what they are in a plant.
+-- Injection at a switch of a plant with a trail: place, ring, order of links, probes and their runs (document 01, "Rules, packets, ring").
+-- E, the number of links that a search is over, is the e of a probe, and `table` tells the arcs that the forwarding table (rule page) has a
+-- rule for: the calls say what they are in a plant.
 use mathlib.Core.Bool.{Bool}
 use mathlib.Core.List.{List}
 use Prim.Native.Nat.{ℕ}

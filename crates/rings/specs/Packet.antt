@@ -21,13 +21,14 @@ abbrev pub leadsTo : (ℕ → ℕ) → ℕ → List ℕ → ℕ
 leadsTo hd at [] = at
 leadsTo hd at (a ∷ w) = leadsTo hd (hd a) w
 
--- rules as a test on switch and label, and what is up as a test on labels: a label is up if its link can be crossed that way. A packet crosses "at a switch with a rule for
--- the next label, and that label's link up". The rule is looked for before the state
+-- rules as a test on switch and label, and what is up as a test on labels: a label is up if its link can be crossed that way. A packet
+-- crosses "at a switch with a rule for the next label, and that label's link up". The rule is looked for before the state
 abbrev pub crosses : (ℕ → ℕ → Bool) → (ℕ → Bool) → ℕ → ℕ → Bool
 crosses rule up at a = rule at a && up a
 
 module _ (rule : ℕ → ℕ → Bool) (up : ℕ → Bool) (hd : ℕ → ℕ) where
-  -- of the labels that a packet carries at a switch, those "before the first one that has no rule at the switch then reached or whose link is down"
+  -- of the labels that a packet carries at a switch, those "before the first one that has no rule at the switch then reached or whose link
+  -- is down"
   abbrev pub crossed : ℕ → List ℕ → List ℕ
   crossed at [] = []
   crossed at (a ∷ w) = choose (crosses rule up at a) (a ∷ crossed (hd a) w) []
@@ -37,7 +38,8 @@ module _ (rule : ℕ → ℕ → Bool) (up : ℕ → Bool) (hd : ℕ → ℕ) wh
   ends at [] = true
   ends at (a ∷ w) = crosses rule up at a && ends (hd a) w
 
-  -- a packet at a switch, after n hops, with the labels that it carries: the hops made are the labels crossed, and the switch last reached is where they lead
+  -- a packet at a switch, after n hops, with the labels that it carries: the hops made are the labels crossed, and the switch last reached
+  -- is where they lead
   unfoldable pub run : ℕ → ℕ → List ℕ → End
   run at n w = record { ended = ends at w; hops = n + length (crossed at w); last = leadsTo hd at (crossed at w) }
 

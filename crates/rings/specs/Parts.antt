@@ -1,4 +1,5 @@
--- The outward labels as parts of the trail (document 01, "Rules, packets, ring"): at most two stretches, the one from the place of the injection switch and the front.
+-- The outward labels as parts of the trail (document 01, "Rules, packets, ring"): at most two stretches, the one from the place of the
+-- injection switch and the front.
 use mathlib.Core.List.{List}
 use Prim.Native.Nat.{ℕ, _-_}
 use lib.ListN.{length, take, drop}

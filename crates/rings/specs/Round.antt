@@ -26,10 +26,11 @@ module _ (p : Plant) where
   abbrev pub EveryUp : (ℕ → Bool) → List ℕ → Type 0
   EveryUp links states = (a : ℕ) → T (links (a / 2)) → upByLabel states a ≡ true
 
-  -- the packet over the labels w, injected at switch s, "comes home exactly if every direction is up" of these links, whichever those are, by a byte for each label. "All 2×E
-  -- arcs have rules here"
+  -- the packet over the labels w, injected at switch s, "comes home exactly if every direction is up" of these links, whichever those are,
+  -- by a byte for each label. "All 2×E arcs have rules here"
   abbrev pub Vouches : (ℕ → Bool) → ℕ → List ℕ → Type 0
-  Vouches links s w = (states : List ℕ) → 2 * p .count ≤ length states → (ends (inAll p) (upByLabel states) (head p) s w ≡ true) ↔ EveryUp links states
+  Vouches links s w = (states : List ℕ) → 2 * p .count ≤ length states
+      → (ends (inAll p) (upByLabel states) (head p) s w ≡ true) ↔ EveryUp links states
 
   -- the run over the round trail w from the place of switch s: its ring
   unfoldable pub roundRun : List ℕ → ℕ → List ℕ → End

@@ -19,7 +19,8 @@ abbrev pub upByLink : List ℕ → ℕ → Bool
 upByLink states = byLink (upBy states)
 
 module _ (p : Plant) where
-  -- with the rules of the forwarding table, and those that opposite arcs have of their own, there is one for each arc: probes go out and back under these
+  -- with the rules of the forwarding table, and those that opposite arcs have of their own, there is one for each arc: probes go out and
+  -- back under these
   unfoldable pub inAll : ℕ → ℕ → Bool
   inAll = rulesFor (λ a. live p (a / 2)) (tail p)
 

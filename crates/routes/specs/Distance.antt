@@ -1,5 +1,6 @@
--- Distance, hop and route over arcs in use: document 01, "A table holds the fewest hops over arcs in use between every two switches" and "each hop takes
--- the lowest label of an arc in use that lessens the distance left". Each definition computes; `Meaning` says what distance means in terms of walks.
+-- Distance, hop and route over arcs in use: document 01, "A table holds the fewest hops over arcs in use between every two switches" and
+-- "each hop takes the lowest label of an arc in use that lessens the distance left". Each definition computes; `Meaning` says what distance
+-- means in terms of walks.
 use mathlib.Core.Bool.{Bool, _&&_}
 use mathlib.Core.List.{List, [], _∷_, _++_, map}
 use Prim.Native.Nat.{ℕ, zero, suc}

@@ -1,7 +1,7 @@
--- The trail: document 01, "The trail begins at the start. While an arc in use is uncrossed, it goes to the nearest switch with an uncrossed outgoing arc in
--- use and crosses that arc; ties go to the lowest label of such an arc. On the way, each hop takes the lowest label of an arc in use that lessens the distance
--- left. At the end it returns to the start by the same hop rule." `route` in Distance is the way, hop by hop. In graph theory a trail repeats no edge; this
--- one may.
+-- The trail: document 01, "The trail begins at the start. While an arc in use is uncrossed, it goes to the nearest switch with an uncrossed
+-- outgoing arc in use and crosses that arc; ties go to the lowest label of such an arc. On the way, each hop takes the lowest label of an
+-- arc in use that lessens the distance left. At the end it returns to the start by the same hop rule." `route` in Distance is the way, hop
+-- by hop. In graph theory a trail repeats no edge; this one may.
 use mathlib.Core.Bool.{Bool, true, false, not, _&&_, _||_}
 use mathlib.Core.List.{List, [], _∷_, _++_}
 use Prim.Native.Nat.{ℕ, zero, suc}
@@ -37,14 +37,15 @@ module _ (S n : ℕ) (tl hd : ℕ → ℕ) (ok : ℕ → Bool) where
   unfoldable pub near : (ℕ → Bool) → ℕ → ℕ
   near m u = least S (λ k. some n (leavesAt m u k))
 
-  -- the lowest label of an uncrossed arc in use that leaves a switch at that distance; n if no arc in use is uncrossed. Where no walk reaches one, it is the
-  -- lowest label of all that are uncrossed: of the arcs in use from a root each is reached
+  -- the lowest label of an uncrossed arc in use that leaves a switch at that distance; n if no arc in use is uncrossed. Where no walk
+  -- reaches one, it is the lowest label of all that are uncrossed: of the arcs in use from a root each is reached
   unfoldable pub nearest : (ℕ → Bool) → ℕ → ℕ
   nearest m u = least n (leavesAt m u (near m u))
 
   module _ (start : ℕ) where
-    -- the trail from u on, where m tells the arcs crossed: while an arc in use is uncrossed, a leg to the nearest and over it; at the end the way to the start.
-    -- There are at most f such legs: each crosses an arc that was uncrossed, so that f is enough if no more arcs in use are uncrossed
+    -- the trail from u on, where m tells the arcs crossed: while an arc in use is uncrossed, a leg to the nearest and over it; at the end
+    -- the way to the start. There are at most f such legs: each crosses an arc that was uncrossed, so that f is enough if no more arcs in
+    -- use are uncrossed
     unfoldable pub legs : ℕ → (ℕ → Bool) → ℕ → List ℕ
     legs zero m u = route S n tl hd ok u start
     legs (suc f) m u =

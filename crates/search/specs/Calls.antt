@@ -1,6 +1,7 @@
--- A list of calls to a search, as document 01 tells it for demand 3: each call is handed the state that the last accepted outcome returned, at first the new search;
--- a call for a probe and a refused call leave that state as it is. The number of packets is the number of accepted outcomes, and the number of probes that of those
--- which settle their probe. What holds of outcomes is said of the sendings of the list: the accepted outcomes in their order, each with its probe. Assumes nothing.
+-- A list of calls to a search, as document 01 tells it for demand 3: each call is handed the state that the last accepted outcome returned,
+-- at first the new search; a call for a probe and a refused call leave that state as it is. The number of packets is the number of accepted
+-- outcomes, and the number of probes that of those which settle their probe. What holds of outcomes is said of the sendings of the list:
+-- the accepted outcomes in their order, each with its probe. Assumes nothing.
 use mathlib.Core.Path.{_≡_}
 use mathlib.Core.Logic.{_⊎_}
 use mathlib.Core.Bool.{Bool, _||_}
@@ -82,7 +83,8 @@ lossesOf m [] = 0
 lossesOf m (sent k Returned ∷ l) = lossesOf m l
 lossesOf m (sent k Lost ∷ l) = bit (eqb m k) + lossesOf m l
 
--- were three sendings in a row of probe m lost, where n in a row were lost just before the list? A sending that returned, or of another probe, ends a row
+-- were three sendings in a row of probe m lost, where n in a row were lost just before the list? A sending that returned, or of another
+-- probe, ends a row
 abbrev pub lostInRow : ℕ → ℕ → List Sending → Bool
 lostInRow m n [] = leb tries n
 lostInRow m n (sent k Returned ∷ l) = leb tries n || lostInRow m 0 l

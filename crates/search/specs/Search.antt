@@ -1,5 +1,5 @@
--- The search of document 01, with the sendings lost of document 02's order 4: its states, what each says and the probe that it wants, what an outcome does, refusals 14
--- and 15, and the calls. All that goes by the kind of a state stands here. Assumes nothing.
+-- The search of document 01, with the sendings lost of document 02's order 4: its states, what each says and the probe that it wants, what
+-- an outcome does, refusals 14 and 15, and the calls. All that goes by the kind of a state stands here. Assumes nothing.
 use mathlib.Core.Bool.{Bool, true, false, not, _&&_}
 use mathlib.Core.List.{[], _∷_}
 use Prim.Native.Nat.{ℕ, _+_, _/_}
@@ -85,7 +85,8 @@ lostSoFar (Halving low high lost) = lost
 lostSoFar AllUp = 0
 lostSoFar (Down place) = 0
 
--- does an outcome settle the probe that is wanted, so that it counts? It counts "as home at the first that returns", and as lost at the third loss in a row
+-- does an outcome settle the probe that is wanted, so that it counts? It counts "as home at the first that returns", and as lost at the
+-- third loss in a row
 abbrev pub settles : Search → Outcome → Bool
 settles s Returned = true
 settles s Lost = not (short (lostSoFar s + 1))

@@ -98,7 +98,13 @@ module _ (b : List ℕ) where
   -- ---- the counts in it
 
   unfoldable pub countsIn : Sheet
-  countsIn = record { switches = switchesIn; rules = columnOf switchesIn rulesOn; links = columnOf switchesIn linksOn; total = rulesOn switchesIn; quantity = linksOn switchesIn }
+  countsIn = record {
+    switches = switchesIn;
+    rules = columnOf switchesIn rulesOn;
+    links = columnOf switchesIn linksOn;
+    total = rulesOn switchesIn;
+    quantity = linksOn switchesIn;
+  }
 
   -- 18, "not of this form", or the counts
   unfoldable pub readingPage : Checked Sheet

@@ -67,7 +67,8 @@ trailLines ws = each trailLine ws
 
 -- of a plant: the first line, the rules, the trails
 unfoldable pub pageOf : ℕ → ℕ → ℕ → ℕ → ℕ → List (ℕ × ℕ × ℕ) → List (List ℕ) → List ℕ
-pageOf switches links bridges rules hops page trails = summaryLine switches links bridges rules hops ++ (ruleLines page ++ trailLines trails)
+pageOf switches links bridges rules hops page trails =
+    summaryLine switches links bridges rules hops ++ (ruleLines page ++ trailLines trails)
 
 -- of a refusal: its number
 abbrev pub refusalOf : ℕ → List ℕ

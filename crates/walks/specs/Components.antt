@@ -1,5 +1,5 @@
--- The components of a plant (document 02, order 9, calls them islands): what links in service join. Where each begins, in which order they stand, and the arcs in use over all of
--- them. Each definition computes.
+-- The components of a plant (document 02, order 9, calls them islands): what links in service join. Where each begins, in which order they
+-- stand, and the arcs in use over all of them. Each definition computes.
 use mathlib.Core.Bool.{Bool, not, _&&_}
 use mathlib.Core.List.{List, _∷_}
 use Prim.Native.Nat.{ℕ, _*_}
@@ -15,7 +15,8 @@ use Rattle.walks.specs.Arcs.{tail}
 use Rattle.walks.specs.Graph.{reachedFrom, usedFrom, linksFrom}
 
 module _ (p : Plant) where
-  -- the root of the component of x, the switch that it is begun at: the start, if x is reached from there, and else the lowest switch from which x is
+  -- the root of the component of x, the switch that it is begun at: the start, if x is reached from there, and else the lowest switch from
+  -- which x is
   unfoldable pub rootOf : ℕ → ℕ
   rootOf x = choose (reachedFrom p (p .start) x) (p .start) (least x (λ y. reachedFrom p y x))
 

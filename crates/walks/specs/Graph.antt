@@ -1,5 +1,5 @@
--- Document 01, "Bridges, arcs in use and the trail", as far as the arcs in use: what is joined, bridges, the depth-first visit, arcs in use and their number.
--- Each definition computes. `Tests` says what each means in terms of walks.
+-- Document 01, "Bridges, arcs in use and the trail", as far as the arcs in use: what is joined, bridges, the depth-first visit, arcs in use
+-- and their number. Each definition computes. `Tests` says what each means in terms of walks.
 use mathlib.Core.Logic.{_⊎_}
 use mathlib.Core.Bool.{Bool, not, _&&_, _||_}
 use mathlib.Core.List.{List, [], _∷_}
@@ -24,7 +24,8 @@ module _ (p : Plant) where
   abbrev pub To : (ℕ → Type 0) → ℕ → ℕ → Type 0
   To ok u v = Reach (tail p) (head p) ok v u
 
-  -- a closed walk: each arc leaves the switch that the one before it reached, and the first leaves the switch that the last reached. The empty list is one
+  -- a closed walk: each arc leaves the switch that the one before it reached, and the first leaves the switch that the last reached. The
+  -- empty list is one
   pub record ClosedWalk (w : List ℕ) : Type 0 where
     pub from : ℕ
     pub walk : Walk (tail p) (head p) w from from
@@ -92,10 +93,12 @@ module _ (p : Plant) where
     abbrev pub earlierFrom : ℕ → ℕ → Bool
     earlierFrom x y = ltb (rank x (visitedFrom .ord)) (rank y (visitedFrom .ord))
 
-    -- both arcs of a bridge; of an entered link that is no bridge the arc from earlier to later visited; of every other link the arc from later to earlier
+    -- both arcs of a bridge; of an entered link that is no bridge the arc from earlier to later visited; of every other link the arc from
+    -- later to earlier
     abbrev pub chosenFrom : ℕ → Bool
     chosenFrom a =
-        live p (a / 2) && (bridge (a / 2) || choose (enteredFrom (a / 2)) (earlierFrom (tail p a) (head p a)) (earlierFrom (head p a) (tail p a)))
+        live p (a / 2)
+        && (bridge (a / 2) || choose (enteredFrom (a / 2)) (earlierFrom (tail p a) (head p a)) (earlierFrom (head p a) (tail p a)))
 
     -- such an arc that leaves a reached switch: the arcs in use from r
     unfoldable pub usedFrom : ℕ → Bool
