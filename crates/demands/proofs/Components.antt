@@ -53,6 +53,7 @@ use Rattle.judging.specs.Conditions.{statesShort}
 use Rattle.judging.proofs.Lent.{trail-own}
 use Rattle.planner.specs.Calls.{parting}
 use Rattle.search.specs.Search.{newSearch}
+use Rattle.search.specs.Values.{IsAllUp}
 use Rattle.order.specs.declared.Span.{Span}
 use Rattle.order.specs.Span.{ringSpan, spanOf, shiftedBy}
 use Rattle.choosing.specs.Choice.{choiceOf}
@@ -63,7 +64,7 @@ use Rattle.probing.proofs.Injection.{trail-links, order-links, order-length, ro
 use Rattle.probing.proofs.NamedLinks.{naming-within}
 use Rattle.demands.specs.Demand2.{ComponentsAre}
 use Rattle.demands.specs.Order9.{NeverNine, Parted, Elsewhere, NoLinks, OneComponent}
-use Rattle.demands.proofs.Packets.{in-long, injection-is}
+use Rattle.demands.proofs.Packets.{in-long, no-ring}
 use Rattle.demands.proofs.Rounds.{taken-run}
 
 -- ---- the number 9
@@ -238,7 +239,11 @@ module _ (s : List ℕ) (b : Bytes s) (p : Plant) (g : answer (reading s) ≡ gi
     -- a component without links
     module _ (none : linksWith p x ≡ 0) where
       empty : ringOf p (trailWith p x) x ≡ []
-      empty = injection-is p ok x x-in .no-links none .0
+      empty = no-ring p ok x x-in none
+
+      up-at-once : IsAllUp (newSearch (linksWith p x))
+      unfolding newSearch
+      up-at-once = rw none refl
 
       -- its round trail has no hop either
       empty-round : ringOf p (roundWith p x) x ≡ []
@@ -251,7 +256,8 @@ module _ (s : List ℕ) (b : Bytes s) (p : Plant) (g : answer (reading s) ≡ gi
       pub no-links : NoLinks s p x
       unfolding beginning checking checkIn statesShort roundRun
       no-links = record {
-        all-up = (newSearch (linksWith p x), gives-so (planningAt s x) (λ q. newSearch (linksWith q x)) p (given-at s x p g x-in), injection-is p ok x x-in .no-links none .1);
+        ring = empty;
+        all-up = (newSearch (linksWith p x), gives-so (planningAt s x) (λ q. newSearch (linksWith q x)) p (given-at s x p g x-in), up-at-once);
         full-check = λ states h.
             goes-on (planningAt s x) (checkIn x (trailOf p) states) p (given-at s x p g x-in) ∙ rw (trail-own p, le-ltb (length states) (p .count) h, empty) (ap given (run-none (inTable p) (upByLink states) (head p) x 0));
         round-run = λ spare states h. taken-run s b p g x x-in spare states h ∙ rw empty-round (ap given (run-none (inAll p) (upByLabel states) (head p) x 0));

@@ -31,7 +31,6 @@ use Rattle.rings.proofs.Ring.{ring-empty}
 use Rattle.rings.proofs.Probe as probes
 use Rattle.rings.proofs.Rules.{all-rules}
 use Rattle.rings.proofs.Injection.{has-place, order-once, full-run}
-use Rattle.search.specs.Search.{newSearch}
 use Rattle.order.specs.Span.{shiftedBy}
 use Rattle.probing.specs.Calls.{outSpan}
 use Rattle.probing.proofs.OutwardLabels.{own-stands, own-from}
@@ -81,6 +80,10 @@ module _ (p : Plant) (ok : Sound p) (x : ℕ) (x-in : x < p .switches) where
       go [] f = refl
       go (a ∷ v) f = absurd (omega (arith, order-length p ok x x-in, e, in-long (a / 2) (orderOf p w x) (order-links p ok x x-in (a / 2) .1 (f a (inl refl)))))
 
+  pub no-ring : linksWith p x ≡ 0 → ringOf p w x ≡ []
+  unfolding ringOf
+  no-ring e = rw (nothing e) (ring-empty (tail p) x)
+
   has-hop : 1 ≤ linksWith p x → FirstHop (tail p) x w (placeOf p w x)
   has-hop h = has-place p w x (ring-at p ok x x-in) (omega (arith, order-length p ok x x-in))
 
@@ -94,7 +97,7 @@ module _ (p : Plant) (ok : Sound p) (x : ℕ) (x-in : x < p .switches) where
   span-within m = let s = own-stands p x m in record { stretch = (omega arith, omega (arith, s .stretch)); front = (omega arith, omega (arith, s .front)) }
 
   pub injection-is : InjectionIs p x
-  unfolding ringOf ring readFrom orderOf order outward newSearch
+  unfolding ringOf ring readFrom orderOf order outward
   injection-is = record {
     stretch = trails.stretch p ok x x-in;
     place = has-hop;
@@ -103,7 +106,6 @@ module _ (p : Plant) (ok : Sound p) (x : ℕ) (x-in : x < p .switches) where
     span-from = span-from;
     span-within = span-within;
     ring = refl;
-    no-links = λ e. (rw (nothing e) (ring-empty (tail p) x), rw e refl);
     order-each = order-links p ok x x-in;
     order-once = order-once p w x;
     order-rises = λ i j h k l. probes.order-rises (ringOf p w x) i j h k (omega (arith, order-length p ok x x-in));

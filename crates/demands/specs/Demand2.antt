@@ -5,7 +5,7 @@ use Rattle.demands.specs.Vocabulary.{maxSwitches, maxRules, maxHops, Sou
 use Rattle.demands.specs.Vocabulary.{linksWith, rootOf, roots, componentOf, linkWith, used, To, Bridge, bridge, liveLinks}
 use Rattle.demands.specs.Vocabulary.{visitedFrom, enteredFrom, earlierFrom, usedFrom, Fewest, distanceFrom, trailFrom, TrailByRule}
 use Rattle.demands.specs.Vocabulary.{nth, run, upTo, back, FirstHop, inAll, allRules, trailOf, trailWith, trailBegin, inTable}
-use Rattle.demands.specs.Vocabulary.{AreTrails, Span, newSearch, IsAllUp, rewriting, rereading, trailing, rewritten, laidOut}
+use Rattle.demands.specs.Vocabulary.{AreTrails, Span, rewriting, rereading, trailing, rewritten, laidOut}
 use Rattle.demands.specs.Vocabulary.{outSpan}
 use Rattle.demands.specs.Names.{ReadAs, ringAt, orderAt, placeAt, probeRunAt}
 
@@ -100,8 +100,6 @@ pub record InjectionIs (p : Plant) (x : ℕ) : Type 0 where
       → StandsIn (trailBegin p (componentOf p x)) (trailBegin p (componentOf p x) + length (trailWith p x)) (outSpan p x m)
   -- "the ring is read from there to the trail's end, then from its front"
   pub ring : ringAt p x ≡ drop (placeAt p x) (trailWith p x) ++ take (placeAt p x) (trailWith p x)
-  -- "an island without links has an empty ring and is All up"
-  pub no-links : linksWith p x ≡ 0 → (ringAt p x ≡ []) × IsAllUp (newSearch (linksWith p x))
   -- "the order of links is by first crossing from that place": each link of the component once, and the earlier in the order is the earlier
   -- crossed
   pub order-each : (l : ℕ) → In l (orderAt p x) ↔ T (linkWith p x l)

@@ -47,6 +47,7 @@ pub record Elsewhere (s : List ℕ) (p : Plant) (x l : ℕ) : Type 0 where
 
 -- a switch x whose component has no links: "an empty ring", "All up", and a full check that ends at once
 pub record NoLinks (s : List ℕ) (p : Plant) (x : ℕ) : Type 0 where
+  pub ring : ringAt p x ≡ []
   pub all-up : (q : Search) × (answer (beginning s x) ≡ given q) × IsAllUp q
   pub full-check : (states : List ℕ) → p .count ≤ length states
       → answer (checking s x (trailOf p) states) ≡ given (record { ended = true; hops = 0; last = x })
