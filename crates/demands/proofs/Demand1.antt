@@ -4,7 +4,10 @@ use mathlib.Core.Path.{_≡_, refl, sym, ap}
 use mathlib.Core.Bool.{true}
 use mathlib.Core.List.{List, [], _∷_, _++_, map, append-nil}
 use Prim.Native.Nat.{ℕ}
+use native.Mathlib.Omega.{arith}
 use Rattle.lists.specs.Members.{all}
+use Rattle.lists.proofs.Numbers.{in-range}
+use Rattle.listing.proofs.Refusing.{refusal-numbers}
 use Rattle.plant.specs.declared.Plant.{Plant}
 use Rattle.answers.specs.Answers.{refused}
 use Rattle.answers.specs.Checks.{Conditions, answer}
@@ -12,7 +15,7 @@ use Rattle.answers.proofs.Checks.{refused-exactly, left-kept}
 use Rattle.listing.specs.Listing.{reading}
 use Rattle.listing.specs.Writing.{writing}
 use Rattle.walks.specs.Components.{linksWith}
-use Rattle.listing.proofs.WriteRoundTrip.{buffer-refused}
+use Rattle.listing.proofs.WriteRoundTrip.{writer-numbers, buffer-refused}
 use Rattle.planning.specs.Planning.{switchOutOfRange, planningAt}
 use Rattle.quantity.specs.Quantity.{orderQuantity}
 use Rattle.search.specs.declared.Outcome.{Outcome}
@@ -31,12 +34,12 @@ use Rattle.desk.specs.Console.{setOutOfRange, replacing, starting, heldAt, held
 use Rattle.desk.specs.declared.Desk.{Desk}
 use Rattle.desk.specs.Desk.{withConsole, consoleOf}
 use Rattle.consoles.specs.Calls.{newSet, start, outcome, consoleOutOfRange, sizing, calling, serving, served}
-use Rattle.demands.specs.Tried.{isNumber}
+use Rattle.demands.specs.Tried.{isRefusal}
 use Rattle.demands.specs.Demand1.{ofHeld, Demand1}
 use Rattle.demands.specs.Untouched.{Untouched}
-use Rattle.demands.proofs.Tried.{tries, after, at, called, listed, written}
+use Rattle.demands.proofs.Tried.{tries, after, at, called}
 
-each-held : (p : Plant) (set : ℕ) (h : Held) → all isNumber (map (λ q. q .0) (ofHeld p set h)) ≡ true
+each-held : (p : Plant) (set : ℕ) (h : Held) → all isRefusal (map (λ q. q .0) (ofHeld p set h)) ≡ true
 each-held p set Nothing = refl
 each-held p set (From x q) = refl
 
@@ -53,13 +56,19 @@ unfolding sizing calling telling
 held-tried d s k o =
     ap (λ (cs : Conditions). (19, consoleOutOfRange k) ∷ reading s .checks ++ (20, setOutOfRange (reading s .result .switches) (consoleOf d k .set)) ∷ cs) (held-are (reading s .result) (consoleOf d k .set) (consoleOf d k .search))
 
+-- what is written and read again is refused as what is written is
+reread-refused : (p : Plant) (b : List ℕ) (n : ℕ) → answer (rereading p b) ≡ refused n → answer (writing p b) ≡ refused n
+unfolding rereading
+reread-refused p b n e =
+    refused-exactly (writing p b .checks) (writing p b .result) n .1 (refused-exactly (rereading p b .checks) (rereading p b .result) n .0 e)
+
 pub demand-1 : Demand1
 unfolding rewriting rereading summing bridging parting tabling counting laying trailing roundTrailing buying quoting pricing writingPage readingPage orderQuantity runIn running checkIn checking roundIn roundRunning choiceIn choosing orderIn ordering outwardIn outgoing probeIn probing nameIn naming beginning performing ask give replacing starting telling sizing calling planningAt switchOutOfRange
 demand-1 = record {
-  read = listed;
-  write = λ p b. written p b (writing p b) refl;
+  read = λ s n e. let r = refusal-numbers s n e in in-range n 1 8 (r .0) (omega (arith, r .1));
+  write = writer-numbers;
   rewrite = λ s b. after s _ (rewriting s b) refl (λ p. refl);
-  reread = λ p b. written p b (rereading p b) refl;
+  reread = λ p b n e. writer-numbers p b n (reread-refused p b n e);
   summarize = λ s. after s _ (summing s) (sym (append-nil (reading s .checks))) (λ p. refl);
   find-bridges = λ s. after s _ (bridging s) (sym (append-nil (reading s .checks))) (λ p. refl);
   find-components = λ s. after s _ (parting s) (sym (append-nil (reading s .checks))) (λ p. refl);
@@ -92,12 +101,6 @@ demand-1 = record {
   start-search = λ d s k x. called k s _ (serving d k s (start x)) refl (λ p. refl);
   give-outcome = λ d s k o. called k s _ (serving d k s (outcome o)) (held-tried d s k o) (λ p. each-held p _ (consoleOf d k .search));
 }
-
--- what is written and read again is refused as what is written is
-reread-refused : (p : Plant) (b : List ℕ) (n : ℕ) → answer (rereading p b) ≡ refused n → answer (writing p b) ≡ refused n
-unfolding rereading
-reread-refused p b n e =
-    refused-exactly (writing p b .checks) (writing p b .result) n .1 (refused-exactly (rereading p b .checks) (rereading p b .result) n .0 e)
 
 pub untouched : Untouched
 unfolding rewritten served laidOut trailing roundLaidOut roundTrailing

@@ -8,7 +8,7 @@ use Rattle.demands.specs.Vocabulary.{placesShort, rewriting, rereading, 
 use Rattle.demands.specs.Vocabulary.{roundTrailing, buying, running, checking, roundRunning, choosing, ordering, outgoing, probing}
 use Rattle.demands.specs.Vocabulary.{naming, beginning, performing, Desk, Held, Nothing, From, setOutOfRange, outsideSet, freshDesk}
 use Rattle.demands.specs.Vocabulary.{consoleOf, newSet, start, outcome, serving}
-use Rattle.demands.specs.Tried.{Tries, TriesListing, TriesConsole, TriesNumbers, ofListing, ofPlant}
+use Rattle.demands.specs.Tried.{Tries, TriesListing, TriesConsole, RefusedBy}
 
 -- what an outcome tries of the search that a console holds, with this set, in a plant: 15 if it has none
 abbrev pub ofHeld : Plant → ℕ → Held → Conditions
@@ -19,10 +19,10 @@ ofHeld p set (From x q) =
 -- A field for each call, as in docs/CALLS.md: the conditions that it tries, each with its number, in their order.
 pub record Demand1 : Type 0 where
   -- calls that are given a listing s or a plant p, and lent a buffer b
-  pub read : (s : List ℕ) → TriesNumbers (ofListing s) (reading s)
-  pub write : (p : Plant) (b : List ℕ) → TriesNumbers (ofPlant p) (writing p b)
+  pub read : (s : List ℕ) → RefusedBy (1 ∷ 2 ∷ 3 ∷ 4 ∷ 5 ∷ 6 ∷ 7 ∷ 8 ∷ []) (answer (reading s))
+  pub write : (p : Plant) (b : List ℕ) → RefusedBy (5 ∷ 6 ∷ 7 ∷ 16 ∷ []) (answer (writing p b))
   pub rewrite : (s b : List ℕ) → TriesListing s (λ p. (16, bufferShort s b) ∷ []) (answer (rewriting s b))
-  pub reread : (p : Plant) (b : List ℕ) → TriesNumbers (ofPlant p) (rereading p b)
+  pub reread : (p : Plant) (b : List ℕ) → RefusedBy (5 ∷ 6 ∷ 7 ∷ 16 ∷ []) (answer (rereading p b))
   pub summarize : (s : List ℕ) → TriesListing s (λ p. []) (answer (summing s))
   pub find-bridges : (s : List ℕ) → TriesListing s (λ p. []) (answer (bridging s))
   pub find-components : (s : List ℕ) → TriesListing s (λ p. []) (answer (parting s))

@@ -5,8 +5,7 @@ use Rattle.demands.specs.Vocabulary.{maxSwitches, maxRules, maxHops, Sou
 use Rattle.demands.specs.Vocabulary.{linksWith, rootOf, roots, componentOf, linkWith, used, To, Bridge, bridge, liveLinks}
 use Rattle.demands.specs.Vocabulary.{visitedFrom, enteredFrom, earlierFrom, usedFrom, Fewest, distanceFrom, trailFrom, TrailByRule}
 use Rattle.demands.specs.Vocabulary.{nth, run, upTo, back, FirstHop, inAll, allRules, trailOf, trailWith, trailBegin, inTable}
-use Rattle.demands.specs.Vocabulary.{AreTrails, Span, rewriting, rereading, trailing, rewritten, laidOut}
-use Rattle.demands.specs.Vocabulary.{outSpan}
+use Rattle.demands.specs.Vocabulary.{AreTrails, Span, rewriting, rereading, trailing, rewritten, laidOut, outSpan}
 use Rattle.demands.specs.Names.{ReadAs, ringAt, orderAt, placeAt, probeRunAt}
 
 -- the components of a plant: what is joined over links in service, and in which order they are planned (document 02, order 9)

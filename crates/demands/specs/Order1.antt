@@ -1,7 +1,7 @@
 -- Document 02, order 1: where the packet got to.
-use Rattle.demands.specs.Vocabulary.{_≡_, _⊎_, _↔_, true, false, Bool, List, ℕ, _≤_, _<_, _*_, _/_, length, getD, take, given}
-use Rattle.demands.specs.Vocabulary.{answer, Plant, head, linksWith, used, FirstDown, probeRules, nth, End, run, leadsTo, back, inAll}
-use Rattle.demands.specs.Vocabulary.{upBy, upByLink, inTable, Search, wanted, outcomeOf, running, checking, probing, outLabels}
+use Rattle.demands.specs.Vocabulary.{_≡_, _⊎_, _↔_, true, false, Bool, List, ℕ, _≤_, _<_, _*_, _/_, length, getD, take, given, answer}
+use Rattle.demands.specs.Vocabulary.{Plant, head, linksWith, used, FirstDown, probeRules, nth, End, run, leadsTo, back, inAll, upBy}
+use Rattle.demands.specs.Vocabulary.{upByLink, inTable, Search, wanted, outcomeOf, running, checking, probing, outLabels}
 use Rattle.demands.specs.Vocabulary.{actualOutcome}
 use Rattle.demands.specs.Names.{ringAt, orderAt, probeAt, probeRunAt}
 

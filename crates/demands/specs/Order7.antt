@@ -1,6 +1,6 @@
 -- Document 02, order 7: links laid up, here out of service.
-use Rattle.demands.specs.Vocabulary.{_≡_, _↔_, true, false, Bool, List, [], _∷_, _++_, ℕ, _≤_, _<_, _+_, _*_, _/_, T, ltb, length}
-use Rattle.demands.specs.Vocabulary.{In, given, refused, _>>=_, answer, check, _then_, Link, Plant, live, marked, outOfService, part}
+use Rattle.demands.specs.Vocabulary.{_≡_, _↔_, true, false, Bool, List, [], _∷_, _++_, ℕ, _≤_, _<_, _+_, _*_, _/_, T, ltb, length, In}
+use Rattle.demands.specs.Vocabulary.{given, refused, _>>=_, answer, check, _then_, Link, Plant, live, marked, outOfService, part}
 use Rattle.demands.specs.Vocabulary.{partBytes, writing, linkWith, bridge, liveLinks, Crosses, ClosedWalk, upByLabel, linkBytes}
 use Rattle.demands.specs.Vocabulary.{inAll, upBy, trailOf, roundOf, inTable, Search, running, checking, roundRunning, probing, Says}
 use Rattle.listing.specs.Listing as listing

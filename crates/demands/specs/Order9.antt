@@ -4,8 +4,8 @@ use Rattle.demands.specs.Vocabulary.{Refusal, given, numberOf, answer, P
 use Rattle.demands.specs.Vocabulary.{linkWith, used, arcsUsed, liveLinks, usedFrom, Crosses, bridges, switchesFrom, linksFrom}
 use Rattle.demands.specs.Vocabulary.{bridgesFrom, arcsUsedFrom, roundFrom, trailFrom, rulesIn, tableIn, trailOf, roundOf, trailWith}
 use Rattle.demands.specs.Vocabulary.{trailBegin, roundWith, tableOf, roundBegin, zeroComponent, componentsOf, ringSpan, spanOf}
-use Rattle.demands.specs.Vocabulary.{choiceOf, Search, IsAllUp, summaryLine, ruleLines, trailLine, triple, printed, parting}
-use Rattle.demands.specs.Vocabulary.{checking, roundRunning, naming, beginning, outSpan, link, choiceAt}
+use Rattle.demands.specs.Vocabulary.{choiceOf, Search, IsAllUp, summaryLine, ruleLines, trailLine, triple, printed, parting, checking}
+use Rattle.demands.specs.Vocabulary.{roundRunning, naming, beginning, outSpan, link, choiceAt}
 use Rattle.demands.specs.Names.{ringAt, orderAt, roundRingAt}
 
 -- "9 never occurs": no refusal has its number, so that no call can answer it
