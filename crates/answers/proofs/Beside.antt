@@ -3,8 +3,10 @@ use mathlib.Core.Path.{_≡_, refl, sym, ap, _∙_}
 use Rattle.answers.specs.declared.Refusal.{Refusal}
 use Rattle.answers.specs.declared.Verdict.{Verdict}
 use Rattle.answers.specs.declared.Verdict.the-variants as verdict
-use Rattle.answers.specs.Answers.{Answer, given, refused, _>>=_, numberOf, verdictAnswer, valueOr, Beside}
-use Rattle.answers.specs.Checks.{Judges, Checked, answer, _then_, _giving_}
+use Rattle.answers.specs.Answers.{Answer, given, refused, _>>=_, numberOf}
+use Rattle.answers.specs.Verdicts.{verdictAnswer, valueOr, Beside}
+use Rattle.answers.specs.Checks.{Checked, answer, _then_, _giving_}
+use Rattle.answers.specs.Verdicts.{Judges}
 use Rattle.answers.proofs.Checks.{refused-exactly, given-exactly, goes-on, stops, gives-so, refuses-so}
 
 module _ {A : Type 0} (none : A) (a : Answer A) (v : Verdict) (x : A) where

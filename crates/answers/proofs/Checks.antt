@@ -6,8 +6,10 @@ use mathlib.Core.Bool.{Bool, true, false}
 use mathlib.Core.List.{List, [], _∷_, _++_}
 use Prim.Native.Nat.{ℕ}
 use native.Mathlib.Omega.{arith}
-use Rattle.answers.specs.Answers.{Answer, given, refused, refuse, _>>=_, numberOf, verdictAnswer, firstOf}
-use Rattle.answers.specs.Checks.{Conditions, NoneHolds, FirstHolds, trying, Judges, Checked, answer, _then_, _giving_, leaves}
+use Rattle.answers.specs.Answers.{Answer, given, refused, refuse, _>>=_, numberOf}
+use Rattle.answers.specs.Verdicts.{verdictAnswer, firstOf}
+use Rattle.answers.specs.Checks.{Conditions, NoneHolds, FirstHolds, trying, Checked, answer, _then_, _giving_, leaves}
+use Rattle.answers.specs.Verdicts.{Judges}
 use Rattle.answers.specs.declared.Refusal.{Refusal}
 use Rattle.answers.specs.declared.Verdict.{Verdict}
 use Rattle.answers.specs.declared.Verdict.the-variants as verdict

@@ -1,14 +1,11 @@
 -- The numbers of the refusals, and what a call answers: its result or the number of a refusal (document 01, "Refusals in checking order").
 -- Assumes nothing.
-use mathlib.Core.Path.{_≡_}
-use Prim.Native.Nat.{ℕ}
 use mathlib.Core.Bool.{Bool, true, false}
+use Prim.Native.Nat.{ℕ}
 use Rattle.answers.specs.declared.Refusal.{Refusal}
 use Rattle.answers.specs.declared.Refusal.the-variants as is
-use Rattle.answers.specs.declared.Verdict.{Verdict}
-use Rattle.answers.specs.declared.Verdict.the-variants as verdict
 
--- with document 02's order 9 the number 9 stays unused
+-- no refusal has the number 9 (document 02, order 9)
 abbrev pub numberOf : Refusal → ℕ
 numberOf is.MapMissing = 1
 numberOf is.MapUndefined = 2
@@ -46,24 +43,3 @@ infixl 1 _>>=_
 abbrev pub _>>=_ : {A B : Type 0} → Answer A → (A → Answer B) → Answer B
 given a >>= f = f a
 refused n >>= f = refused n
-
--- ---- an answer beside a value, since an enum of the code holds no array
-
-abbrev pub verdictAnswer : Verdict → Answer Unit
-verdictAnswer verdict.Accepted = given tt
-verdictAnswer (verdict.Refused k) = refused (numberOf k)
-
--- the first of two verdicts that refuses
-abbrev pub firstOf : Verdict → Verdict → Verdict
-firstOf verdict.Accepted w = w
-firstOf (verdict.Refused k) w = verdict.Refused k
-
--- the value that stands beside an answer: its result, and `none` at a refusal
-abbrev pub valueOr : {A : Type 0} → A → Answer A → A
-valueOr none (given a) = a
-valueOr none (refused n) = none
-
--- verdict v and the value x beside it are the answer a
-pub record Beside {A : Type 0} (none : A) (a : Answer A) (v : Verdict) (x : A) : Type 0 where
-  pub answer : (verdictAnswer v >>= λ _. given x) ≡ a
-  pub value : x ≡ valueOr none a

@@ -4,8 +4,7 @@ use mathlib.Core.Path.{_≡_}
 use mathlib.Core.Bool.{Bool, true, false}
 use mathlib.Core.List.{List, [], _∷_, _++_}
 use Prim.Native.Nat.{ℕ}
-use Rattle.answers.specs.Answers.{Answer, given, refused, refuse, verdictAnswer}
-use Rattle.answers.specs.declared.Verdict.{Verdict}
+use Rattle.answers.specs.Answers.{Answer, given, refused, refuse}
 
 -- each with its number
 abbrev pub Conditions : Type 0
@@ -27,10 +26,6 @@ pub record FirstHolds (n : ℕ) (cs : Conditions) : Type 0 where
 abbrev pub trying : {A : Type 0} → Conditions → Answer A → Answer A
 trying [] a = a
 trying (c ∷ cs) a = refuse (c .0) (c .1) (trying cs a)
-
--- the verdict v is that of these conditions
-pub record Judges (cs : Conditions) (v : Verdict) : Type 0 where
-  pub first : verdictAnswer v ≡ trying cs (given tt)
 
 -- ---- a call
 

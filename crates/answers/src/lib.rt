@@ -2,8 +2,9 @@
 ghost use mathlib.Core.Path.{_≡_};
 ghost use mathlib.Core.List.{_∷_, []};
 ghost use lib.Dec.{ltb};
-ghost use Rattle.answers.specs.Answers.{numberOf, firstOf};
-ghost use Rattle.answers.specs.Checks.{Judges};
+ghost use Rattle.answers.specs.Answers.{numberOf};
+ghost use Rattle.answers.specs.Verdicts.{firstOf};
+ghost use Rattle.answers.specs.Verdicts.{Judges};
 
 // The refusals, in the order of their numbers, 1 to 21. Each is named after its condition. The number 9 is unused: no call refuses a plant in several components.
 pub enum Refusal {

@@ -46,7 +46,7 @@ use Rattle.answers.specs.Checks.{answer}
 use Rattle.desk.specs.declared.Desk.{Desk}
 use Rattle.desk.specs.declared.Shown.{Shown}
 use Rattle.desk.specs.declared.Served.{Served}
-use Rattle.desk.specs.Desk.{Serves}
+use Rattle.desk.specs.Answers.{Serves}
 use Rattle.desk.proofs.Desk as D
 use Rattle.desk.proofs.Desk.Laws as D′
 use Rattle.desk.proofs.Served as S

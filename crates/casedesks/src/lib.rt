@@ -11,7 +11,7 @@ use desk::Shown;
 use search::Outcome;
 use search::Search;
 ghost use Rattle.answers.specs.Checks.{answer};
-ghost use Rattle.desk.specs.Desk.{Serves};
+ghost use Rattle.desk.specs.Answers.{Serves};
 ghost use Rattle.consoles.specs.Calls.{newSet, start, outcome, serving};
 
 // ---- the calls, each lent a desk that is handed over by value and back

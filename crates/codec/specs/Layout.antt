@@ -5,7 +5,8 @@ use Prim.Native.Nat.{ℕ, _+_, _≤_}
 use lib.ListN.{length, take, drop, replicate}
 use Rattle.lists.specs.Members.{Each}
 use Rattle.answers.specs.declared.Refusal.{Refusal}
-use Rattle.answers.specs.Answers.{Answer, refused, numberOf, Beside}
+use Rattle.answers.specs.Answers.{Answer, refused, numberOf}
+use Rattle.answers.specs.Verdicts.{Beside}
 use Rattle.answers.specs.Checks.{answer}
 use Rattle.codec.specs.declared.Field.{Field}
 use Rattle.codec.specs.declared.Layout.{Layout}

@@ -12,10 +12,12 @@ use Rattle.desk.specs.declared.Desk.{Desk}
 use Rattle.desk.specs.declared.Shown.{Shown}
 use Rattle.desk.specs.declared.Served.{Served}
 use Rattle.desk.specs.Console.{heldAt}
-use Rattle.desk.specs.Desk.{consoleOf, shownAnswer, Serves}
+use Rattle.desk.specs.Desk.{consoleOf}
+use Rattle.desk.specs.Answers.{shownAnswer, Serves}
 use Rattle.consoles.specs.declared.Sized.{Sized}
 use Rattle.consoles.specs.declared.Sized.the-variants as sized
-use Rattle.consoles.specs.Calls.{sizing, Request, outcome, switchOf, asking, calling, serving, sizedAnswer}
+use Rattle.consoles.specs.Calls.{sizing, Request, outcome, switchOf, asking, calling, serving}
+use Rattle.consoles.specs.Answers.{sizedAnswer}
 
 -- what the listing comes to for the switch x of a console's search is what it comes to for an outcome
 pub at-search : (d : Desk) (k : ℕ) (s : List ℕ) (o : Outcome) (z : Sized) (c : Console) → c ≡ consoleOf d k → (x : ℕ) → x ≡ heldAt (c .search)

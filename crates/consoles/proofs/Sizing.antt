@@ -4,8 +4,10 @@ use mathlib.Core.Path.{_≡_, sym, ap, _∙_, subst}
 use mathlib.Core.List.{List, [], _∷_}
 use Prim.Native.Nat.{ℕ}
 use Rattle.plant.specs.declared.Plant.{Plant}
-use Rattle.answers.specs.Answers.{given, refused, numberOf, verdictAnswer, firstOf, Beside}
-use Rattle.answers.specs.Checks.{Conditions, answer, Judges}
+use Rattle.answers.specs.Answers.{given, refused, numberOf}
+use Rattle.answers.specs.Verdicts.{verdictAnswer, firstOf, Beside}
+use Rattle.answers.specs.Checks.{Conditions, answer}
+use Rattle.answers.specs.Verdicts.{Judges}
 use Rattle.answers.specs.declared.Refusal.{Refusal}
 use Rattle.answers.specs.declared.Verdict.{Verdict}
 use Rattle.answers.specs.declared.Verdict.the-variants as verdict

@@ -4,7 +4,6 @@ use mathlib.Core.Bool.{Bool}
 use mathlib.Core.List.{List, [], _∷_}
 use Prim.Native.Nat.{ℕ}
 use lib.Dec.{ltb}
-use Rattle.answers.specs.Answers.{Answer, given, refused, numberOf}
 use Rattle.answers.specs.Checks.{Checked, check, answer, _then_, _giving_}
 use Rattle.listing.specs.Listing.{reading}
 use Rattle.walks.specs.Components.{linksWith}
@@ -13,8 +12,6 @@ use Rattle.desk.specs.declared.Console.{Console}
 use Rattle.desk.specs.declared.Desk.{Desk}
 use Rattle.desk.specs.Console.{heldAt, replacing, starting, telling}
 use Rattle.desk.specs.Desk.{consoleOf, deskAfter}
-use Rattle.consoles.specs.declared.Sized.{Sized}
-use Rattle.consoles.specs.declared.Sized.the-variants as sized
 
 -- 19: "console above 3, tried before every listing refusal"
 unfoldable pub consoleOutOfRange : ℕ → Bool
@@ -53,8 +50,3 @@ serving d k s r = calling k s r (consoleOf d k)
 -- and the desk after it
 unfoldable pub served : Desk → ℕ → List ℕ → Request → Desk
 served d k s r = deskAfter d k (answer (serving d k s r))
-
--- what the code's answer says
-abbrev pub sizedAnswer : Sized → Answer (ℕ × ℕ)
-sizedAnswer (sized.Of s e) = given (s, e)
-sizedAnswer (sized.Refused k) = refused (numberOf k)

@@ -8,8 +8,10 @@ use desk::Shown;
 use search::Outcome;
 ghost use mathlib.Core.Path.{_≡_};
 ghost use Rattle.answers.specs.Checks.{answer};
-ghost use Rattle.desk.specs.Desk.{freshDesk, shownAnswer, Serves};
-ghost use Rattle.consoles.specs.Calls.{sizedAnswer, sizing, newSet, start, outcome, serving, served};
+ghost use Rattle.desk.specs.Desk.{freshDesk};
+ghost use Rattle.desk.specs.Answers.{shownAnswer, Serves};
+ghost use Rattle.consoles.specs.Calls.{sizing, newSet, start, outcome, serving, served};
+ghost use Rattle.consoles.specs.Answers.{sizedAnswer};
 
 // How many consoles a desk has.
 const CONSOLES: u8 = 4;

@@ -151,9 +151,9 @@ sixteen : (s b : List ℕ) → (bufferShort s b ≡ true) ↔ (length b < length
 unfolding bufferShort
 sixteen s b = less (length b) (length s)
 
-seventeen : (spare : ℕ) → (spareAbove spare ≡ true) ↔ (maxSpare < spare)
+seventeen : (spare : ℕ) → (spareAbove spare ≡ true) ↔ (100 < spare)
 unfolding spareAbove
-seventeen spare = less maxSpare spare
+seventeen spare = less 100 spare
 
 eighteen-read : (b : List ℕ) → (formed b ≡ false) ↔ ((c : Sheet) × Shown c × (buyingPage c ≡ b) → ⊥)
 eighteen-read b = (
@@ -202,7 +202,6 @@ conditions-are = record {
   eight = bytes-remain;
   ten = ten;
   eleven = eleven;
-  eleven-console = eleven-console;
   twelve = twelve;
   twelve-hops = twelve-hops;
   thirteen = thirteen;

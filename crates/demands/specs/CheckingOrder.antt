@@ -31,7 +31,7 @@ lastOr before [] = before
 lastOr before (l ∷ ls) = lastOr l ls
 
 pub record CheckingOrder : Type 0 where
-  -- ---- a part: what it is tried against, by number, and the lowest first
+  -- ---- a part: what it is tried against, by number (read aloud), and the lowest first
 
   pub header-tries : (s : List ℕ) → header s .checks ≡ partChecks headerFields s ++ (5, headerOutOfRange (fieldValues headerFields s)) ∷ []
   pub header-lowest : (s : List ℕ) → LowestFirst (header s)
@@ -46,6 +46,7 @@ pub record CheckingOrder : Type 0 where
       ≡ (answer (header s) >>= λ h. answer (links (h .0 .switches) (h .0 .count) zeroLink (h .1))
       >>= λ l. refuse 8 (bytesRemain (l .1)) (given (withLinks (h .0) (l .0))))
   -- record by record: all that concerns one, its ends included, before the next
+  -- (the first is read aloud)
   pub no-records : (switches : ℕ) (before : Link) (s : List ℕ) → answer (links switches 0 before s) ≡ given ([], s)
   pub records : (switches n : ℕ) (before : Link) (s : List ℕ) → answer (links switches (suc n) before s)
       ≡ (answer (link switches before s) >>= λ r. answer (links switches n (r .0) (r .1)) >>= λ q. given (r .0 ∷ q .0, q .1))
@@ -61,6 +62,7 @@ pub record CheckingOrder : Type 0 where
   pub writer : (p : Plant) (b : List ℕ) → answer (writing p b)
       ≡ refuse 5 (plantOutOfRange p)
       (answer (soundLinks (p .switches) (linksOf p)) >>= λ _. refuse 16 (bufferShort (encode p) b) (given (length (encode p))))
+  -- (the first and the third are read aloud)
   pub no-ends : (switches : ℕ) → answer (soundLinks switches []) ≡ given tt
   pub ends : (switches : ℕ) (l : Link) (ls : List Link)
       → answer (soundLinks switches (l ∷ ls)) ≡ (answer (soundLink switches l) >>= λ _. answer (soundLinks switches ls))

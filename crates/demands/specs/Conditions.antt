@@ -1,11 +1,12 @@
 -- What the condition of each refusal says, in the papers' words ("Refusals in checking order" of document 01; document 02). Which of them a
--- call tries, and in which order, is in its field of `Demand1`.
+-- call tries, and in which order, is in its field of `Demand1`. A condition that is a plain test is the test read aloud: 1, 5 to 8, 10, 11,
+-- 13, 16, 17, 18 in writing, 19 and 21.
 use Rattle.demands.specs.Vocabulary.{_≡_, _⊎_, _↔_, true, false, List, [], _∷_, _++_, ℕ, _≤_, _<_, _+_, _*_, length, drop, Each, Link}
 use Rattle.demands.specs.Vocabulary.{Plant, zeroLink, maxSwitches, maxLinks, Field, bitAt, SomeGiven, EndsBefore, HoldsAbsent}
 use Rattle.demands.specs.Vocabulary.{mapMissing, mapUndefined, fieldMissing, fieldRedundant, mapByte, endOutOfRange, selfLink}
-use Rattle.demands.specs.Vocabulary.{bytesRemain, valueOutOfRange, plantOutOfRange, bufferShort, trailOf, switchOutOfRange, maxSpare}
+use Rattle.demands.specs.Vocabulary.{bytesRemain, valueOutOfRange, plantOutOfRange, bufferShort, trailOf, switchOutOfRange}
 use Rattle.demands.specs.Vocabulary.{spareAbove, Search, sound, ended, Good, IsAllUp, IsDown, trailDiffers, hopsDiffer, statesShort}
-use Rattle.demands.specs.Vocabulary.{searchUnsound, Sheet, formed, buyingPage, pageShort, Shown, placesShort, setOutOfRange, notBelow}
+use Rattle.demands.specs.Vocabulary.{searchUnsound, Sheet, formed, buyingPage, pageShort, Shown, placesShort, setOutOfRange}
 use Rattle.demands.specs.Vocabulary.{outsideSet, consoleOutOfRange}
 
 pub record ConditionsAre : Type 0 where
@@ -29,24 +30,24 @@ pub record ConditionsAre : Type 0 where
   pub eight : (s : List ℕ) → (bytesRemain s ≡ true) ↔ (s ≡ [] → ⊥)
   -- 10: a lent buffer b has fewer places than the trail w has hops
   pub ten : (w b : List ℕ) → (placesShort w b ≡ true) ↔ (length b < length w)
-  -- 11: a named switch is not below S; so it is in the calls of a console, which go by S alone
+  -- 11: a named switch is not below S
   pub eleven : (p : Plant) (x : ℕ) → (switchOutOfRange p x ≡ true) ↔ (p .switches ≤ x)
-  pub eleven-console : (p : Plant) (x : ℕ) → notBelow (p .switches) x ≡ switchOutOfRange p x
   -- 12: the lent trail is not the listing's trails; in the calls of order 6, it does not begin with the hops w, whatever comes after them
   pub twelve : (p : Plant) (lent : List ℕ) → (trailDiffers p lent ≡ true) ↔ (lent ≡ trailOf p → ⊥)
   pub twelve-hops : (w lent : List ℕ) → (hopsDiffer w lent ≡ true) ↔ ((spare : List ℕ) × (lent ≡ w ++ spare) → ⊥)
   -- 13: there are fewer state bytes than e, the links of the listing or in the round run its labels
   pub thirteen : (e : ℕ) (states : List ℕ) → (statesShort e states ≡ true) ↔ (length states < e)
-  -- 14: the state is unsound, or unsound for a listing with e links; in a call without a listing, it is sound for no number of links that a
-  -- plant can have
+  -- 14: "a Checking count or Down place is not in 1 to 256, or Halving lacks 1 ≤ low < high ≤ 256; in a call with a listing, also a count
+  -- that is not E, or a high or place above E", and the sendings lost are not "0 to 2" (order 4): `Good e` is the contrary, case by case,
+  -- for e links; in a call without a listing, for no number of links that a plant can have
   pub fourteen : (e : ℕ) (q : Search) → e ≤ maxLinks → (searchUnsound e q ≡ true) ↔ (Good e q → ⊥)
   pub fourteen-alone : (q : Search) → (sound q ≡ false) ↔ ((e : ℕ) × (e ≤ maxLinks) × Good e q → ⊥)
-  -- 15: a probe is asked of All up or Down
+  -- 15: "a fate is given to, or a probe is wanted of, All up or Down"
   pub fifteen : (q : Search) → (ended q ≡ true) ↔ (IsAllUp q ⊎ ((k : ℕ) × IsDown k q))
   -- 16: a lent buffer b is shorter than the listing s
   pub sixteen : (s b : List ℕ) → (bufferShort s b ≡ true) ↔ (length b < length s)
   -- 17: the spare is above 100
-  pub seventeen : (spare : ℕ) → (spareAbove spare ≡ true) ↔ (maxSpare < spare)
+  pub seventeen : (spare : ℕ) → (spareAbove spare ≡ true) ↔ (100 < spare)
   -- 18, in writing: the lent page b is too short for S + 1 lines of 32 bytes; in reading: b is the page of no counts that a page can hold
   pub eighteen-written : (switches : ℕ) (b : List ℕ) → (pageShort switches b ≡ true) ↔ (length b < 32 * (switches + 1))
   pub eighteen-read : (b : List ℕ) → (formed b ≡ false) ↔ ((c : Sheet) × Shown c × (buyingPage c ≡ b) → ⊥)

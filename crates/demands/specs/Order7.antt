@@ -24,7 +24,7 @@ pub record Marks : Type 0 where
       then λ _. check [] (marked false (listing.linkFrom (r .0)), r .1))
   pub plain-written : (before l : Link) → l .«out_of_service» ≡ false
       → listing.linkBytes before l ≡ partBytes (listing.plainFields before) (l .first ∷ l .second ∷ l .tag ∷ [])
-  -- the record after a marked one takes its ends from it, as from any other
+  -- the record after a marked one takes its ends from it, as from any other (read aloud)
   pub next : (switches : ℕ) (mark : Bool) (before : Link) (s : List ℕ)
       → listing.link switches (marked mark before) s ≡ listing.link switches before s
   -- "in a link's map refusal 2 now covers bits 4 to 7"; a header has no bit 3
@@ -36,7 +36,7 @@ pub record Marks : Type 0 where
 
 -- for every plant p that a listing is read as, and a link l of it that is marked
 pub record OutOfService (p : Plant) (l : ℕ) : Type 0 where
-  -- "it joins nothing", so that it is no bridge, whatever its ends are
+  -- "it joins nothing", so that it is no bridge, whatever its ends are (read aloud)
   pub no-bridge : bridge p l ≡ false
   -- "no trail, closed walk or rule crosses it", nor does a round trail or a probe
   pub no-trail : Crosses l (trailOf p) → ⊥
@@ -44,7 +44,7 @@ pub record OutOfService (p : Plant) (l : ℕ) : Type 0 where
   pub no-closed-walk : (w : List ℕ) → ClosedWalk p w → Crosses l w → ⊥
   pub no-probe : (x : ℕ) → x < p .switches → (m : ℕ) → Crosses l (probeAt p x m) → ⊥
   pub no-rule : (a at : ℕ) → a / 2 ≡ l → (In a (ruleLabels p) → ⊥) × (inTable p at a ≡ false) × (inAll p at a ≡ false)
-  -- it is a link of no component: so it is in no order of links and no search names it, by `Elsewhere` of order 9
+  -- it is a link of no component: so it is in no order of links and no search names it, by `Elsewhere` of order 9 (read aloud)
   pub no-component : (x : ℕ) → T (linkWith p x l) → ⊥
 
 -- two lists of state bytes, one for each link number in both, that tell the same of these links: those of the others may differ

@@ -8,11 +8,12 @@ use Rattle.demands.specs.Vocabulary.{choiceOf, Search, IsAllUp, summaryL
 use Rattle.demands.specs.Vocabulary.{roundRunning, naming, beginning, outSpan, link, choiceAt}
 use Rattle.demands.specs.Names.{ringAt, orderAt, roundRingAt}
 
--- "9 never occurs": no refusal has its number, so that no call can answer it
+-- "9 never occurs": no refusal has its number, so that no call can answer it (read aloud)
 abbrev pub NeverNine : Type 0
 NeverNine = (k : Refusal) → numberOf k ≡ 9 → ⊥
 
--- for every listing s that is read as a plant p: its components as a call answers them
+-- for every listing s that is read as a plant p: its components as a call answers them; `answers`, `number`, `each` and `zeros` are its
+-- definition read aloud
 pub record Parted (s : List ℕ) (p : Plant) : Type 0 where
   pub answers : answer (parting s) ≡ given (componentsOf p)
   -- how many, and for each its root, where its trail begins among the trails of all and its hops, and the same of its round trail; the

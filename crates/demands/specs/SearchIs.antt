@@ -1,6 +1,6 @@
 -- Document 01's section "Search", with the sendings lost of document 02's order 4, in the values of states and outcomes
 -- (search/specs/Values): of what the calls answer on every sound state that has not ended. An ended one is refused (15 of `ConditionsAre`),
--- and so is an unsound one (14).
+-- and so is an unsound one (14). All but `between` and that values tell states apart is the definition of the calls read aloud.
 use Rattle.demands.specs.Vocabulary.{_≡_, ℕ, _≤_, _<_, _+_, _/_, given, _>>=_, Answer, answer, maxLinks, Outcome, Search, ask, give}
 use Rattle.demands.specs.Vocabulary.{newSearch, IsReturned, IsLost, Values, valuesOf, halving, allUp, down, outcomeNumber}
 use Rattle.search.specs.Values.{checking}

@@ -1,4 +1,4 @@
--- Demand 1: a refusal changes no lent buffer, and no lent desk.
+-- Demand 1: a refusal changes no lent buffer, and no lent desk. Each field is the definition of what is left read aloud.
 use Rattle.demands.specs.Vocabulary.{_≡_, List, ℕ, refused, Answer, answer, Plant, writing, bufferAfter, Outcome, rewriting}
 use Rattle.demands.specs.Vocabulary.{rereading, trailing, roundTrailing, buying, rewritten, laidOut, boughtOut, roundLaidOut, Desk}
 use Rattle.demands.specs.Vocabulary.{newSet, start, outcome, serving, served}

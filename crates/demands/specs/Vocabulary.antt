@@ -5,7 +5,7 @@ pub use mathlib.Core.Path.{_≡_}
 pub use mathlib.Core.Logic.{_⊎_, _↔_}
 pub use mathlib.Core.Bool.{true, false, not, Bool, _&&_, _||_}
 pub use mathlib.Core.List.{List, [], _∷_, _++_, map, flatten}
-pub use Prim.Native.Nat.{ℕ, suc, _≤_, _<_, _+_, _*_, _-_, _/_, _^_, zero}
+pub use Prim.Native.Nat.{ℕ, suc, _≤_, _<_, _+_, _*_, _-_, _/_, _^_}
 pub use lib.Dec.{T, ltb, leb}
 pub use lib.ListN.{length, drop, getD, take}
 -- ---- lists, further
@@ -97,7 +97,7 @@ pub use Rattle.desk.specs.declared.Console.{Console}
 pub use Rattle.desk.specs.declared.Desk.{Desk}
 pub use Rattle.desk.specs.declared.Held.{Held}
 pub use Rattle.desk.specs.declared.Held.the-variants.{Nothing, From}
-pub use Rattle.desk.specs.Console.{setOutOfRange, notBelow, outsideSet, has, consoleWith, idle}
+pub use Rattle.desk.specs.Console.{setOutOfRange, outsideSet, has, consoleWith, idle}
 pub use Rattle.desk.specs.Desk.{freshDesk, consoleOf}
 pub use Rattle.consoles.specs.Calls.{consoleOutOfRange, newSet, start, outcome, serving, Request, switchOf, asking, calling, served}
 pub use Rattle.consoles.specs.Lists.{DeskCall, answerTo, after, afterAll, callsOf, answersOf, since, fedIn}

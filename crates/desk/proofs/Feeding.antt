@@ -4,7 +4,8 @@ use mathlib.Core.Path.{_≡_, refl, sym, ap, _∙_}
 use mathlib.Core.Bool.{Bool, true, false, not, _&&_}
 use Prim.Native.Nat.{ℕ}
 use Rattle.answers.specs.Answers.{given, refused, numberOf, refuse}
-use Rattle.answers.specs.Checks.{answer, trying, Judges}
+use Rattle.answers.specs.Checks.{answer, trying}
+use Rattle.answers.specs.Verdicts.{Judges}
 use Rattle.answers.specs.declared.Refusal.{Refusal}
 use Rattle.answers.specs.declared.Verdict.{Verdict}
 use Rattle.answers.specs.declared.Verdict.the-variants as verdict
@@ -13,7 +14,8 @@ use Rattle.search.specs.declared.Search.{Search}
 use Rattle.search.specs.declared.Outcome.{Outcome}
 use Rattle.search.specs.declared.Told.{Told}
 use Rattle.search.specs.declared.Told.the-variants as told
-use Rattle.search.specs.Search.{sound, soundFor, ended, next, give, toldOf}
+use Rattle.search.specs.Search.{sound, soundFor, ended, next, give}
+use Rattle.search.specs.Answers.{toldOf}
 use Rattle.judging.specs.Conditions.{searchUnsound, wantedChecks}
 use Rattle.desk.specs.declared.Held.the-variants.{From}
 use Rattle.desk.specs.Console.{switchChecks, consoleWith}

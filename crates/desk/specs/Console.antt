@@ -23,17 +23,13 @@ has set x = eqb (set / 2 ^ x % 2) 1
 unfoldable pub setOutOfRange : ℕ → ℕ → Bool
 setOutOfRange s set = leb (2 ^ s) set
 
--- 11: the switch is not below S
-abbrev pub notBelow : ℕ → ℕ → Bool
-notBelow s x = leb s x
-
 -- 21: "the switch is outside the set"
 abbrev pub outsideSet : ℕ → ℕ → Bool
 outsideSet set x = not (has set x)
 
--- 11, and 21 "just after 11"
+-- 11, the switch is not below S, and 21 "just after 11"
 abbrev pub switchChecks : ℕ → ℕ → ℕ → Conditions
-switchChecks s set x = (11, notBelow s x) ∷ (21, outsideSet set x) ∷ []
+switchChecks s set x = (11, leb s x) ∷ (21, outsideSet set x) ∷ []
 
 -- 20 of a set, then those of a switch
 abbrev pub startChecks : ℕ → ℕ → ℕ → Conditions

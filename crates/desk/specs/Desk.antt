@@ -1,15 +1,11 @@
 -- The desk: its four consoles, the console of a number, and what a call leaves of the desk. Assumes nothing.
-use mathlib.Core.Path.{_≡_}
 use Prim.Native.Nat.{ℕ}
 use lib.Dec.{eqb}
 use Rattle.lists.specs.Tests.{choose}
-use Rattle.answers.specs.Answers.{Answer, given, refused, numberOf}
+use Rattle.answers.specs.Answers.{Answer}
 use Rattle.answers.specs.Checks.{leaves}
 use Rattle.desk.specs.declared.Console.{Console}
 use Rattle.desk.specs.declared.Desk.{Desk}
-use Rattle.desk.specs.declared.Shown.{Shown}
-use Rattle.desk.specs.declared.Shown.the-variants as shown
-use Rattle.desk.specs.declared.Served.{Served}
 use Rattle.desk.specs.Console.{idle}
 
 -- "a fresh desk has empty sets and no search"
@@ -31,13 +27,3 @@ withConsole d k c =
 -- the desk after a call of console k that answers this: a result is the console as it then stands; a refusal leaves the desk as it was
 abbrev pub deskAfter : Desk → ℕ → Answer Console → Desk
 deskAfter d k a = leaves (withConsole d k) d a
-
--- what the code's answer says
-abbrev pub shownAnswer : Shown → Answer Console
-shownAnswer (shown.Now c) = given c
-shownAnswer (shown.Refused k) = refused (numberOf k)
-
--- an answer a of console k, and the desk after it
-pub record Serves (d : Desk) (k : ℕ) (a : Answer Console) (r : Served) : Type 0 where
-  pub answer : shownAnswer (r .shown) ≡ a
-  pub desk : r .desk ≡ deskAfter d k a

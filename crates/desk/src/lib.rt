@@ -7,12 +7,14 @@ use search::Outcome;
 use search::Search;
 use search::Told;
 ghost use mathlib.Core.Path.{_≡_};
-ghost use Rattle.answers.specs.Checks.{Judges, answer};
-ghost use Rattle.search.specs.Search.{toldOf};
+ghost use Rattle.answers.specs.Checks.{answer};
+ghost use Rattle.answers.specs.Verdicts.{Judges};
+ghost use Rattle.search.specs.Answers.{toldOf};
 ghost use Rattle.desk.specs.Console.{has, setOutOfRange, switchChecks, startChecks, consoleWith, heldAt, replacing, starting, telling};
 ghost use Rattle.desk.specs.Inner.{givingTo, feeding};
 ghost use Rattle.desk.specs.declared.Held.the-variants.{From};
-ghost use Rattle.desk.specs.Desk.{consoleOf, withConsole, freshDesk, shownAnswer, Serves};
+ghost use Rattle.desk.specs.Desk.{consoleOf, withConsole, freshDesk};
+ghost use Rattle.desk.specs.Answers.{shownAnswer, Serves};
 
 // At most one search, with its injection switch.
 pub enum Held {

@@ -11,7 +11,8 @@ use Rattle.answers.specs.declared.Refusal.{Refusal}
 use Rattle.search.specs.declared.Search.{Search}
 use Rattle.search.specs.declared.Asked.{Asked}
 use Rattle.search.specs.declared.Asked.the-variants as asked
-use Rattle.search.specs.Search.{sound, soundFor, wanted, ask, askedOf}
+use Rattle.search.specs.Search.{sound, soundFor, wanted, ask}
+use Rattle.search.specs.Answers.{askedOf}
 use Rattle.search.specs.Sound.{Good}
 use Rattle.search.proofs.Sound.{sound-good, wanted-in}
 use Rattle.judging.specs.Conditions.{searchUnsound, wantedChecks, probeWanted}

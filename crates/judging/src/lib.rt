@@ -10,9 +10,10 @@ ghost use mathlib.Core.Path.{_≡_};
 ghost use mathlib.Core.Bool.{not};
 ghost use lib.Dec.{eqb};
 ghost use lib.ListN.{length};
-ghost use Rattle.answers.specs.Checks.{Judges, answer};
+ghost use Rattle.answers.specs.Checks.{answer};
+ghost use Rattle.answers.specs.Verdicts.{Judges};
 ghost use Rattle.planning.specs.Plans.{Charted, Plan};
-ghost use Rattle.search.specs.Search.{askedOf};
+ghost use Rattle.search.specs.Answers.{askedOf};
 ghost use Rattle.judging.specs.Conditions.{trailDiffers, statesShort, searchUnsound, lentChecks, roundChecks, probeWanted};
 
 // Has the lent trail another length than these hops?

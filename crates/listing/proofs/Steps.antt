@@ -5,7 +5,8 @@ use Prim.Native.Nat.{ℕ}
 use Rattle.answers.specs.declared.Refusal.{Refusal}
 use Rattle.answers.specs.declared.Verdict.{Verdict}
 use Rattle.answers.specs.declared.Verdict.the-variants as verdict
-use Rattle.answers.specs.Answers.{Answer, given, refused, _>>=_, numberOf, verdictAnswer, Beside}
+use Rattle.answers.specs.Answers.{Answer, given, refused, _>>=_, numberOf}
+use Rattle.answers.specs.Verdicts.{verdictAnswer, Beside}
 use Rattle.answers.specs.Checks.{Checked, answer, _then_}
 use Rattle.answers.proofs.Checks.{then-assoc, then-is}
 use Rattle.answers.proofs.Beside.{beside-as}

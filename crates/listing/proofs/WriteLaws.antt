@@ -16,8 +16,10 @@ use Rattle.plant.specs.Links.{zeroLink}
 use Rattle.answers.specs.declared.Refusal.{Refusal}
 use Rattle.answers.specs.declared.Verdict.{Verdict}
 use Rattle.answers.specs.declared.Verdict.the-variants as verdict
-use Rattle.answers.specs.Answers.{given, refused, numberOf, verdictAnswer, firstOf}
-use Rattle.answers.specs.Checks.{Conditions, Judges, check, answer}
+use Rattle.answers.specs.Answers.{given, refused, numberOf}
+use Rattle.answers.specs.Verdicts.{verdictAnswer, firstOf}
+use Rattle.answers.specs.Checks.{Conditions, check, answer}
+use Rattle.answers.specs.Verdicts.{Judges}
 use Rattle.answers.proofs.Checks.{none-append, goes-on, stops, left-kept, none-judged, passed, turned-down, first-judges}
 use Rattle.limits.specs.Limits.{maxLinks}
 use Rattle.codec.specs.declared.Layout.{Layout}

@@ -2,7 +2,8 @@
 use Prim.Native.Nat.{ℕ}
 use Rattle.plant.specs.declared.Plant.{Plant}
 use Rattle.plant.specs.Links.{plantWith}
-use Rattle.answers.specs.Answers.{Answer, given, refused, numberOf, Beside}
+use Rattle.answers.specs.Answers.{Answer, given, refused, numberOf}
+use Rattle.answers.specs.Verdicts.{Beside}
 use Rattle.limits.specs.Limits.{maxLinks}
 use Rattle.listing.specs.declared.Decoded.{Decoded}
 use Rattle.listing.specs.declared.Written.{Written}

@@ -6,7 +6,8 @@ use lib.ListN.{length, drop}
 use Rattle.plant.specs.declared.Link.{Link}
 use Rattle.plant.specs.declared.Plant.{Plant}
 use Rattle.plant.specs.Links.{plantWith, linkAt}
-use Rattle.answers.specs.Answers.{Answer, given, refused, _>>=_, numberOf, verdictAnswer, Beside}
+use Rattle.answers.specs.Answers.{Answer, given, refused, _>>=_, numberOf}
+use Rattle.answers.specs.Verdicts.{verdictAnswer, Beside}
 use Rattle.answers.specs.Checks.{answer}
 use Rattle.limits.specs.Limits.{maxLinks}
 use Rattle.listing.specs.declared.Header.{Header}

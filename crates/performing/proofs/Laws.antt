@@ -16,7 +16,8 @@ use Rattle.search.specs.declared.Search.{Search}
 use Rattle.search.specs.declared.Outcome.{Outcome}
 use Rattle.search.specs.declared.Progress.{Progress}
 use Rattle.search.specs.Search.{settles, give}
-use Rattle.search.specs.Calls.{outcomeIn, callIn, callsIn, step, perform}
+use Rattle.search.specs.Calls.{step, perform}
+use Rattle.search.specs.Answers.{outcomeIn, callIn, callsIn}
 
 -- ---- one call
 

@@ -1,7 +1,8 @@
 // A list of calls to a search, each a byte, after a new search. Inner: the calls are those of docs/CALLS.md.
 ghost use mathlib.Core.Path.{_≡_};
 ghost use Prim.Native.Nat.{_≤_, _<_, _+_};
-ghost use Rattle.search.specs.Calls.{outcomeIn, callIn, callsIn, step, perform, begun};
+ghost use Rattle.search.specs.Calls.{step, perform, begun};
+ghost use Rattle.search.specs.Answers.{outcomeIn, callIn, callsIn};
 use search::Outcome;
 use search::Progress;
 use search::Search;

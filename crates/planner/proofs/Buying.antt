@@ -14,7 +14,8 @@ use Rattle.listing.proofs.RoundTrip.{decode-sound}
 use Rattle.sheet.specs.declared.Sheet.{Sheet}
 use Rattle.sheet.specs.Page.{buyingPage, pageLength, writingPage, pageLeft}
 use Rattle.sheet.specs.Shown.{Shown}
-use Rattle.quoting.specs.Quotes.{pricing, quoting, pageIn, quotedOut}
+use Rattle.quoting.specs.Quotes.{pricing, quoting, pageIn}
+use Rattle.quoting.specs.Answers.{quotedOut}
 use Rattle.quoting.proofs.Counts.{priced-shown}
 use Rattle.quoting.proofs.Quotes.{kept-after}
 use Rattle.planner.specs.Calls.{quotingFor, buying, boughtOut}

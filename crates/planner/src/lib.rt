@@ -19,9 +19,11 @@ ghost use Rattle.planning.specs.Plans.{Charted, Plan};
 ghost use Rattle.listing.specs.Writing.{bufferAfter, writing};
 ghost use Rattle.listing.specs.Listing.{reading};
 ghost use Rattle.listing.specs.Answers.{Reads, writeAnswer};
-ghost use Rattle.quantity.specs.Quantity.{orderQuantity, quantityOf};
+ghost use Rattle.quantity.specs.Quantity.{orderQuantity};
+ghost use Rattle.quantity.specs.Answers.{quantityOf};
 ghost use Rattle.allowance.specs.Allowance.{allowance};
-ghost use Rattle.sheet.specs.Form.{readingPage, ReadsPage};
+ghost use Rattle.sheet.specs.Form.{readingPage};
+ghost use Rattle.sheet.specs.Answers.{ReadsPage};
 ghost use Rattle.planner.specs.Calls.{rewriting, rewritten, rereading, tabling, counting, bridging, parting, summing, laying, laidWith, trailing, laidOut, roundTrailing, roundLaidOut, buying, boughtOut};
 ghost use Rattle.planner.specs.Answers.{Tables, Counts, AddsUp, Bridges, Splits, summaryAnswer, trailAnswer};
 

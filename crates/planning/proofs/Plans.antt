@@ -9,7 +9,8 @@ use Rattle.plant.specs.declared.Plant.{Plant}
 use Rattle.answers.specs.declared.Refusal.{Refusal}
 use Rattle.answers.specs.declared.Verdict.{Verdict}
 use Rattle.answers.specs.declared.Verdict.the-variants as verdict
-use Rattle.answers.specs.Answers.{given, refused, numberOf, Beside}
+use Rattle.answers.specs.Answers.{given, refused, numberOf}
+use Rattle.answers.specs.Verdicts.{Beside}
 use Rattle.answers.specs.Checks.{Checked, check, answer, _then_}
 use Rattle.answers.proofs.Checks.{given-refused, given-given, refuse-given, goes-on, came-from, result-given}
 use Rattle.answers.proofs.Beside.{beside-given, beside-as, accepted, was-refused, off-beside}

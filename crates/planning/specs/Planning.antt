@@ -1,5 +1,5 @@
--- What every call that is given a listing and does more than read it begins with: refusals 1 to 8, and 11 where it is also given a switch
--- (document 01, "Refusals in checking order"). With document 02's order 9 no call tries 9.
+-- What a call begins with that is given a listing and a switch, but for the calls of a console: refusals 1 to 8, then 11 (document 01,
+-- "Refusals in checking order").
 use mathlib.Core.Bool.{Bool}
 use mathlib.Core.List.{List, [], _∷_}
 use Prim.Native.Nat.{ℕ}

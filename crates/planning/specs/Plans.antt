@@ -22,7 +22,8 @@ use Rattle.arcs.specs.Legs.{noLegs, LegsIn}
 use Rattle.planning.specs.declared.Parts.{Parts}
 use Rattle.planning.specs.Components.{componentsOf}
 use Rattle.answers.specs.declared.Verdict.the-variants as verdict
-use Rattle.answers.specs.Answers.{Answer, Beside}
+use Rattle.answers.specs.Answers.{Answer}
+use Rattle.answers.specs.Verdicts.{Beside}
 use Rattle.listing.specs.Answers.{emptyPlant}
 use Rattle.planning.specs.declared.Planned.{Planned}
 

@@ -26,14 +26,15 @@ use Rattle.order.specs.Labels.{OverArcs}
 use Rattle.packet.specs.Asked.{CanRun, CanProbe, CanRound}
 use Rattle.answers.specs.declared.Verdict.{Verdict}
 use Rattle.answers.specs.declared.Verdict.the-variants as verdict
-use Rattle.answers.specs.Checks.{Judges, answer}
+use Rattle.answers.specs.Checks.{answer}
+use Rattle.answers.specs.Verdicts.{Judges}
 use Rattle.answers.proofs.Checks.{none-judged}
 use Rattle.answers.proofs.Beside.{accepted}
 use Rattle.search.specs.declared.Search.{Search}
 use Rattle.search.specs.declared.Said.{Said}
 use Rattle.search.specs.declared.Said.the-variants as said
 use Rattle.search.specs.Search.{says}
-use Rattle.search.specs.Sound.{SaysIn}
+use Rattle.search.specs.Answers.{SaysIn}
 use Rattle.search.proofs.Sound.{says-in}
 use Rattle.planning.specs.declared.Parts.{Parts}
 use Rattle.planning.specs.declared.Planned.{Planned}

@@ -25,7 +25,7 @@ use Rattle.search.specs.declared.Search.{Search}
 use Rattle.search.specs.declared.Said.{Said}
 use Rattle.search.specs.declared.Said.the-variants.{Open, AllUp, Down}
 use Rattle.search.specs.Search.{says}
-use Rattle.search.specs.Sound.{SaysIn}
+use Rattle.search.specs.Answers.{SaysIn}
 use Rattle.search.proofs.Sound.{says-in}
 use Rattle.judging.specs.Conditions.{trailDiffers, searchUnsound}
 use Rattle.listing.specs.Listing.{reading}

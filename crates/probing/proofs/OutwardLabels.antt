@@ -25,7 +25,8 @@ use Rattle.order.specs.Span.{ringSpan, spanOf, stretchOf, frontOf}
 use Rattle.order.proofs.Spans.{Stands, ring-parts, span-outward, ring-stands, span-stands, parts-shifted, shifted-fits}
 use Rattle.search.specs.declared.Search.{Search}
 use Rattle.judging.specs.Conditions.{trailDiffers, lentChecks, wantedChecks}
-use Rattle.probing.specs.Calls.{checkIn, probeEnd, outLabels, ownSpan, outSpan, outwardIn, outgoing, OutwardParts}
+use Rattle.probing.specs.Calls.{checkIn, probeEnd, outLabels, ownSpan, outSpan, outwardIn, outgoing}
+use Rattle.probing.specs.Answers.{OutwardParts}
 use Rattle.planning.specs.Planning.{planningAt}
 use Rattle.planning.proofs.Plans.{at-result}
 use Rattle.codec.specs.Field.{Bytes}

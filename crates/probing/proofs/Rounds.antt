@@ -22,7 +22,8 @@ use Rattle.choosing.specs.declared.Choice.{Choice}
 use Rattle.choosing.specs.declared.Choice.the-variants as choice
 use Rattle.choosing.specs.Choice.{shorterOf, choiceOf, hopsIn}
 use Rattle.judging.specs.Conditions.{hopsDiffer}
-use Rattle.probing.specs.Calls.{choiceAt, choiceFrom, choiceIn, choosing, ChosenHops}
+use Rattle.probing.specs.Calls.{choiceAt, choiceFrom, choiceIn, choosing}
+use Rattle.probing.specs.Answers.{ChosenHops}
 use Rattle.probing.proofs.Lent.{hops-is, begin-is, round-hops-is, round-begin-is, trail-stands, round-stands}
 
 -- the choice by what the code knows of the component

@@ -30,7 +30,8 @@ use Rattle.search.proofs.Probes.{sent-thrice, probes-counted}
 use Rattle.planning.specs.Planning.{planningAt}
 use Rattle.planning.proofs.Plans.{at-given}
 use Rattle.probing.specs.Calls.{probeEnd, performedIn, performing}
-use Rattle.probing.specs.Searches.{MostProbes, NoneBroken, actualOutcome, ComesHome, AllTrue, OneOfThree, Says, Searches, Performs}
+use Rattle.probing.specs.Searches.{MostProbes, NoneBroken, actualOutcome, ComesHome, AllTrue, OneOfThree, Says, Searches}
+use Rattle.probing.specs.Answers.{Performs}
 use Rattle.probing.proofs.Injection.{order-links, order-length, links-few, probe-tells}
 
 -- ---- the most probes

@@ -1,6 +1,9 @@
 -- What each answer of the calls stands for: values, or the number of a refusal.
-use mathlib.Core.List.{[]}
-use Rattle.answers.specs.Answers.{Answer, given, refused, numberOf, Beside}
+use mathlib.Core.List.{[], List, _++_}
+use mathlib.Core.Path.{_≡_}
+use Prim.Native.Nat.{ℕ, _+_}
+use Rattle.answers.specs.Answers.{Answer, given, refused, numberOf}
+use Rattle.answers.specs.Verdicts.{Beside}
 use Rattle.rings.specs.Packet.{End}
 use Rattle.choosing.specs.declared.Choice.{Choice}
 use Rattle.order.specs.declared.Order.{Order}
@@ -9,6 +12,14 @@ use Rattle.order.specs.Order.{listed}
 use Rattle.packet.specs.Runs.{endOf}
 use Rattle.search.specs.declared.Search.{Search}
 use Rattle.search.specs.declared.Progress.{Progress}
+use Rattle.plant.specs.declared.Plant.{Plant}
+use Rattle.answers.specs.Checks.{answer}
+use Rattle.plan.specs.Plan.{trailWith, roundWith}
+use Rattle.choosing.specs.Choice.{shorterOf, hopsIn}
+use Rattle.order.specs.Span.{stretchOf, frontOf}
+use Rattle.search.specs.Search.{wanted}
+use Rattle.search.specs.Calls.{Call}
+use Rattle.planning.specs.Planning.{planningAt}
 use Rattle.probing.specs.declared.Ran.{Ran}
 use Rattle.probing.specs.declared.Ran.the-variants as ran-is
 use Rattle.probing.specs.declared.Shorter.{Shorter}
@@ -22,7 +33,8 @@ use Rattle.probing.specs.declared.Begun.{Begun}
 use Rattle.probing.specs.declared.Begun.the-variants as begun-is
 use Rattle.probing.specs.declared.Performed.{Performed}
 use Rattle.probing.specs.declared.Performed.the-variants as performed-is
-use Rattle.probing.specs.Calls.{Name, link, none, unknown}
+use Rattle.probing.specs.Calls.{Name, link, none, unknown, outLabels}
+use Rattle.probing.specs.Searches.{Searches}
 
 -- where the packet got to
 abbrev pub ranAnswer : Ran → Answer End
@@ -57,3 +69,19 @@ begunAnswer (begun-is.Refused k) = refused (numberOf k)
 abbrev pub performedAnswer : Performed → Answer Progress
 performedAnswer (performed-is.Done r) = given r
 performedAnswer (performed-is.Refused k) = refused (numberOf k)
+
+-- of the plant that was read: the part of the lent trails w and v at the choice that is answered is the trail or the round trail of the
+-- component, whichever has fewer hops, and no spare place
+abbrev pub ChosenHops : List ℕ → ℕ → List ℕ → List ℕ → Answer Choice → Type 0
+ChosenHops s x w v a =
+    (p : Plant) (c : Choice) → answer (planningAt s x) ≡ given p → a ≡ given c → hopsIn w v c ≡ shorterOf (trailWith p x) (roundWith p x)
+
+-- of the plant that was read: the two parts of the lent trail w at the bounds that are answered, one after the other, are the outward
+-- labels of the probe wanted
+abbrev pub OutwardParts : List ℕ → ℕ → List ℕ → Search → Answer Span → Type 0
+OutwardParts s x w q a =
+    (p : Plant) (b : Span) → answer (planningAt s x) ≡ given p → a ≡ given b → stretchOf w b ++ frontOf w b ≡ outLabels p x (wanted q)
+
+-- so it is of what `perform` answers, for a listing s that is read as a plant p with the switch x
+abbrev pub Performs : List ℕ → ℕ → List Call → Answer Progress → Type 0
+Performs s x cs a = (p : Plant) (r : Progress) → answer (planningAt s x) ≡ given p → a ≡ given r → Searches p x cs r

@@ -1,15 +1,13 @@
 -- What each call on packets, probes and searches comes to that is given a listing: in the plant of the listing, after 1 to 8 and 11. Ring,
 -- order, probes and E belong to the component of the named switch x (document 02, order 9): its trail is `trailWith p x`, and E, the number
 -- of links that a search is over, `linksWith p x`. State bytes are counted against the listing's link count, `p .count`.
-use mathlib.Core.Path.{_≡_}
-use mathlib.Core.List.{List, [], _∷_, _++_}
+use mathlib.Core.List.{List, [], _∷_}
 use Prim.Native.Nat.{ℕ}
 use lib.Dec.{eqb}
 use lib.ListN.{length}
 use Rattle.lists.specs.Tests.{choose}
 use Rattle.plant.specs.declared.Plant.{Plant}
-use Rattle.answers.specs.Answers.{Answer, given}
-use Rattle.answers.specs.Checks.{Checked, check, answer, _then_, _giving_}
+use Rattle.answers.specs.Checks.{Checked, check, _then_, _giving_}
 use Rattle.walks.specs.Arcs.{head}
 use Rattle.walks.specs.Components.{componentOf, linksWith, used}
 use Rattle.plan.specs.Plan.{trailOf, trailWith, trailBegin, roundOf, roundWith, roundBegin, inTable}
@@ -20,11 +18,11 @@ use Rattle.rings.specs.Probe.{outward}
 use Rattle.rings.specs.Injection.{ringOf, orderOf, probeRun}
 use Rattle.rings.specs.Round.{roundRun}
 use Rattle.choosing.specs.declared.Choice.{Choice}
-use Rattle.choosing.specs.Choice.{shorterOf, choiceOf, hopsIn}
+use Rattle.choosing.specs.Choice.{choiceOf}
 use Rattle.order.specs.declared.Order.{Order}
 use Rattle.order.specs.declared.Span.{Span}
 use Rattle.order.specs.Order.{listed}
-use Rattle.order.specs.Span.{ringSpan, spanOf, stretchOf, frontOf, shiftedBy}
+use Rattle.order.specs.Span.{ringSpan, spanOf, shiftedBy}
 use Rattle.search.specs.declared.Search.{Search}
 use Rattle.search.specs.declared.Said.{Said}
 use Rattle.search.specs.declared.Said.the-variants as said
@@ -79,12 +77,6 @@ choiceIn x w v p = check {A = Unit} ((12, hopsDiffer (trailOf p) w) ∷ []) tt t
 unfoldable pub choosing : List ℕ → ℕ → List ℕ → List ℕ → Checked Choice
 choosing s x w v = planningAt s x then choiceIn x w v
 
--- of the plant that was read: the part of the lent trails w and v at the choice that is answered is the trail or the round trail of the
--- component, whichever has fewer hops, and no spare place
-abbrev pub ChosenHops : List ℕ → ℕ → List ℕ → List ℕ → Answer Choice → Type 0
-ChosenHops s x w v a =
-    (p : Plant) (c : Choice) → answer (planningAt s x) ≡ given p → a ≡ given c → hopsIn w v c ≡ shorterOf (trailWith p x) (roundWith p x)
-
 -- ---- the order of links: 1 to 8, 11, 12
 
 unfoldable pub orderIn : ℕ → List ℕ → Plant → Checked Order
@@ -112,12 +104,6 @@ outwardIn x w q p = check ((12, trailDiffers p w) ∷ wantedChecks (linksWith p 
 
 unfoldable pub outgoing : List ℕ → ℕ → List ℕ → Search → Checked Span
 outgoing s x w q = planningAt s x then outwardIn x w q
-
--- of the plant that was read: the two parts of the lent trail w at the bounds that are answered, one after the other, are the outward
--- labels of the probe wanted
-abbrev pub OutwardParts : List ℕ → ℕ → List ℕ → Search → Answer Span → Type 0
-OutwardParts s x w q a =
-    (p : Plant) (b : Span) → answer (planningAt s x) ≡ given p → a ≡ given b → stretchOf w b ++ frontOf w b ≡ outLabels p x (wanted q)
 
 -- ---- the run of the probe wanted: 1 to 8, 11, 12, 13, 14, 15
 

@@ -1,6 +1,6 @@
 -- What demand 3 says of a list of calls to a search, document 02's order 4 included, as one statement: `Searches`. Demand 3
--- (demands/specs/Demands) is this for every list of calls, and the contract of the call `perform` is this of what it answers (`Performs`).
--- Assumes nothing.
+-- (demands/specs/Demand3) is this for every list of calls, and the contract of the call `perform` is this of what it answers. Assumes
+-- nothing.
 use mathlib.Core.Path.{_≡_}
 use mathlib.Core.Logic.{_↔_}
 use mathlib.Core.Bool.{true, false}
@@ -11,7 +11,7 @@ use lib.ListN.{length}
 use Rattle.lists.specs.Members.{Each}
 use Rattle.lists.specs.Count.{count}
 use Rattle.plant.specs.declared.Plant.{Plant}
-use Rattle.answers.specs.Answers.{Answer, given}
+use Rattle.answers.specs.Answers.{given}
 use Rattle.answers.specs.Checks.{answer}
 use Rattle.walks.specs.Components.{linkWith, linksWith}
 use Rattle.plan.specs.Plan.{trailWith}
@@ -26,7 +26,6 @@ use Rattle.search.specs.Search.{ended, ask, give}
 use Rattle.search.specs.Values.{IsAllUp, IsDown, IsReturned}
 use Rattle.search.specs.Calls.{Call, begun, Sending, sendings, returnsOf, lossesOf, countedIn, TrueSending, OneReturns}
 use Rattle.search.specs.Limit.{limit}
-use Rattle.planning.specs.Planning.{planningAt}
 use Rattle.probing.specs.Calls.{probeEnd}
 
 -- ---- the most probes
@@ -101,7 +100,3 @@ pub record Searches (p : Plant) (x : ℕ) (cs : List Call) (r : Progress) : Type
   pub says : (states : List ℕ) → AllTrue p x states cs → OneOfThree p x states cs → ended (r .state) ≡ true → Says p x states (r .state)
   -- All up is right by the first premise alone
   pub up-right : (states : List ℕ) → AllTrue p x states cs → IsAllUp (r .state) → NoneBroken p x states
-
--- so it is of what `perform` answers, for a listing s that is read as a plant p with the switch x
-abbrev pub Performs : List ℕ → ℕ → List Call → Answer Progress → Type 0
-Performs s x cs a = (p : Plant) (r : Progress) → answer (planningAt s x) ≡ given p → a ≡ given r → Searches p x cs r

@@ -34,11 +34,13 @@ ghost use Rattle.order.specs.Span.{stretchOf, frontOf};
 ghost use Rattle.packet.specs.Asked.{CanProbe};
 ghost use Rattle.packet.specs.Runs.{endOf};
 ghost use Rattle.packet.specs.Outcome.{outcomeOf};
-ghost use Rattle.search.specs.Search.{ask, give, askedOf, toldOf};
-ghost use Rattle.search.specs.Calls.{callsIn};
-ghost use Rattle.search.specs.Sound.{SaysIn};
-ghost use Rattle.probing.specs.Calls.{runIn, running, checkIn, checking, roundIn, roundRunning, choiceFrom, choiceIn, choosing, ChosenHops, orderIn, ordering, ownSpan, outSpan, outwardIn, outgoing, OutwardParts, probeOver, probeIn, probing, namedIn, nameIn, naming, beginning, performing};
-ghost use Rattle.probing.specs.Searches.{Performs};
+ghost use Rattle.search.specs.Search.{ask, give};
+ghost use Rattle.search.specs.Answers.{askedOf, toldOf};
+ghost use Rattle.search.specs.Answers.{callsIn};
+ghost use Rattle.search.specs.Answers.{SaysIn};
+ghost use Rattle.probing.specs.Calls.{runIn, running, checkIn, checking, roundIn, roundRunning, choiceFrom, choiceIn, choosing, orderIn, ordering, ownSpan, outSpan, outwardIn, outgoing, probeOver, probeIn, probing, namedIn, nameIn, naming, beginning, performing};
+ghost use Rattle.probing.specs.Answers.{ChosenHops, OutwardParts};
+ghost use Rattle.probing.specs.Answers.{Performs};
 ghost use Rattle.probing.specs.Answers.{ranAnswer, shorterAnswer, Orders, outwardAnswer, namedAnswer, begunAnswer, performedAnswer};
 
 // How the run of a packet comes out: where it got to, or a refusal.

@@ -1,2 +1,3 @@
 pub mod Quantity
+pub mod Answers
 pub mod Cases

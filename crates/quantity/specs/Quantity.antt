@@ -3,10 +3,7 @@ use mathlib.Core.Bool.{Bool}
 use mathlib.Core.List.{[], _∷_}
 use Prim.Native.Nat.{ℕ, _+_, _*_, _/_}
 use lib.Dec.{ltb}
-use Rattle.answers.specs.Answers.{numberOf, Answer, given, refused}
 use Rattle.answers.specs.Checks.{Checked, check}
-use Rattle.quantity.specs.declared.Quantity.{Quantity}
-use Rattle.quantity.specs.declared.Quantity.the-variants as is
 
 -- the largest spare, in percent
 abbrev pub maxSpare : ℕ
@@ -26,8 +23,3 @@ spareAbove p = ltb maxSpare p
 
 unfoldable pub orderQuantity : ℕ → ℕ → Checked ℕ
 orderQuantity a p = check ((17, spareAbove p) ∷ []) (withSpare a p)
-
--- what the code's answer says
-abbrev pub quantityOf : Quantity → Answer ℕ
-quantityOf (is.Rules n) = given n
-quantityOf (is.Refused r) = refused (numberOf r)

@@ -1,7 +1,8 @@
 // The order quantity: how many rules to order, with a spare in percent. Inner: the calls are those of docs/CALLS.md.
 ghost use mathlib.Core.Path.{_≡_};
 ghost use Rattle.answers.specs.Checks.{answer};
-ghost use Rattle.quantity.specs.Quantity.{orderQuantity, quantityOf};
+ghost use Rattle.quantity.specs.Quantity.{orderQuantity};
+ghost use Rattle.quantity.specs.Answers.{quantityOf};
 use answers::Refusal;
 
 // So many rules, or a refusal.

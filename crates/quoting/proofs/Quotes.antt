@@ -9,15 +9,19 @@ use lib.ListN.{length, drop}
 use Rattle.answers.specs.declared.Refusal.{Refusal}
 use Rattle.answers.specs.declared.Verdict.{Verdict}
 use Rattle.answers.specs.declared.Verdict.the-variants as verdict
-use Rattle.answers.specs.Answers.{Answer, given, refused, _>>=_, numberOf, firstOf, valueOr, Beside}
-use Rattle.answers.specs.Checks.{Conditions, NoneHolds, trying, Judges, answer, leaves}
+use Rattle.answers.specs.Answers.{Answer, given, refused, _>>=_, numberOf}
+use Rattle.answers.specs.Verdicts.{firstOf, valueOr, Beside}
+use Rattle.answers.specs.Checks.{Conditions, NoneHolds, trying, answer, leaves}
+use Rattle.answers.specs.Verdicts.{Judges}
 use Rattle.answers.proofs.Checks.{none-append, none-trying, none-judged, passed, turned-down, first-judges, then-is, left-kept}
 use Rattle.answers.proofs.Beside.{beside-judges}
 use Rattle.plant.specs.declared.Plant.{Plant}
 use Rattle.sheet.specs.declared.Sheet.{Sheet}
 use Rattle.sheet.specs.Columns.{lineColumns}
-use Rattle.sheet.specs.Page.{buyingPage, pageLength, writingPage, pageLeft, noCounts}
-use Rattle.quoting.specs.Quotes.{pricing, quoting, pageIn, quotedOut}
+use Rattle.sheet.specs.Page.{buyingPage, pageLength, writingPage, pageLeft}
+use Rattle.sheet.specs.Answers.{noCounts}
+use Rattle.quoting.specs.Quotes.{pricing, quoting, pageIn}
+use Rattle.quoting.specs.Answers.{quotedOut}
 
 -- where an answer or what follows it is a refusal, what is lent is left as it was
 pub kept-after : {A B C : Type 0} (a : Answer A) (f : A → Answer B) (g : A → B → C) (b : C) (n : ℕ) → (a >>= f) ≡ refused n → leaves (λ x. leaves (g x) b (f x)) b a ≡ b

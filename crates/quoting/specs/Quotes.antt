@@ -2,8 +2,7 @@
 use mathlib.Core.List.{List, map}
 use Prim.Native.Nat.{ℕ}
 use Rattle.lists.specs.Numbers.{range}
-use Rattle.answers.specs.Answers.{Answer, Beside}
-use Rattle.answers.specs.Checks.{Checked, answer, _then_, _giving_, leaves}
+use Rattle.answers.specs.Checks.{Checked, answer, _then_, _giving_}
 use Rattle.limits.specs.Limits.{maxSwitches}
 use Rattle.plant.specs.declared.Plant.{Plant}
 use Rattle.walks.specs.Graph.{linksAt}
@@ -12,8 +11,7 @@ use Rattle.senders.specs.Senders.{bySwitch}
 use Rattle.plan.specs.Plan.{tableOf}
 use Rattle.quantity.specs.Quantity.{orderQuantity}
 use Rattle.sheet.specs.declared.Sheet.{Sheet}
-use Rattle.sheet.specs.Page.{writingPage, pageLeft, noCounts}
-use Rattle.quoting.specs.declared.Priced.{Priced}
+use Rattle.sheet.specs.Page.{writingPage, pageLeft}
 
 -- the counts of a plant with these rules, for an order quantity: the rules of each switch, and the links at it
 abbrev pub sheetWith : Plant → BySwitch → ℕ → Sheet
@@ -37,11 +35,3 @@ quoting p spare b = pricing p spare then λ s. writingPage s b
 -- the page of the counts c in the lent buffer b, then the bytes that stood past it; where it does not fit, the buffer as it was
 abbrev pub pageIn : Sheet → List ℕ → List ℕ
 pageIn c b = pageLeft c b (answer (writingPage c b))
-
--- so it is of the counts of a plant; at a refusal the buffer as it was
-abbrev pub quotedOut : Plant → ℕ → List ℕ → List ℕ
-quotedOut p spare b = leaves (λ c. pageIn c b) b (answer (pricing p spare))
-
--- what the code's answer says; at a refusal there are no counts
-abbrev pub Prices : Answer Sheet → Priced → Type 0
-Prices a r = Beside noCounts a (r .verdict) (r .sheet)

@@ -14,7 +14,8 @@ ghost use Rattle.answers.specs.Checks.{answer};
 ghost use Rattle.limits.specs.Sound.{Sound};
 ghost use Rattle.listing.specs.Answers.{writeAnswer};
 ghost use Rattle.planning.specs.Plans.{Charted};
-ghost use Rattle.quoting.specs.Quotes.{sheetWith, pricing, quoting, quotedOut, Prices};
+ghost use Rattle.quoting.specs.Quotes.{sheetWith, pricing, quoting};
+ghost use Rattle.quoting.specs.Answers.{quotedOut, Prices};
 
 // The counts of a plan. At a refusal every number is zero.
 pub struct Priced {

@@ -18,7 +18,8 @@ ghost use Rattle.answers.specs.Checks.{answer};
 ghost use Rattle.limits.specs.Limits.{maxSwitches};
 ghost use Rattle.columns.specs.Fields.{numberIn};
 ghost use Rattle.sheet.specs.Columns.{switchEnd, rulesEnd, columnsOf};
-ghost use Rattle.sheet.specs.Form.{numbersHeld, spacesElse, ofSwitch, ofTotal, lineAt, rulesOn, wholeLines, columnOf, formed, countsIn, readingPage, ReadsPage};
+ghost use Rattle.sheet.specs.Form.{numbersHeld, spacesElse, ofSwitch, ofTotal, lineAt, rulesOn, wholeLines, columnOf, formed, countsIn, readingPage};
+ghost use Rattle.sheet.specs.Answers.{ReadsPage};
 ghost use Rattle.readback.specs.Held.{Line, Lines, Held, AllHeld};
 
 // ---- a line

@@ -9,13 +9,15 @@ use Rattle.lists.proofs.Tests.{and-true, not-both}
 use Rattle.answers.specs.Answers.{given, refused}
 use Rattle.answers.specs.declared.Verdict.{Verdict}
 use Rattle.answers.specs.declared.Verdict.the-variants as verdict
-use Rattle.answers.specs.Checks.{Judges, check, answer}
+use Rattle.answers.specs.Checks.{check, answer}
+use Rattle.answers.specs.Verdicts.{Judges}
 use Rattle.answers.proofs.Checks.{none-judged}
 use Rattle.limits.specs.Limits.{maxLinks}
 use Rattle.search.specs.declared.Search.{Search}
 use Rattle.search.specs.declared.Search.the-variants.{Checking, Halving, AllUp, Down}
 use Rattle.search.specs.Search.{tries, counts, halves, short, sound, soundFor, says, ended, wanted, lostSoFar, callChecks}
-use Rattle.search.specs.Sound.{Good, SaysIn}
+use Rattle.search.specs.Sound.{Good}
+use Rattle.search.specs.Answers.{SaysIn}
 
 -- ---- what a call answers
 

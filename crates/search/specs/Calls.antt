@@ -23,17 +23,6 @@ pub data Call : Type 0 where
   asks : Call
   gives : Outcome → Call
 
--- a call as a byte: 0 asks for a probe, 1 gives returned, any other gives lost
-abbrev pub outcomeIn : ℕ → Outcome
-outcomeIn b = choose (eqb b 1) Returned Lost
-
-unfoldable pub callIn : ℕ → Call
-callIn b = choose (eqb b 0) asks (gives (outcomeIn b))
-
-abbrev pub callsIn : List ℕ → List Call
-callsIn [] = []
-callsIn (b ∷ bs) = callIn b ∷ callsIn bs
-
 -- after an outcome: an accepted one is a packet, and counts its probe if it settles it; a refusal changes nothing
 abbrev pub counted : Progress → Outcome → Answer Search → Progress
 counted p o (given s) = record { state = s; probes = p .probes + bit (settles (p .state) o); packets = p .packets + 1 }

@@ -1,4 +1,5 @@
 pub mod Search
+pub mod Answers
 pub mod Values
 pub mod Calls
 pub mod Limit

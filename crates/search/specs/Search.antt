@@ -1,11 +1,10 @@
 -- The search of document 01, with the sendings lost of document 02's order 4: its states, what each says and the probe that it wants, what
--- an outcome does, refusals 14 and 15, and the calls. All that goes by the kind of a state stands here. Assumes nothing.
+-- an outcome does, refusals 14 and 15, and the calls. Assumes nothing.
 use mathlib.Core.Bool.{Bool, true, false, not, _&&_}
 use mathlib.Core.List.{[], _∷_}
 use Prim.Native.Nat.{ℕ, _+_, _/_}
 use lib.Dec.{eqb, leb, ltb}
 use Rattle.lists.specs.Tests.{choose}
-use Rattle.answers.specs.Answers.{numberOf, Answer, given, refused}
 use Rattle.answers.specs.Checks.{Conditions, Checked, check}
 use Rattle.limits.specs.Limits.{maxLinks}
 use Rattle.search.specs.declared.Search.{Search}
@@ -14,10 +13,6 @@ use Rattle.search.specs.declared.Said.{Said}
 use Rattle.search.specs.declared.Said.the-variants as said
 use Rattle.search.specs.declared.Outcome.{Outcome}
 use Rattle.search.specs.declared.Outcome.the-variants.{Returned, Lost}
-use Rattle.search.specs.declared.Asked.{Asked}
-use Rattle.search.specs.declared.Asked.the-variants as asked
-use Rattle.search.specs.declared.Told.{Told}
-use Rattle.search.specs.declared.Told.the-variants as told
 
 -- ---- the state
 
@@ -128,12 +123,3 @@ ask s = check (callChecks s) (wanted s)
 -- the call that gives an outcome: the next state
 unfoldable pub give : Search → Outcome → Checked Search
 give s o = check (callChecks s) (next s o)
-
--- what the code's answers say
-abbrev pub askedOf : Asked → Answer ℕ
-askedOf (asked.Probe m) = given m
-askedOf (asked.Refused r) = refused (numberOf r)
-
-abbrev pub toldOf : Told → Answer Search
-toldOf (told.State s) = given s
-toldOf (told.Refused r) = refused (numberOf r)

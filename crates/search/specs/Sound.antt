@@ -3,8 +3,6 @@ use mathlib.Core.Path.{_≡_}
 use Prim.Native.Nat.{ℕ, _≤_, _<_}
 use Rattle.search.specs.declared.Search.{Search}
 use Rattle.search.specs.declared.Search.the-variants.{Checking, Halving, AllUp, Down}
-use Rattle.search.specs.declared.Said.{Said}
-use Rattle.search.specs.declared.Said.the-variants as said
 use Rattle.search.specs.Search.{tries}
 
 abbrev pub Good : ℕ → Search → Type 0
@@ -12,9 +10,3 @@ Good e (Checking count lost) = (count ≡ e) × (1 ≤ e) × (lost < tries)
 Good e (Halving low high lost) = (1 ≤ low) × (low < high) × (high ≤ e) × (lost < tries)
 Good e AllUp = Unit
 Good e (Down place) = (1 ≤ place) × (place ≤ e)
-
--- what it says names no place, or one of the places 1 .. e
-abbrev pub SaysIn : ℕ → Said → Type 0
-SaysIn e said.Open = Unit
-SaysIn e said.AllUp = Unit
-SaysIn e (said.Down place) = (1 ≤ place) × (place ≤ e)

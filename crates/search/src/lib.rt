@@ -1,8 +1,10 @@
 // The search for the first broken link: its state, the call for a probe and the call that gives an outcome. Inner: the calls are those of docs/CALLS.md.
 ghost use mathlib.Core.Path.{_≡_};
 ghost use mathlib.Core.Bool.{true};
-ghost use Rattle.answers.specs.Checks.{Judges, answer};
-ghost use Rattle.search.specs.Search.{newSearch, counts, halves, short, sound, soundFor, says, ended, wanted, lostSoFar, settles, narrowed, settled, onceMore, next, callChecks, ask, give, askedOf, toldOf};
+ghost use Rattle.answers.specs.Checks.{answer};
+ghost use Rattle.answers.specs.Verdicts.{Judges};
+ghost use Rattle.search.specs.Search.{newSearch, counts, halves, short, sound, soundFor, says, ended, wanted, lostSoFar, settles, narrowed, settled, onceMore, next, callChecks, ask, give};
+ghost use Rattle.search.specs.Answers.{askedOf, toldOf};
 use answers::Refusal;
 use answers::Verdict;
 use plant::Plant;

@@ -9,15 +9,13 @@ use Rattle.lists.specs.Members.{all}
 use Rattle.lists.specs.Numbers.{range, every}
 use Rattle.lists.specs.Sum.{sum}
 use Rattle.lists.specs.Tests.{choose}
-use Rattle.answers.specs.Answers.{Answer, Beside}
 use Rattle.answers.specs.Checks.{Checked, check}
 use Rattle.limits.specs.Limits.{maxSwitches}
 use Rattle.text.specs.Lines.{space, newline}
 use Rattle.columns.specs.Fields.{leftIn, isNumber, numberIn}
 use Rattle.sheet.specs.Columns.{switchColumns, lineColumns, switchEnd, rulesEnd, linksEnd, lastColumn, columnsOf}
-use Rattle.sheet.specs.Page.{totalWord, noCounts}
+use Rattle.sheet.specs.Page.{totalWord}
 use Rattle.sheet.specs.declared.Sheet.{Sheet}
-use Rattle.sheet.specs.declared.PageRead.{PageRead}
 
 -- ---- a line
 
@@ -109,7 +107,3 @@ module _ (b : List ℕ) where
   -- 18, "not of this form", or the counts
   unfoldable pub readingPage : Checked Sheet
   readingPage = check ((18, not formed) ∷ []) countsIn
-
--- what the code's answer says; at a refusal there are no counts
-abbrev pub ReadsPage : Answer Sheet → PageRead → Type 0
-ReadsPage a r = Beside noCounts a (r .verdict) (r .sheet)

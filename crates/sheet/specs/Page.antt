@@ -3,12 +3,11 @@ use mathlib.Core.Bool.{Bool}
 use mathlib.Core.List.{List, [], _∷_, _++_}
 use Prim.Native.Nat.{ℕ, _+_, _*_}
 use lib.Dec.{ltb}
-use lib.ListN.{length, drop, replicate}
+use lib.ListN.{length, drop}
 use Rattle.lists.specs.Arrays.{at}
 use Rattle.lists.specs.Numbers.{range}
 use Rattle.answers.specs.Answers.{Answer}
 use Rattle.answers.specs.Checks.{Checked, check, leaves}
-use Rattle.limits.specs.Limits.{maxSwitches}
 use Rattle.text.specs.Ascii.{ascii}
 use Rattle.text.specs.Decimal.{decimal}
 use Rattle.text.specs.Lines.{newline, each}
@@ -54,7 +53,3 @@ module _ (s : Sheet) where
   -- the page, "and bytes after it stay untouched"; at a refusal the buffer as it was
   abbrev pub pageLeft : List ℕ → Answer ℕ → List ℕ
   pageLeft b = leaves (λ n. buyingPage ++ drop n b) b
-
--- no counts: what stands beside a refusal
-abbrev pub noCounts : Sheet
-noCounts = record { switches = 0; rules = replicate maxSwitches 0; links = replicate maxSwitches 0; total = 0; quantity = 0 }

@@ -16,7 +16,8 @@ ghost use Rattle.limits.specs.Limits.{maxSwitches};
 ghost use Rattle.text.specs.Lines.{each};
 ghost use Rattle.text.specs.Laid.{Room, Laid};
 ghost use Rattle.sheet.specs.Columns.{lineColumns};
-ghost use Rattle.sheet.specs.Page.{switchLine, totalLine, buyingPage, pageLength, noCounts};
+ghost use Rattle.sheet.specs.Page.{switchLine, totalLine, buyingPage, pageLength};
+ghost use Rattle.sheet.specs.Answers.{noCounts};
 ghost use Rattle.sheet.specs.Shown.{ThreeDigits};
 ghost use Rattle.sheet.specs.Numbers.{numbersOf};
 

@@ -1,5 +1,5 @@
 -- Document 01, "Bridges, arcs in use and the trail", as far as the arcs in use: what is joined, bridges, the depth-first visit, arcs in use
--- and their number. Each definition computes. `Tests` says what each means in terms of walks.
+-- and their number. Each definition computes. Demand 2 says what each means in terms of walks.
 use mathlib.Core.Logic.{_⊎_}
 use mathlib.Core.Bool.{Bool, not, _&&_, _||_}
 use mathlib.Core.List.{List, [], _∷_}

@@ -2,7 +2,7 @@
 use mathlib.Core.List.{[], _∷_}
 use lib.Dec.{ltb}
 use borrow.Author.Needs.{needs}
-use Rattle.answers.specs.Checks.{Judges}
+use Rattle.answers.specs.Verdicts.{Judges}
 use Rattle.consoles.specs.Calls.{consoleOutOfRange}
 use Rattle.consoles.proofs.Sizing.{sized-plan, sized-on, sized-off}
 use Rattle.consoles.proofs.size_of.Statement.{statement}

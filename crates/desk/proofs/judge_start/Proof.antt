@@ -3,7 +3,7 @@ use mathlib.Core.Path.{sym, subst}
 use mathlib.Core.Bool.{Bool}
 use mathlib.Core.List.{[], _∷_}
 use borrow.Author.Needs.{needs}
-use Rattle.answers.specs.Checks.{Judges}
+use Rattle.answers.specs.Verdicts.{Judges}
 use Rattle.answers.proofs.Checks.{first-judges}
 use Rattle.desk.specs.Console.{setOutOfRange, switchChecks, startChecks}
 use Rattle.desk.proofs.judge_start.Statement.{statement}

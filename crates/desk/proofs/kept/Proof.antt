@@ -3,7 +3,8 @@ use mathlib.Core.Path.{_≡_, sym, ap, _∙_}
 use borrow.Author.Needs.{needs}
 use Rattle.answers.specs.Answers.{given}
 use Rattle.desk.specs.declared.Desk.{Desk}
-use Rattle.desk.specs.Desk.{consoleOf, withConsole, deskAfter, shownAnswer}
+use Rattle.desk.specs.Desk.{consoleOf, withConsole, deskAfter}
+use Rattle.desk.specs.Answers.{shownAnswer}
 use Rattle.desk.proofs.Consoles.{put-there}
 use Rattle.desk.proofs.kept.Statement.{statement}
 use Rattle.desk.proofs.kept.Tie as tie

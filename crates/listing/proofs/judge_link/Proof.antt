@@ -2,7 +2,7 @@
 use mathlib.Core.Path.{refl, sym, ap, _∙_}
 use native.Mathlib.Omega.{arith}
 use lib.Dec.{eqb}
-use Rattle.answers.specs.Answers.{verdictAnswer}
+use Rattle.answers.specs.Verdicts.{verdictAnswer}
 use Rattle.listing.proofs.SoundLaws.{sound-ends}
 use borrow.Author.Needs.{needs}
 use Rattle.listing.proofs.judge_link.Statement.{statement}

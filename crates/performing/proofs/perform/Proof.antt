@@ -5,7 +5,8 @@ use native.Mathlib.Omega.{arith}
 use lib.ListN.{length, drop}
 use borrow.Author.Needs.{needs}
 use Rattle.search.specs.declared.Search.{Search}
-use Rattle.search.specs.Calls.{callsIn, perform, begun}
+use Rattle.search.specs.Calls.{perform, begun}
+use Rattle.search.specs.Answers.{callsIn}
 use Rattle.performing.proofs.Laws.{perform-on, perform-all}
 use Rattle.performing.proofs.perform.Statement.{statement}
 use Rattle.performing.proofs.perform.Tie as tie

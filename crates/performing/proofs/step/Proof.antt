@@ -2,7 +2,7 @@
 -- nothing.
 use mathlib.Core.Path.{sym, ap, _∙_}
 use native.Mathlib.Omega.{arith}
-use Rattle.search.specs.Search.{toldOf}
+use Rattle.search.specs.Answers.{toldOf}
 use Rattle.performing.proofs.Laws.{byte-bit, step-asks, step-given, step-refused}
 use borrow.Author.Needs.{needs}
 use Rattle.performing.proofs.step.Statement.{statement}

@@ -2,7 +2,7 @@
 use mathlib.Core.Path.{subst}
 use native.Mathlib.Omega.{arith}
 use Rattle.limits.specs.Limits.{maxLinks}
-use Rattle.search.specs.Sound.{SaysIn}
+use Rattle.search.specs.Answers.{SaysIn}
 use Rattle.probing.proofs.Results.{named-link}
 use borrow.Author.Needs.{needs}
 use Rattle.probing.proofs.name_of.Statement.{statement}

@@ -4,7 +4,8 @@ use Prim.Native.Nat.{ℕ}
 use Rattle.answers.proofs.Beside.{accepted, on-giving, off-giving}
 use Rattle.planning.specs.Planning.{planningAt}
 use Rattle.probing.specs.Calls.{performedIn, performing}
-use Rattle.search.specs.Calls.{perform, begun, callsIn}
+use Rattle.search.specs.Calls.{perform, begun}
+use Rattle.search.specs.Answers.{callsIn}
 use Rattle.probing.proofs.Searching.{performs, performs-none}
 use Rattle.probing.proofs.Lent.{of-plan}
 use borrow.Author.Needs.{needs}

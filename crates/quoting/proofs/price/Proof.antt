@@ -10,7 +10,8 @@ use Rattle.plant.specs.declared.Plant.{Plant}
 use Rattle.senders.specs.declared.BySwitch.{BySwitch}
 use Rattle.senders.specs.Senders.{bySwitch}
 use Rattle.senders.specs.Placed.{Placed}
-use Rattle.quantity.specs.Quantity.{orderQuantity, quantityOf}
+use Rattle.quantity.specs.Quantity.{orderQuantity}
+use Rattle.quantity.specs.Answers.{quantityOf}
 use Rattle.plan.specs.Plan.{tableOf}
 use Rattle.plan.proofs.Totals.{placed}
 use Rattle.quoting.specs.Quotes.{sheetWith, pricing}

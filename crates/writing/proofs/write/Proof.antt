@@ -2,7 +2,7 @@
 use mathlib.Core.Path.{sym, ap, _∙_}
 use borrow.Author.Needs.{needs}
 use Rattle.answers.specs.Answers.{given}
-use Rattle.answers.specs.Checks.{Judges}
+use Rattle.answers.specs.Verdicts.{Judges}
 use Rattle.listing.proofs.WriteLaws.{writeChecks, judged-both, kept, write-refused, write-length, write-room, left-written}
 use Rattle.writing.proofs.write.Statement.{statement}
 use Rattle.writing.proofs.write.Tie as tie
