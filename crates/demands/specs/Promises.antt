@@ -5,7 +5,7 @@
 -- switch at which each begins, `trailOf p` their trails one after another; of a named switch x, `trailWith p x` is the trail of its
 -- component, `linkWith p x l` says whether link l is one of it, and `linksWith p x` is E.
 use Rattle.demands.specs.Vocabulary.{_≡_, true, false, Bool, List, ℕ, _≤_, _<_, T, given, answer, Plant, outOfService, reading}
-use Rattle.demands.specs.Vocabulary.{linksWith, linkWith, run, Together, Connected, Sheet, quotingFor}
+use Rattle.demands.specs.Vocabulary.{linksWith, linkWith, run, Together, Connected, Sheet}
 use Rattle.demands.specs.Names.{ReadAs}
 use Rattle.demands.specs.Conditions.{ConditionsAre}
 use Rattle.demands.specs.CheckingOrder.{CheckingOrder}
@@ -42,9 +42,8 @@ pub record Promises : Type 0 where
   -- order 2: rules for each switch; "both totals must be the same number for every plant", sound or not
   pub same-totals : (p : Plant) → SameTotals p
   pub by-switches : (s : List ℕ) (p : Plant) → ReadAs s p → BySwitches s p
-  -- order 3: the buying page of the counts c, for every spare that is not refused; and what a reader accepts
-  pub page-written : (s : List ℕ) (p : Plant) → ReadAs s p → (spare : ℕ) (c : Sheet) → answer (quotingFor s spare) ≡ given c
-      → PageWritten s p spare c
+  -- order 3: for every spare of 0 to 100 there are counts c, whose page is written; and what a reader accepts
+  pub page-written : (s : List ℕ) (p : Plant) → ReadAs s p → (spare : ℕ) → spare ≤ 100 → (c : Sheet) × PageWritten s p spare c
   pub page-form : (b : List ℕ) → PageForm b
   -- order 4: what counts as a probe
   pub counted : Counted

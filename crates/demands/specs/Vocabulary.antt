@@ -88,7 +88,7 @@ pub use Rattle.sheet.specs.Shown.{Shown, ThreeDigits}
 pub use Rattle.printing.specs.Output.{triple, printed}
 -- ---- the calls
 pub use Rattle.planner.specs.Calls.{placesShort, rewriting, rereading, summing, bridging, parting, tabling, counting, trailing}
-pub use Rattle.planner.specs.Calls.{roundTrailing, buying, rewritten, laidOut, boughtOut, roundLaidOut, quotingFor}
+pub use Rattle.planner.specs.Calls.{roundTrailing, buying, rewritten, laidOut, boughtOut, roundLaidOut}
 pub use Rattle.probing.specs.Calls.{running, checking, roundRunning, choosing, ordering, outgoing, probing, naming, beginning, performing}
 pub use Rattle.probing.specs.Calls.{outSpan, link, outLabels, probeEnd, choiceAt}
 pub use Rattle.probing.specs.Searches.{CeilLog, AllTrue, OneOfThree, Searches, actualOutcome, sentOver, Says}
