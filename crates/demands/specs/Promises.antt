@@ -14,6 +14,7 @@ use Rattle.demands.specs.Untouched.{Untouched}
 use Rattle.demands.specs.Demand2.{Demand2}
 use Rattle.demands.specs.SearchIs.{SearchIs}
 use Rattle.demands.specs.Demand3.{Demand3}
+use Rattle.demands.specs.Answered.{Answered, AnsweredAlways}
 use Rattle.demands.specs.Order1.{GotTo, PacketsTell}
 use Rattle.demands.specs.Order2.{SameTotals, BySwitches}
 use Rattle.demands.specs.Order3.{PageWritten, PageForm}
@@ -36,6 +37,9 @@ pub record Promises : Type 0 where
   pub search-is : SearchIs
   -- "the rule page is document 01's", and what a search does; order 4's promises with it
   pub demand-3 : (s : List ℕ) (p : Plant) → ReadAs s p → Demand3 s p
+  -- what calls answer that these say nothing of, and what `rules` prints
+  pub answered : (s : List ℕ) (p : Plant) → ReadAs s p → Answered s p
+  pub answered-always : AnsweredAlways
   -- order 1: where a packet got to, whatever the rules are; and what the calls tell
   pub got-to : (rule : ℕ → ℕ → Bool) (up : ℕ → Bool) (hd : ℕ → ℕ) (at : ℕ) (w : List ℕ) → GotTo rule up hd at w (run rule up hd at 0 w)
   pub packets-tell : (s : List ℕ) (p : Plant) → ReadAs s p → (x : ℕ) → x < p .switches → PacketsTell s p x
