@@ -49,7 +49,8 @@ use Rattle.probing.proofs.Injection.{order-length, links-few}
 use Rattle.probing.proofs.OutwardLabels.{outward-parts}
 use Rattle.text.specs.Ascii.{ascii}
 use Rattle.text.specs.Decimal.{decimal}
-use Rattle.text.specs.Lines.{space, newline, each, spaced, line, ruleLine, trailLine, pageOf}
+use Rattle.text.proofs.DecimalLaws.{decimal-last, decimal-more}
+use Rattle.text.specs.Lines.{each, spaced, line, ruleLine, trailLine, pageOf}
 use Rattle.printing.specs.Output.{triple, plantOutput, outputOf, printed}
 use Rattle.demands.specs.Names.{ringAt, orderAt}
 use Rattle.demands.specs.Answered.{BridgeFlags, OrderHanded, Sends, Outward, Named, Answered, AnsweredAlways}
@@ -67,16 +68,16 @@ unfolding flatten
 each-map f g [] = refl
 each-map f g (x ∷ xs) = ap (λ (l : List ℕ). f (g x) ++ l) (each-map f g xs)
 
-line-is : (word ns : List ℕ) → line word ns ≡ word ++ (flatten (map (λ n. space ∷ decimal n) ns) ++ (newline ∷ []))
+line-is : (word ns : List ℕ) → line word ns ≡ word ++ (flatten (map (λ n. 32 ∷ decimal n) ns) ++ (10 ∷ []))
 unfolding line
-line-is word ns = ap (λ (l : List ℕ). word ++ (l ++ (newline ∷ []))) (each-flat spaced ns)
+line-is word ns = ap (λ (l : List ℕ). word ++ (l ++ (10 ∷ []))) (each-flat spaced ns)
 
-refusal-prints : (s : List ℕ) (n : ℕ) → answer (reading s) ≡ refused n → printed s ≡ ascii "refused" ++ (space ∷ (decimal n ++ (newline ∷ [])))
+refusal-prints : (s : List ℕ) (n : ℕ) → answer (reading s) ≡ refused n → printed s ≡ ascii "refused" ++ (32 ∷ (decimal n ++ (10 ∷ [])))
 unfolding line
-refusal-prints s n e = ap outputOf e ∙ ap (λ (l : List ℕ). ascii "refused" ++ (space ∷ (l ++ (newline ∷ [])))) (append-nil (decimal n))
+refusal-prints s n e = ap outputOf e ∙ ap (λ (l : List ℕ). ascii "refused" ++ (32 ∷ (l ++ (10 ∷ [])))) (append-nil (decimal n))
 
 pub answered-always : AnsweredAlways
-answered-always = record { stretch = λ w b. refl; front = λ w b. refl; line-is = line-is; refusal-prints = refusal-prints }
+answered-always = record { stretch = λ w b. refl; front = λ w b. refl; line-is = line-is; decimal-digit = decimal-last; decimal-more = decimal-more; refusal-prints = refusal-prints }
 
 -- ---- a state that sends a probe
 

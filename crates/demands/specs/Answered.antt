@@ -3,8 +3,8 @@
 use Rattle.demands.specs.Vocabulary.{_≡_, _⊎_, _↔_, false, Bool, List, [], _∷_, _++_, map, flatten, ℕ, _≤_, _<_, _+_, _/_, T, length}
 use Rattle.demands.specs.Vocabulary.{drop, getD, take, at, given, refused, answer, Plant, live, maxLinks, reading, linksWith, roots}
 use Rattle.demands.specs.Vocabulary.{Bridge, liveLinks, bridges, trailFrom, nth, upTo, trailOf, rulesOf, Span, stretchOf, frontOf}
-use Rattle.demands.specs.Vocabulary.{Search, valuesOf, halving, IsAllUp, IsDown, Order, none, unknown, ascii, decimal, space, newline}
-use Rattle.demands.specs.Vocabulary.{line, printed, summing, bridging, ordering, outgoing, naming, link, outLabels}
+use Rattle.demands.specs.Vocabulary.{Search, valuesOf, halving, IsAllUp, IsDown, Order, none, unknown, ascii, decimal, line}
+use Rattle.demands.specs.Vocabulary.{_%_, printed, summing, bridging, ordering, outgoing, naming, link, outLabels}
 use Rattle.search.specs.Values.{checking}
 use Rattle.demands.specs.Names.{ringAt, orderAt}
 
@@ -77,8 +77,11 @@ pub record AnsweredAlways : Type 0 where
   -- the two parts of a lent trail, by the bounds that were answered (read aloud)
   pub stretch : (w : List ℕ) (b : Span) → stretchOf w b ≡ take (b .len) (drop (b .from) w)
   pub front : (w : List ℕ) (b : Span) → frontOf w b ≡ take (b .front) (drop (b .begin) w)
-  -- a line is its word, each number in decimal after a space, and the line's end; it "is the bare word if empty"
-  pub line-is : (word ns : List ℕ) → line word ns ≡ word ++ (flatten (map (λ n. space ∷ decimal n) ns) ++ (newline ∷ []))
+  -- a line is its word, each number in decimal after a space, 32, and the line's end, 10; it "is the bare word if empty"
+  pub line-is : (word ns : List ℕ) → line word ns ≡ word ++ (flatten (map (λ n. 32 ∷ decimal n) ns) ++ (10 ∷ []))
+  -- a number below ten is its digit; any other is a tenth of it, rounded down, and then the last digit
+  pub decimal-digit : (n : ℕ) → n < 10 → decimal n ≡ (48 + n) ∷ []
+  pub decimal-more : (n : ℕ) → 10 ≤ n → decimal n ≡ decimal (n / 10) ++ ((48 + n % 10) ∷ [])
   -- "a refusal prints only `refused`, a space and its number"
   pub refusal-prints : (s : List ℕ) (n : ℕ) → answer (reading s) ≡ refused n
-      → printed s ≡ ascii "refused" ++ (space ∷ (decimal n ++ (newline ∷ [])))
+      → printed s ≡ ascii "refused" ++ (32 ∷ (decimal n ++ (10 ∷ [])))

@@ -83,9 +83,10 @@ pub use Rattle.judging.specs.Conditions.{trailDiffers, hopsDiffer, statesShort,
 pub use Rattle.order.specs.declared.Order.{Order}
 pub use Rattle.probing.specs.Calls.{none, unknown}
 -- ---- the buying page, and what is printed
+pub use Prim.Native.Nat.{_%_}
 pub use Rattle.text.specs.Ascii.{ascii}
 pub use Rattle.text.specs.Decimal.{decimal}
-pub use Rattle.text.specs.Lines.{space, newline, line}
+pub use Rattle.text.specs.Lines.{line}
 pub use Rattle.text.specs.Lines.{summaryLine, ruleLines, trailLine}
 pub use Rattle.sheet.specs.declared.Sheet.{Sheet}
 pub use Rattle.sheet.specs.Columns.{lineColumns}
