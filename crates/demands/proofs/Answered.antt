@@ -128,9 +128,9 @@ module _ (s : List ℕ) (bytes : Bytes s) (p : Plant) (g : answer (reading s) �
 
   flags-are : BridgeFlags p (bridgeFlags p)
   flags-are = record {
-    places = flags-long;
-    each = λ l h. subst (λ (b : Bool). T b ↔ (T (live p l) × Bridge p l)) (sym (flag-at l (omega (arith, ok .few-links)))) (bridge-both l);
-    past = λ l h. past l h (below? l maxLinks);
+    flag-places = flags-long;
+    flag-set = λ l h. subst (λ (b : Bool). T b ↔ (T (live p l) × Bridge p l)) (sym (flag-at l (omega (arith, ok .few-links)))) (bridge-both l);
+    flag-past = λ l h. past l h (below? l maxLinks);
   }
     where
       past : (l : ℕ) → p .count ≤ l → (l < maxLinks) ⊎ (maxLinks ≤ l) → getD (bridgeFlags p) l false ≡ false
@@ -155,10 +155,10 @@ module _ (s : List ℕ) (bytes : Bytes s) (p : Plant) (g : answer (reading s) �
     order-handed : OrderHanded p x (listed (orderAt p x))
     unfolding listed
     order-handed = record {
-      number = order-length p ok x x-in;
-      places = padded-length maxLinks 0 (orderAt p x) ∙ omega (arith, order-length p ok x x-in, links-few p ok x x-in);
-      each = λ i h. padded-at maxLinks 0 (orderAt p x) i;
-      zeros = λ i h. padded-at maxLinks 0 (orderAt p x) i ∙ List·getD-eq-default (orderAt p x) 0 {n = i} (omega (arith, order-length p ok x x-in));
+      order-count = order-length p ok x x-in;
+      order-places = padded-length maxLinks 0 (orderAt p x) ∙ omega (arith, order-length p ok x x-in, links-few p ok x x-in);
+      order-each = λ i h. padded-at maxLinks 0 (orderAt p x) i;
+      order-zeros = λ i h. padded-at maxLinks 0 (orderAt p x) i ∙ List·getD-eq-default (orderAt p x) 0 {n = i} (omega (arith, order-length p ok x x-in));
     }
 
     ordered : answer (ordering s x (trailOf p)) ≡ given (listed (orderAt p x))

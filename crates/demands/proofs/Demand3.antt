@@ -32,10 +32,10 @@ use Rattle.probing.proofs.Searching.{searches}
 page-handed : (p : Plant) → Sound p → PageHanded p (tableOf p)
 unfolding tableWith
 page-handed p ok = record {
-  number = refl;
-  places = placed p ok .places;
-  each = λ i h. padded-at maxRules zeroRule (rulesOf p) i;
-  zeros = λ i h. padded-at maxRules zeroRule (rulesOf p) i ∙ List·getD-eq-default (rulesOf p) zeroRule {n = i} h;
+  page-count = refl;
+  page-places = placed p ok .places;
+  page-each = λ i h. padded-at maxRules zeroRule (rulesOf p) i;
+  page-zeros = λ i h. padded-at maxRules zeroRule (rulesOf p) i ∙ List·getD-eq-default (rulesOf p) zeroRule {n = i} h;
 }
 
 pub demand-3 : (s : List ℕ) → Bytes s → (p : Plant) → answer (reading s) ≡ given p → Demand3 s p

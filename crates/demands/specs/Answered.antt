@@ -10,17 +10,17 @@ use Rattle.demands.specs.Names.{ringAt, orderAt}
 
 -- the bridges as they are handed back: a flag for each link place, set for each bridge in service and for nothing else
 pub record BridgeFlags (p : Plant) (flags : List Bool) : Type 0 where
-  pub places : length flags ≡ maxLinks
+  pub flag-places : length flags ≡ maxLinks
   -- "a bridge is a link without which its two ends are not joined"
-  pub each : (l : ℕ) → l < p .count → T (getD flags l false) ↔ (T (live p l) × Bridge p l)
-  pub past : (l : ℕ) → p .count ≤ l → getD flags l false ≡ false
+  pub flag-set : (l : ℕ) → l < p .count → T (getD flags l false) ↔ (T (live p l) × Bridge p l)
+  pub flag-past : (l : ℕ) → p .count ≤ l → getD flags l false ≡ false
 
 -- the order of links from switch x as it is handed back: with its count, the places past it zero
 pub record OrderHanded (p : Plant) (x : ℕ) (o : Order) : Type 0 where
-  pub number : o .count ≡ linksWith p x
-  pub places : length (o .links) ≡ maxLinks
-  pub each : (i : ℕ) → i < linksWith p x → at (o .links) i ≡ at (orderAt p x) i
-  pub zeros : (i : ℕ) → linksWith p x ≤ i → at (o .links) i ≡ 0
+  pub order-count : o .count ≡ linksWith p x
+  pub order-places : length (o .links) ≡ maxLinks
+  pub order-each : (i : ℕ) → i < linksWith p x → at (o .links) i ≡ at (orderAt p x) i
+  pub order-zeros : (i : ℕ) → linksWith p x ≤ i → at (o .links) i ≡ 0
 
 -- q is a state that sends probe m in a search over e links, by its values: Checking (E), or Halving (low, high) with 1 ≤ low < high ≤ E,
 -- and 0 to 2 sendings lost

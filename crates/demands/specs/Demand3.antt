@@ -36,11 +36,11 @@ pub record RulePage (p : Plant) : Type 0 where
 
 -- the rule page as it is handed back, "by value with its count, unused places zero"
 pub record PageHanded (p : Plant) (t : Table) : Type 0 where
-  pub number : t .count ≡ length (rulesOf p)
-  pub places : length (t .rules) ≡ maxRules
+  pub page-count : t .count ≡ length (rulesOf p)
+  pub page-places : length (t .rules) ≡ maxRules
   -- its rules are those of `RulePage`, in their order
-  pub each : (i : ℕ) → i < length (rulesOf p) → getD (t .rules) i zeroRule ≡ getD (rulesOf p) i zeroRule
-  pub zeros : (i : ℕ) → length (rulesOf p) ≤ i → getD (t .rules) i zeroRule ≡ record { from = 0; label = 0; to = 0 }
+  pub page-each : (i : ℕ) → i < length (rulesOf p) → getD (t .rules) i zeroRule ≡ getD (rulesOf p) i zeroRule
+  pub page-zeros : (i : ℕ) → length (rulesOf p) ≤ i → getD (t .rules) i zeroRule ≡ record { from = 0; label = 0; to = 0 }
 
 -- for every listing that is read as a plant
 pub record Demand3 (s : List ℕ) (p : Plant) : Type 0 where
