@@ -5,6 +5,7 @@ use mathlib.Core.Bool.{true, false}
 use mathlib.Core.List.{List, _++_}
 use Prim.Native.Nat.{ℕ, _+_, _≤_, _<_}
 use native.Mathlib.Omega.{arith}
+use borrow.Author.Tests.{le-ltb}
 use lib.ListN.{length, drop}
 use Rattle.lists.specs.Arrays.{at}
 use Rattle.lists.proofs.Numbers.{values-at}
@@ -13,13 +14,13 @@ use Rattle.lists.proofs.Tests.{bool?}
 use Rattle.plant.specs.declared.Plant.{Plant}
 use Rattle.answers.specs.Answers.{given, refused}
 use Rattle.answers.specs.Checks.{answer}
-use Rattle.answers.proofs.Checks.{given-refused, goes-on, was-given}
+use Rattle.answers.proofs.Checks.{given-refused, goes-on, gives-so, was-given}
 use Rattle.codec.specs.Field.{Bytes}
 use Rattle.limits.specs.Limits.{maxSwitches}
 use Rattle.walks.specs.Graph.{linksAt}
 use Rattle.walks.proofs.LinksAt.{links-twice}
 use Rattle.senders.specs.Senders.{bySwitch}
-use Rattle.quantity.specs.Quantity.{orderQuantity}
+use Rattle.quantity.specs.Quantity.{maxSpare, withSpare, spareAbove, orderQuantity}
 use Rattle.plan.specs.Plan.{tableOf}
 use Rattle.plan.proofs.Totals.{totals}
 use Rattle.sheet.specs.declared.Sheet.{Sheet}
@@ -47,8 +48,8 @@ module _ (s : List ℕ) (bytes : Bytes s) (p : Plant) (e : answer (reading s) �
   counts-are : c ≡ sheetWith p (bySwitch (tableOf p)) (priced .0)
   counts-are = sym (priced .2)
 
-  pub page-written : PageWritten s p spare c
-  page-written =
+  page-of : PageWritten s p spare c
+  page-of =
       let ok = decode-sound s p bytes e in
       let t = totals p ok in
       let n : c .switches ≡ p .switches = ap (λ (d : Sheet). d .switches) counts-are in
@@ -71,6 +72,24 @@ module _ (s : List ℕ) (bytes : Bytes s) (p : Plant) (e : answer (reading s) �
         too-short = λ b h. buying-short s spare b c q (omega (arith, n));
         read-back = read-of-written c shown;
       }
+
+-- there are such counts for every spare that is not refused
+module _ (s : List ℕ) (bytes : Bytes s) (p : Plant) (e : answer (reading s) ≡ given p) (spare : ℕ) (h : spare ≤ 100) where
+  abbrev counts : Sheet
+  counts = sheetWith p (bySwitch (tableOf p)) (withSpare (bySwitch (tableOf p) .total) spare)
+
+  priced-so : answer (orderQuantity (bySwitch (tableOf p) .total) spare) ≡ given (withSpare (bySwitch (tableOf p) .total) spare)
+  unfolding orderQuantity spareAbove
+  priced-so = rw (le-ltb maxSpare spare h) refl
+
+  quoted : answer (quotingFor s spare) ≡ given counts
+  unfolding quotingFor pricing
+  quoted =
+      goes-on (reading s) (λ r. pricing r spare) p e
+      ∙ gives-so (orderQuantity (bySwitch (tableOf p) .total) spare) (sheetWith p (bySwitch (tableOf p))) (withSpare (bySwitch (tableOf p) .total) spare) priced-so
+
+  pub page-written : (c : Sheet) × PageWritten s p spare c
+  page-written = (counts, page-of s bytes p e spare counts quoted)
 
 module _ (b : List ℕ) where
   outside : formed b ≡ false → answer (readingPage b) ≡ refused 18

@@ -12,6 +12,7 @@ pub mod Demand2
 pub mod SearchIs
 pub mod Naming
 pub mod Demand3
+pub mod Answered
 pub mod Ceilings
 pub mod BySwitches
 pub mod BuyingPages

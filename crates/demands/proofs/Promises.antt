@@ -7,6 +7,7 @@ use Rattle.demands.proofs.Demand1.{demand-1, untouched}
 use Rattle.demands.proofs.Demand2.{demand-2}
 use Rattle.demands.proofs.SearchIs.{search-is}
 use Rattle.demands.proofs.Demand3.{demand-3}
+use Rattle.demands.proofs.Answered.{answered, answered-always}
 use Rattle.demands.proofs.GotTo.{got-to, packets-tell}
 use Rattle.demands.proofs.BySwitches.{same-totals-of, by-switches}
 use Rattle.demands.proofs.BuyingPages.{page-written, page-form}
@@ -26,6 +27,8 @@ promises = record {
   demand-2 = demand-2;
   search-is = search-is;
   demand-3 = λ s p r. demand-3 s (r .bytes) p (r .read);
+  answered = λ s p r. answered s (r .bytes) p (r .read);
+  answered-always = answered-always;
   got-to = got-to;
   packets-tell = λ s p r. packets-tell s (r .bytes) p (r .read);
   same-totals = same-totals-of;

@@ -1,9 +1,9 @@
 -- Demand 3: the rule page and the search.
 use Rattle.demands.specs.Vocabulary.{_≡_, _↔_, true, List, map, flatten, ℕ, _≤_, _<_, _+_, _*_, T, length, getD, count, In, Distinct}
 use Rattle.demands.specs.Vocabulary.{memb, given, answer, Plant, live, linksWith, roots, liveLinks, Crosses, ClosedWalk, ClosedWalks}
-use Rattle.demands.specs.Vocabulary.{bridges, trailFrom, FirstDown, nth, upBy, tableWith, trailOf, ruleOf, rulesOf, Call, perform}
+use Rattle.demands.specs.Vocabulary.{bridges, trailFrom, FirstDown, nth, upBy, zeroRule, trailOf, ruleOf, rulesOf, Call, perform}
 use Rattle.demands.specs.Vocabulary.{begun, ended, newSearch, IsDown, tabling, naming, beginning, performing, link, AllTrue}
-use Rattle.demands.specs.Vocabulary.{OneOfThree, Searches}
+use Rattle.demands.specs.Vocabulary.{OneOfThree, Searches, maxRules, Table}
 use Rattle.demands.specs.Names.{orderAt}
 
 -- the labels of the rules
@@ -34,10 +34,18 @@ pub record RulePage (p : Plant) : Type 0 where
   pub attained : ClosedWalks p (map (trailFrom p) (roots p)) × ((l : ℕ) → T (live p l) → Crosses l (trailOf p))
       × (arcsCrossed p (trailOf p) ≡ length (rulesOf p))
 
+-- the rule page as it is handed back, "by value with its count, unused places zero"
+pub record PageHanded (p : Plant) (t : Table) : Type 0 where
+  pub page-count : t .count ≡ length (rulesOf p)
+  pub page-places : length (t .rules) ≡ maxRules
+  -- its rules are those of `RulePage`, in their order
+  pub page-each : (i : ℕ) → i < length (rulesOf p) → getD (t .rules) i zeroRule ≡ getD (rulesOf p) i zeroRule
+  pub page-zeros : (i : ℕ) → length (rulesOf p) ≤ i → getD (t .rules) i zeroRule ≡ record { from = 0; label = 0; to = 0 }
+
 -- for every listing that is read as a plant
 pub record Demand3 (s : List ℕ) (p : Plant) : Type 0 where
   -- "the rule page is document 01's"
-  pub page : answer (tabling s) ≡ given (tableWith (rulesOf p))
+  pub page : (t : Table) × (answer (tabling s) ≡ given t) × PageHanded p t
   pub rules : RulePage p
   -- "for every list of calls that ask for a probe or give a fate, refused ones included, after a new search over E links from any injection
   -- switch": the search begins, the calls lead to r, and what holds of r is one statement, `Searches` of probing/specs/Searches

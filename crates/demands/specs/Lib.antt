@@ -8,6 +8,7 @@ pub mod Untouched
 pub mod Demand2
 pub mod SearchIs
 pub mod Demand3
+pub mod Answered
 pub mod Ceilings
 pub mod Order1
 pub mod Order2

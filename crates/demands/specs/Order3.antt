@@ -3,7 +3,7 @@ use Rattle.demands.specs.Vocabulary.{_≡_, _↔_, true, false, List, _+
 use Rattle.demands.specs.Vocabulary.{answer, Plant, liveLinks, bridges, linksAt, sentBy, rulesOf, orderQuantity, Sheet, lineColumns}
 use Rattle.demands.specs.Vocabulary.{formed, readingPage, buyingPage, switchLine, totalLine, Shown, ThreeDigits, buying, boughtOut}
 
--- for every listing s that is read as a plant p, and every spare that is not refused: what the page of the counts c is
+-- for every listing s that is read as a plant p, and a spare that is not refused: what the page of the counts c is
 pub record PageWritten (s : List ℕ) (p : Plant) (spare : ℕ) (c : Sheet) : Type 0 where
   -- the rules of each switch are order 2's, and the links at it the plant's own; each link is at two switches
   pub switches : c .switches ≡ p .switches

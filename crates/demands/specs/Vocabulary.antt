@@ -52,7 +52,8 @@ pub use Rattle.rings.specs.Ring.{FirstHop}
 pub use Rattle.rings.specs.Round.{upByLabel, EveryUp, Vouches, linkBytes, Together}
 pub use Rattle.rings.specs.Rules.{inAll, allRules, upBy, upByLink}
 -- ---- the plan of a plant: its trails, rules and components, and the rules by sending switch
-pub use Rattle.table.specs.Rules.{tableWith, rulesIn, tableIn}
+pub use Rattle.table.specs.declared.Table.{Table}
+pub use Rattle.table.specs.Rules.{zeroRule, rulesIn, tableIn}
 pub use Rattle.senders.specs.Senders.{sentBy, pastSenders, bySwitch}
 pub use Rattle.plan.specs.Plan.{trailOf, roundOf, trailWith, trailBegin, inTable, ruleOf, rulesOf, roundWith, tableOf, roundBegin}
 pub use Rattle.plan.specs.Plan.{Connected}
@@ -78,7 +79,14 @@ pub use Rattle.search.specs.Values.{IsAllUp, IsDown, IsReturned, IsLost, Values
 pub use Rattle.packet.specs.Outcome.{outcomeOf}
 -- ---- the conditions on what is lent and on a search
 pub use Rattle.judging.specs.Conditions.{trailDiffers, hopsDiffer, statesShort, searchUnsound}
+-- ---- values that calls hand back
+pub use Rattle.order.specs.declared.Order.{Order}
+pub use Rattle.probing.specs.Calls.{none, unknown}
 -- ---- the buying page, and what is printed
+pub use Prim.Native.Nat.{_%_}
+pub use Rattle.text.specs.Ascii.{ascii}
+pub use Rattle.text.specs.Decimal.{decimal}
+pub use Rattle.text.specs.Lines.{line}
 pub use Rattle.text.specs.Lines.{summaryLine, ruleLines, trailLine}
 pub use Rattle.sheet.specs.declared.Sheet.{Sheet}
 pub use Rattle.sheet.specs.Columns.{lineColumns}
@@ -88,7 +96,7 @@ pub use Rattle.sheet.specs.Shown.{Shown, ThreeDigits}
 pub use Rattle.printing.specs.Output.{triple, printed}
 -- ---- the calls
 pub use Rattle.planner.specs.Calls.{placesShort, rewriting, rereading, summing, bridging, parting, tabling, counting, trailing}
-pub use Rattle.planner.specs.Calls.{roundTrailing, buying, rewritten, laidOut, boughtOut, roundLaidOut, quotingFor}
+pub use Rattle.planner.specs.Calls.{roundTrailing, buying, rewritten, laidOut, boughtOut, roundLaidOut}
 pub use Rattle.probing.specs.Calls.{running, checking, roundRunning, choosing, ordering, outgoing, probing, naming, beginning, performing}
 pub use Rattle.probing.specs.Calls.{outSpan, link, outLabels, probeEnd, choiceAt}
 pub use Rattle.probing.specs.Searches.{CeilLog, AllTrue, OneOfThree, Searches, actualOutcome, sentOver, Says}
