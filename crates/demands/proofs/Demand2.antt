@@ -1,9 +1,11 @@
 -- Demand 2 holds: the plan, packets and probes are document 01's, and the round trips of the listing and of the calls keep bytes and plants. Assumes nothing.
-use mathlib.Core.Path.{_≡_, refl, sym, ap, _∙_}
+use mathlib.Core.Path.{_≡_, refl, sym, ap, _∙_, subst}
 use mathlib.Core.List.{List, [], _∷_, _++_}
 use Prim.Native.Nat.{ℕ, _≤_}
 use borrow.Author.Tests.{le-ltb}
-use lib.ListN.{length, drop}
+use native.Mathlib.Omega.{arith}
+use lib.ListN.{length, take, drop}
+use lib.Seq.{take-at}
 use Rattle.lists.specs.Members.{In}
 use Rattle.plant.specs.declared.Plant.{Plant}
 use Rattle.answers.specs.Answers.{given}
@@ -11,10 +13,11 @@ use Rattle.answers.specs.Checks.{check, answer, leaves}
 use Rattle.answers.proofs.Checks.{goes-on, gives-so}
 use Rattle.limits.specs.Sound.{Sound}
 use Rattle.listing.specs.Listing.{encode, reading}
-use Rattle.listing.specs.Writing.{bufferShort, writing}
+use Rattle.codec.specs.Field.{Bytes}
+use Rattle.listing.specs.Writing.{bufferShort, writing, bufferAfter}
 use Rattle.listing.proofs.Longest.{longestPlant, longest, longest-attained}
-use Rattle.listing.proofs.RoundTrip.{read-write, write-read, decode-sound}
-use Rattle.listing.proofs.WriteRoundTrip.{sound-written, buffer-written}
+use Rattle.listing.proofs.RoundTrip.{read-write, write-read, decode-sound, encode-bytes}
+use Rattle.listing.proofs.WriteRoundTrip.{sound-exactly, written-given, sound-written, buffer-written, written-read}
 use Rattle.walks.specs.Components.{roots}
 use Rattle.walks.proofs.Valid.{sound-valid}
 use Rattle.walks.proofs.Tests.{bridge-is}
@@ -37,6 +40,12 @@ rewrites s b p e h = goes-on (reading s) (λ _. check ((16, bufferShort s b) ∷
 rereads : (p : Plant) (b : List ℕ) → Sound p → length (encode p) ≤ length b → answer (rereading p b) ≡ given p
 unfolding rereading
 rereads p b ok h = gives-so (writing p b) (λ _. p) (length (encode p)) (sound-written p b ok h)
+
+-- what the writer leaves in front is bytes
+first-bytes : (p : Plant) (b : List ℕ) (n : ℕ) → answer (writing p b) ≡ given n → Bytes (take n (bufferAfter p b))
+first-bytes p b n e =
+    let front : take n (bufferAfter p b) ≡ encode p = ap (take n) (buffer-written p b n e) ∙ take-at (encode p) (drop (length (encode p)) b) n (written-given p b n e .2) in
+    subst Bytes (sym front) (encode-bytes p)
 
 trail-is : (p : Plant) → Sound p → (r : ℕ) → In r (roots p) → TrailIs p r
 trail-is p ok r i =
@@ -67,11 +76,20 @@ unfolding rewritten trailing laidOut
 demand-2 = record {
   most-hops = refl;
   read-write = λ s p r. read-write s p (r .bytes) (r .read);
-  write-read = write-read;
+  write-read = λ p ok. record { bytes = encode-bytes p; read = write-read p ok };
   rewrite = λ s b p q h. let r = rewrites s b p (q .read) h in (r, ap (leaves (λ n. s ++ drop n b) b) r);
   reread = λ p b ok h. (rereads p b ok h, buffer-written p b (length (encode p)) (sound-written p b ok h));
+  written = λ p b n e.
+      let w = written-given p b n e in
+      (w .2, omega (arith, w .1, w .2), buffer-written p b n e ∙ ap (λ (k : ℕ). encode p ++ drop k b) (w .2));
+  accepts = λ p b places tags. (
+    λ r. let w = written-given p b (r .0) (r .1) in (sound-exactly p (record { places = places; tags = tags }) .0 (w .0), w .1),
+    λ h. (length (encode p), sound-written p b (h .0) (h .1)),
+  );
+  written-read = λ p b n places tags e.
+      record { bytes = first-bytes p b n e; read = written-read p b n (record { places = places; tags = tags }) e };
   longest = longest;
-  as-long = (longestPlant, longest-attained .0, longest-attained .1);
+  as-long = (longestPlant, longest-attained .0, record { bytes = encode-bytes longestPlant; read = longest-attained .1 });
   sound = λ s p r. decode-sound s p (r .bytes) (r .read);
   plan = λ s p r. plan-is p (decode-sound s p (r .bytes) (r .read));
   laid = λ s b p e h.

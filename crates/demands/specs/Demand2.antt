@@ -1,12 +1,12 @@
 -- Demand 2: the definitions are document 01's, the round trips and the trail.
-use Rattle.demands.specs.Vocabulary.{_≡_, _↔_, true, false, Bool, List, [], _∷_, _++_, ℕ, suc, _≤_, _<_, _+_, _*_, _-_, _/_, T}
+use Rattle.demands.specs.Vocabulary.{_≡_, _↔_, true, false, Bool, List, [], _∷_, _++_, ℕ, suc, _≤_, _<_, _+_, _*_, _-_, _/_, _^_, T}
 use Rattle.demands.specs.Vocabulary.{length, drop, getD, take, count, In, Distinct, range, keep, given, answer, Plant, live}
 use Rattle.demands.specs.Vocabulary.{maxSwitches, maxRules, maxHops, Sound, reading, encode, bufferAfter, tail, head, Arc, visitLinks}
 use Rattle.demands.specs.Vocabulary.{linksWith, rootOf, roots, componentOf, linkWith, used, To, Bridge, bridge, liveLinks}
 use Rattle.demands.specs.Vocabulary.{visitedFrom, enteredFrom, earlierFrom, usedFrom, Fewest, distanceFrom, trailFrom, TrailByRule}
 use Rattle.demands.specs.Vocabulary.{nth, run, upTo, back, FirstHop, inAll, allRules, trailOf, trailWith, trailBegin, inTable}
 use Rattle.demands.specs.Vocabulary.{AreTrails, Span, rewriting, rereading, trailing, rewritten, laidOut}
-use Rattle.demands.specs.Vocabulary.{outSpan}
+use Rattle.demands.specs.Vocabulary.{outSpan, maxLinks, linkAt, writing}
 use Rattle.demands.specs.Names.{ReadAs, ringAt, orderAt, placeAt, probeRunAt}
 
 -- the components of a plant: what is joined over links in service, and in which order they are planned (document 02, order 9)
@@ -121,15 +121,24 @@ pub record Demand2 : Type 0 where
   pub most-hops : maxHops ≡ maxRules * maxSwitches + (maxSwitches - 1)
   -- what was read is written as the bytes that were read, and what was written is read as the plant that was written
   pub read-write : (s : List ℕ) (p : Plant) → ReadAs s p → encode p ≡ s
-  pub write-read : (p : Plant) → Sound p → answer (reading (encode p)) ≡ given p
+  pub write-read : (p : Plant) → Sound p → ReadAs (encode p) p
   -- so it is with the calls: the buffer begins with the listing, bytes past it stay, and they read it back
   pub rewrite : (s b : List ℕ) (p : Plant) → ReadAs s p → length s ≤ length b
       → (answer (rewriting s b) ≡ given (length s)) × (rewritten s b ≡ s ++ drop (length s) b)
   pub reread : (p : Plant) (b : List ℕ) → Sound p → length (encode p) ≤ length b
       → (answer (rereading p b) ≡ given p) × (bufferAfter p b ≡ encode p ++ drop (length (encode p)) b)
+  -- so it is with any plant value that the writer accepts: it answers the length n of the listing, and bytes past it stay. The type of a
+  -- plant gives it as many link places as a plant can have links, and tags of 16 bits; with these, the writer accepts p exactly if p is
+  -- sound and there is room for its listing, and the first n bytes are read back as p
+  pub written : (p : Plant) (b : List ℕ) (n : ℕ) → answer (writing p b) ≡ given n
+      → (length (encode p) ≡ n) × (n ≤ length b) × (bufferAfter p b ≡ encode p ++ drop n b)
+  pub accepts : (p : Plant) (b : List ℕ) → length (p .links) ≡ maxLinks → ((l : ℕ) → l < maxLinks → linkAt p l .tag < 2 ^ 16)
+      → ((n : ℕ) × (answer (writing p b) ≡ given n)) ↔ (Sound p × (length (encode p) ≤ length b))
+  pub written-read : (p : Plant) (b : List ℕ) (n : ℕ) → length (p .links) ≡ maxLinks → ((l : ℕ) → l < maxLinks → linkAt p l .tag < 2 ^ 16)
+      → answer (writing p b) ≡ given n → ReadAs (take n (bufferAfter p b)) p
   -- "the longest sound listing has 1,285 bytes": none has more, and one has as many
   pub longest : (s : List ℕ) (p : Plant) → answer (reading s) ≡ given p → length s ≤ 1285
-  pub as-long : (p : Plant) × (length (encode p) ≡ 1285) × (answer (reading (encode p)) ≡ given p)
+  pub as-long : (p : Plant) × (length (encode p) ≡ 1285) × ReadAs (encode p) p
   -- what is read is sound
   pub sound : (s : List ℕ) (p : Plant) → ReadAs s p → Sound p
   -- the plan of a listing is document 01's, component by component
