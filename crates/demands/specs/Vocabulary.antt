@@ -7,7 +7,7 @@ pub use mathlib.Core.Bool.{true, false, not, Bool, _&&_, _||_}
 pub use mathlib.Core.List.{List, [], _∷_, _++_, map, flatten}
 pub use Prim.Native.Nat.{ℕ, suc, _≤_, _<_, _+_, _*_, _-_, _/_, _^_, zero}
 pub use lib.Dec.{T, ltb, leb}
-pub use lib.ListN.{length, drop, getD, take}
+pub use lib.ListN.{length, drop, getD, take, replicate}
 -- ---- lists, further
 pub use Rattle.lists.specs.Arrays.{at}
 pub use Rattle.lists.specs.Count.{count}
@@ -26,7 +26,7 @@ pub use Rattle.limits.specs.Limits.{maxSwitches, maxLinks, maxRules, maxHops}
 pub use Rattle.limits.specs.Sound.{Sound}
 -- ---- the listing: its parts and fields, read and written
 pub use Rattle.codec.specs.declared.Field.{Field}
-pub use Rattle.codec.specs.Field.{Bytes}
+pub use Rattle.codec.specs.Field.{Bytes, number}
 pub use Rattle.codec.specs.Given.{bitAt, SomeGiven, EndsBefore, HoldsAbsent}
 pub use Rattle.codec.specs.Part.{mapMissing, mapUndefined, fieldMissing, fieldRedundant, fieldValues, mapByte, part, partBytes}
 pub use Rattle.listing.specs.Listing.{headerFields, linkFields, linkFrom, headerOutOfRange, endOutOfRange, selfLink, bytesRemain, header}
