@@ -1,13 +1,18 @@
 -- Demand 2 holds: the plan, packets and probes are document 01's, and the round trips of the listing and of the calls keep bytes and plants. Assumes nothing.
 use mathlib.Core.Path.{_≡_, refl, sym, ap, _∙_, subst}
 use mathlib.Core.List.{List, [], _∷_, _++_}
-use Prim.Native.Nat.{ℕ, _≤_}
-use borrow.Author.Tests.{le-ltb}
+use mathlib.Core.Logic.{_↔_}
+use mathlib.Core.Bool.{false, not}
+use Prim.Native.Nat.{ℕ, zero, suc, _≤_, _<_}
+use borrow.Author.Tests.{le-ltb, eqb-true, eqb-false, eq-eqb, ne-eqb, not-true, not-false}
+use lib.Dec.{T, eqb}
 use native.Mathlib.Omega.{arith}
-use lib.ListN.{length, take, drop}
+use lib.ListN.{length, getD, take, drop}
 use lib.Seq.{take-at}
 use Rattle.lists.specs.Members.{In}
+use Rattle.lists.proofs.Tests.{T-true, true-T}
 use Rattle.plant.specs.declared.Plant.{Plant}
+use Rattle.plant.specs.Links.{live, outOfService}
 use Rattle.answers.specs.Answers.{given}
 use Rattle.answers.specs.Checks.{check, answer, leaves}
 use Rattle.answers.proofs.Checks.{goes-on, gives-so}
@@ -19,19 +24,22 @@ use Rattle.listing.proofs.Longest.{longestPlant, longest, longest-attained}
 use Rattle.listing.proofs.RoundTrip.{read-write, write-read, decode-sound, encode-bytes}
 use Rattle.listing.proofs.WriteRoundTrip.{sound-exactly, written-given, sound-written, buffer-written, written-read}
 use Rattle.walks.specs.Components.{roots}
+use Rattle.walks.proofs.Live.{live-below, live-listed}
+use Rattle.walks.proofs.Labels.{opposite-even, opposite-odd, tail-even, head-even, tail-odd, head-odd}
 use Rattle.walks.proofs.Valid.{sound-valid}
 use Rattle.walks.proofs.Tests.{bridge-is}
 use Rattle.walks.proofs.ByLinks.{visited-by-links}
 use Rattle.walks.proofs.Components.{used-arc, used-of, listed-in}
 use Rattle.routes.proofs.Plants.{distance-fewest, by-rule, only-by-rule}
+use Rattle.rings.specs.Rules.{upBy}
 use Rattle.plan.specs.Plan.{trailOf}
 use Rattle.plan.proofs.Trails.{trails-are}
 use Rattle.planner.specs.Calls.{rewriting, rewritten, rereading, trailing, laidOut}
 use Rattle.planner.proofs.Trailing.{lay-enough, laid-by, trail-given, left-given}
-use Rattle.demands.specs.Demand2.{TrailIs, PlanIs, Demand2}
+use Rattle.demands.specs.Demand2.{LabelsAre, StatesAre, TrailIs, PlanIs, Demand2}
 use Rattle.demands.proofs.Packets.{run-is, rules-are, injection-is}
 use Rattle.demands.proofs.Components.{components-are}
-use Rattle.demands.proofs.InUse.{in-use}
+use Rattle.demands.proofs.InUse.{visit-order, in-use}
 
 rewrites : (s b : List ℕ) (p : Plant) → answer (reading s) ≡ given p → length s ≤ length b → answer (rewriting s b) ≡ given (length s)
 unfolding rewriting bufferShort
@@ -46,6 +54,39 @@ first-bytes : (p : Plant) (b : List ℕ) (n : ℕ) → answer (writing p b) ≡ 
 first-bytes p b n e =
     let front : take n (bufferAfter p b) ≡ encode p = ap (take n) (buffer-written p b n e) ∙ take-at (encode p) (drop (length (encode p)) b) n (written-given p b n e .2) in
     subst Bytes (sym front) (encode-bytes p)
+
+-- ---- labels and link states
+
+live-is : (p : Plant) (l : ℕ) → T (live p l) ↔ ((l < p .count) × (outOfService p l ≡ false))
+live-is p l = (
+  λ t. let h = live-below p l t in (h, not-true (outOfService p l) (sym (live-listed p l h) ∙ T-true (live p l) t)),
+  λ q. true-T (live p l) (live-listed p l (q .0) ∙ ap not (q .1)),
+)
+
+labels-are : (p : Plant) (l : ℕ) → LabelsAre p l
+labels-are p l = record {
+  crosses = (tail-even p l, head-even p l);
+  crosses-back = (tail-odd p l, head-odd p l);
+  opposites = (opposite-even l, opposite-odd l);
+  in-service = live-is p l;
+}
+
+getD-past : (s : List ℕ) (l : ℕ) → length s ≤ l → getD s l 0 ≡ 0
+getD-past [] l h = refl
+getD-past (b ∷ s) zero h = absurd (omega arith)
+getD-past (b ∷ s) (suc l) h = getD-past s l (omega arith)
+
+states-are : (states : List ℕ) → StatesAre states
+unfolding upBy
+states-are states = record {
+  down = λ l h. (λ e. eqb-true (getD states l 0) 0 (not-false (eqb (getD states l 0) 0) e), λ e. ap not (eq-eqb (getD states l 0) 0 e));
+  up = λ l h. (
+    λ e. let n : getD states l 0 ≡ 0 → ⊥ = eqb-false (getD states l 0) 0 (not-true (eqb (getD states l 0) 0) e) in omega (arith, n),
+    λ e. ap not (ne-eqb (getD states l 0) 0 (λ z. omega arith)),
+  );
+  past = λ l h. ap not (eq-eqb (getD states l 0) 0 (getD-past states l h));
+  by-link = λ a. refl;
+}
 
 trail-is : (p : Plant) → Sound p → (r : ℕ) → In r (roots p) → TrailIs p r
 trail-is p ok r i =
@@ -65,6 +106,7 @@ plan-is p ok =
       components = components-are p ok;
       bridges = λ l h. bridge-is p valid l h;
       visit = λ r deep i h. visited-by-links p valid r deep (listed-in p valid (ok .start-in) r i) h;
+      visit-order = visit-order p ok;
       in-use = in-use p ok;
       in-service = used-arc p;
       each-trail = trail-is p ok;
@@ -95,6 +137,8 @@ demand-2 = record {
   laid = λ s b p e h.
       let r = lay-enough (trailOf p) b h (length (trailOf p)) refl in
       (sym (r ∙ trail-given trailOf s b p e), sym (laid-by (trailOf p) b _ r ∙ left-given trailOf s b p e));
+  labels = labels-are;
+  states = states-are;
   run = run-is;
   rules = rules-are;
   injection = λ s p r. injection-is p (decode-sound s p (r .bytes) (r .read));

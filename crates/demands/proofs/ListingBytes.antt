@@ -4,6 +4,7 @@ use mathlib.Core.Logic.{_⊎_, inl, inr, _↔_}
 use mathlib.Core.Bool.{Bool, true, false, not}
 use mathlib.Core.List.{List, [], _∷_, _++_}
 use Prim.Native.Nat.{ℕ, zero, suc, _+_, _-_, _*_, _/_, _%_, _^_, _≤_, _<_}
+use native.Mathlib.Nat.{div-one, div-div-eq-div-mul, pow-succ'}
 use native.Mathlib.Omega.{arith}
 use borrow.Author.Tests.{le-ltb, ltb-false, eqb-true, eqb-false, eq-eqb, ne-eqb}
 use lib.Dec.{eqb}
@@ -373,8 +374,13 @@ of-listing s p k =
     ∙ goes-on (links (p .switches) (p .count) zeroLink (k .after-header)) (λ q. check [] (withLinks h (q .0), q .1)) (ls, []) read
     ∙ ap (λ (q : Plant). given (q, [])) (with-own s p k))
 
+bit-is : (m i : ℕ) → bitAt m i ≡ m / 2 ^ i % 2
+bit-is m zero = sym (ap (λ (n : ℕ). n % 2) (div-one m))
+bit-is m (suc i) = bit-is (m / 2) i ∙ ap (λ (n : ℕ). n % 2) (div-div-eq-div-mul m 2 (2 ^ i) ∙ ap (λ (d : ℕ). m / d) (sym (pow-succ' 2 i)))
+
 pub listing-bytes : ListingBytes
 listing-bytes = record {
+  bit = bit-is;
   one-byte = λ a. omega arith;
   two-bytes = λ a b. omega arith;
   header-is = λ s p t. (header-of s (p, t), header-as s p t);

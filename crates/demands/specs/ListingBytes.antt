@@ -1,7 +1,8 @@
 -- Document 01, "Listing bytes": what the bytes of a listing say, field by field, with document 02's order 7 for bit 3 of a link. A listing
 -- is read as a plant exactly if its bytes are laid out so.
 use Rattle.demands.specs.Vocabulary.{_≡_, _↔_, true, List, [], _∷_, _++_, ℕ, _≤_, _<_, _+_, _*_, _^_, length, take, replicate, given}
-use Rattle.demands.specs.Vocabulary.{answer, Link, Plant, zeroLink, linkAt, maxSwitches, maxLinks, number, bitAt, header, links, reading}
+use Rattle.demands.specs.Vocabulary.{answer, Link, Plant, zeroLink, linkAt, maxSwitches, maxLinks, number, bitAt, header, links}
+use Rattle.demands.specs.Vocabulary.{reading, _/_, _%_}
 use Rattle.listing.specs.Listing.{link}
 
 -- a field of so many bytes, by its bit of the map: s are the bytes from its place on, v is its value, and t are the bytes after it
@@ -72,6 +73,8 @@ pub record ListingIs (s : List ℕ) (p : Plant) : Type 0 where
   pub zeros : (l : ℕ) → p .count ≤ l → linkAt p l ≡ zeroLink
 
 pub record ListingBytes : Type 0 where
+  -- bit i of a map
+  pub bit : (m i : ℕ) → bitAt m i ≡ m / 2 ^ i % 2
   -- the number in the bytes of a field; "two-byte fields have the low byte first" (read aloud)
   pub one-byte : (a : ℕ) → number (a ∷ []) ≡ a
   pub two-bytes : (low high : ℕ) → number (low ∷ high ∷ []) ≡ low + 2 ^ 8 * high

@@ -5,7 +5,7 @@ pub use mathlib.Core.Path.{_≡_}
 pub use mathlib.Core.Logic.{_⊎_, _↔_}
 pub use mathlib.Core.Bool.{true, false, not, Bool, _&&_, _||_}
 pub use mathlib.Core.List.{List, [], _∷_, _++_, map, flatten}
-pub use Prim.Native.Nat.{ℕ, suc, _≤_, _<_, _+_, _*_, _-_, _/_, _^_, zero}
+pub use Prim.Native.Nat.{ℕ, suc, _≤_, _<_, _+_, _*_, _-_, _/_, _%_, _^_, zero}
 pub use lib.Dec.{T, ltb, leb}
 pub use lib.ListN.{length, drop, getD, take, replicate}
 -- ---- lists, further
