@@ -1,34 +1,34 @@
 -- A listing is read as a plant exactly if its bytes are laid out as document 01 says, field by field. Assumes nothing.
-use mathlib.Core.Path.{_≡_, refl, sym, ap, ap₂, _∙_, subst}
-use mathlib.Core.Logic.{_⊎_, inl, inr, _↔_}
+use mathlib.Core.Path.{_≡_, refl, sym, ap, _∙_, subst}
+use mathlib.Core.Logic.{_↔_}
 use mathlib.Core.Bool.{Bool, true, false, not}
 use mathlib.Core.List.{List, [], _∷_, _++_}
-use Prim.Native.Nat.{ℕ, zero, suc, _+_, _-_, _*_, _/_, _%_, _^_, _≤_, _<_}
+use Prim.Native.Nat.{ℕ, zero, suc, _+_, _-_, _/_, _%_, _^_, _≤_, _<_}
 use native.Mathlib.Nat.{div-one, div-div-eq-div-mul, pow-succ'}
 use native.Mathlib.Omega.{arith}
 use borrow.Author.Tests.{le-ltb, ltb-false, eqb-true, eqb-false, eq-eqb, ne-eqb}
 use lib.Dec.{eqb}
 use lib.ListN.{length, getD, take, drop, replicate, length-append, length-drop, length-replicate, take-append-drop}
 use lib.Seq.{drop-drop, take-at, drop-at, length-take-le, getD-drop, ext-getD}
-use Rattle.lists.proofs.Tests.{bool?, or-false, not-both, not-true-false}
+use Rattle.lists.proofs.Tests.{or-false, not-both, not-true-false}
 use Rattle.lists.specs.Count.{bit}
 use Rattle.lists.proofs.Members.{getD-same}
 use Rattle.plant.specs.declared.Link.{Link}
 use Rattle.plant.specs.declared.Plant.{Plant}
-use Rattle.plant.specs.Links.{zeroLink, marked, plantWith, linkAt}
+use Rattle.plant.specs.Links.{zeroLink, marked, plantWith}
 use Rattle.answers.specs.Answers.{given}
 use Rattle.answers.specs.Checks.{check, answer, _then_}
 use Rattle.answers.proofs.Checks.{given-given, given-exactly, refuse-given, goes-on, came-from}
-use Rattle.limits.specs.Limits.{maxSwitches, maxLinks}
+use Rattle.limits.specs.Limits.{maxLinks}
 use Rattle.codec.specs.declared.Field.{Field}
 use Rattle.codec.specs.Field.{number}
 use Rattle.codec.specs.Given.{bitAt}
-use Rattle.codec.specs.Part.{taken, size, rest, valueOf, redundant, values, someRedundant, mapByte, mapMissing, mapUndefined, fieldMissing, fieldRedundant, fieldValues, afterPart, part}
+use Rattle.codec.specs.Part.{taken, size, valueOf, redundant, values, someRedundant, mapMissing, mapUndefined, fieldMissing, fieldRedundant, fieldValues, afterPart, part}
 use Rattle.codec.proofs.ConditionLaws.{map-undefined}
 use Rattle.listing.specs.Listing.{headerFields, linkFields, headerOutOfRange, headerFrom, header, linkFrom, soundLink, link, links, bytesRemain, withLinks, linked, ended, reading}
 use Rattle.listing.proofs.ReadLaws.{places}
 use Rattle.listing.proofs.ConditionLaws.{no-byte-remains}
-use Rattle.listing.proofs.SoundLaws.{InRange, in-range, range-in, Ends, sound-ends, ends-sound}
+use Rattle.listing.proofs.SoundLaws.{in-range, range-in, Ends, sound-ends, ends-sound}
 use Rattle.demands.specs.ListingBytes.{FieldIs, HeaderIs, RecordIs, RecordsAre, ListingIs, ListingBytes}
 
 -- ---- a field, by its bit

@@ -79,6 +79,7 @@ pub use Rattle.packet.specs.Outcome.{outcomeOf}
 -- ---- the conditions on what is lent and on a search
 pub use Rattle.judging.specs.Conditions.{trailDiffers, hopsDiffer, statesShort, searchUnsound}
 -- ---- the buying page, and what is printed
+pub use Rattle.text.specs.Decimal.{decimal}
 pub use Rattle.text.specs.Lines.{summaryLine, ruleLines, trailLine}
 pub use Rattle.sheet.specs.declared.Sheet.{Sheet}
 pub use Rattle.sheet.specs.Columns.{lineColumns}
