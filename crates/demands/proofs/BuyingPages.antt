@@ -69,7 +69,7 @@ unfolding buyingPage
 page-lines c = ap (λ (l : List ℕ). l ++ totalLine c) (line-by-line (switchLine c) (range 0 (c .switches)))
 
 decimal-is : (n : ℕ) → DecimalIs n
-decimal-is n = record { digit = decimal-last n; digits = decimal-more n }
+decimal-is n = record { below-ten = decimal-last n; from-ten = decimal-more n }
 
 -- ---- what is written
 

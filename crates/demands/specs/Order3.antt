@@ -21,8 +21,8 @@ pub record LineIs (first : List ℕ) (seven fifteen : ℕ) (line : List ℕ) : T
 
 -- a number in decimal: its digits as bytes, of which that of zero is 48
 pub record DecimalIs (n : ℕ) : Type 0 where
-  pub digit : n < 10 → decimal n ≡ (48 + n) ∷ []
-  pub digits : 10 ≤ n → decimal n ≡ decimal (n / 10) ++ ((48 + n % 10) ∷ [])
+  pub below-ten : n < 10 → decimal n ≡ (48 + n) ∷ []
+  pub from-ten : 10 ≤ n → decimal n ≡ decimal (n / 10) ++ ((48 + n % 10) ∷ [])
 
 -- for every listing s that is read as a plant p, and every spare that is not refused: what the page of the counts c is
 pub record PageWritten (s : List ℕ) (p : Plant) (spare : ℕ) (c : Sheet) : Type 0 where

@@ -21,7 +21,7 @@ pub use Rattle.answers.specs.Checks.{Conditions, Checked, answer, check, _then_
 -- ---- the plant and its limits
 pub use Rattle.plant.specs.declared.Link.{Link}
 pub use Rattle.plant.specs.declared.Plant.{Plant}
-pub use Rattle.plant.specs.Links.{zeroLink, live, marked, outOfService, linkAt, first, second}
+pub use Rattle.plant.specs.Links.{zeroLink, live, marked, outOfService, linkAt}
 pub use Rattle.limits.specs.Limits.{maxSwitches, maxLinks, maxRules, maxHops}
 pub use Rattle.limits.specs.Sound.{Sound}
 -- ---- the listing: its parts and fields, read and written
