@@ -2,12 +2,13 @@
 use mathlib.Core.Path.{_≡_, refl, sym, ap, _∙_}
 use mathlib.Core.Logic.{_⊎_, inl, inr}
 use mathlib.Core.Bool.{true, false}
-use mathlib.Core.List.{List, _++_}
-use Prim.Native.Nat.{ℕ, _+_, _≤_, _<_}
+use mathlib.Core.List.{List, [], _∷_, _++_, map, flatten}
+use Prim.Native.Nat.{ℕ, _+_, _-_, _≤_, _<_}
 use native.Mathlib.Omega.{arith}
 use borrow.Author.Tests.{le-ltb}
-use lib.ListN.{length, drop}
+use lib.ListN.{length, drop, replicate}
 use Rattle.lists.specs.Arrays.{at}
+use Rattle.lists.specs.Numbers.{range}
 use Rattle.lists.proofs.Numbers.{values-at}
 use Rattle.lists.proofs.Sum.{sum-same}
 use Rattle.lists.proofs.Tests.{bool?}
@@ -24,17 +25,50 @@ use Rattle.quantity.specs.Quantity.{maxSpare, withSpare, spareAbove, orderQuant
 use Rattle.plan.specs.Plan.{tableOf}
 use Rattle.plan.proofs.Totals.{totals}
 use Rattle.sheet.specs.declared.Sheet.{Sheet}
-use Rattle.sheet.specs.Page.{buyingPage, pageLength}
+use Rattle.text.specs.Decimal.{decimal}
+use Rattle.text.specs.Lines.{each}
+use Rattle.sheet.specs.Numbers.{numbersOf}
+use Rattle.sheet.specs.Page.{switchLine, totalLine, buyingPage, pageLength}
 use Rattle.sheet.specs.Form.{formed, countsIn, readingPage}
 use Rattle.sheet.specs.Shown.{Shown}
-use Rattle.sheet.proofs.Page.{switch-size, total-size, page-size}
+use Rattle.sheet.proofs.Page.{field-size, switch-is, total-is, switch-size, total-size, page-size}
 use Rattle.sheet.proofs.RoundTrip.{written-formed, read-of-written, read-shown, written-again, accepted-shown, written-of-read}
 use Rattle.listing.specs.Listing.{reading}
 use Rattle.listing.proofs.RoundTrip.{decode-sound}
 use Rattle.quoting.specs.Quotes.{sheetWith, pricing}
 use Rattle.planner.specs.Calls.{quotingFor}
 use Rattle.planner.proofs.Buying.{quoted-shown, buying-short, buying-given, buying-left}
-use Rattle.demands.specs.Order3.{PageWritten, PageForm}
+use Rattle.demands.specs.Order3.{RightAligned, LineIs, PageWritten, PageForm}
+
+-- ---- the columns of a line
+
+abbrev rightIn : ℕ → List ℕ → List ℕ
+rightIn columns text = replicate (columns - length text) 32 ++ text
+
+right-aligned : (columns n : ℕ) → 3 ≤ columns → n < 1000 → RightAligned columns n (rightIn columns (decimal n))
+right-aligned columns n h k = record { wide = field-size columns n h k; before = columns - length (decimal n); is = refl }
+
+line-of : (first : List ℕ) (a b : ℕ) (l : List ℕ) → length first ≡ 6 → a < 1000 → b < 1000 → l ≡ first ++ numbersOf a b → LineIs first a b l
+unfolding numbersOf
+line-of first a b l six h k e = record {
+  six = six;
+  second = rightIn 8 (decimal a);
+  third = rightIn 8 (decimal b);
+  second-number = right-aligned 8 a (omega arith) h;
+  third-number = right-aligned 8 b (omega arith) k;
+  is = e;
+}
+
+line-by-line : (f : ℕ → List ℕ) (xs : List ℕ) → each f xs ≡ flatten (map f xs)
+unfolding flatten
+line-by-line f [] = refl
+line-by-line f (x ∷ xs) = ap (λ (l : List ℕ). f x ++ l) (line-by-line f xs)
+
+page-lines : (c : Sheet) → buyingPage c ≡ flatten (map (switchLine c) (range 0 (c .switches))) ++ totalLine c
+unfolding buyingPage
+page-lines c = ap (λ (l : List ℕ). l ++ totalLine c) (line-by-line (switchLine c) (range 0 (c .switches)))
+
+-- ---- what is written
 
 module _ (s : List ℕ) (bytes : Bytes s) (p : Plant) (e : answer (reading s) ≡ given p) (spare : ℕ) (c : Sheet) (q : answer (quotingFor s spare) ≡ given c) where
   shown : Shown c
@@ -63,6 +97,13 @@ module _ (s : List ℕ) (bytes : Bytes s) (p : Plant) (e : answer (reading s) �
         links-twice = sum-same (p .switches) (at (c .links)) (linksAt p) at-switch ∙ links-twice p ok;
         total = ap (λ (d : Sheet). d .total) counts-are ∙ t .number;
         quantity = ap (λ (a : ℕ). answer (orderQuantity a spare)) (sym (t .number)) ∙ priced .1 ∙ ap (λ (d : Sheet). given (d .quantity)) (priced .2);
+        page = page-lines c ∙ ap (λ (k : ℕ). flatten (map (switchLine c) (range 0 k)) ++ totalLine c) n;
+        line = λ x h.
+            let i : x < c .switches = omega (arith, n) in
+            let d = shown .digits in
+            let f = right-aligned 6 x (omega arith) (omega (arith, ok .few-switches)) in
+            (rightIn 6 (decimal x), f, line-of (rightIn 6 (decimal x)) (at (c .rules) x) (at (c .links) x) (switchLine c x) (f .wide) (d .rules x i) (d .links x i) (switch-is c d (shown .few) x i));
+        total-columns = let d = shown .digits in line-of (116 ∷ 111 ∷ 116 ∷ 97 ∷ 108 ∷ 32 ∷ []) (c .total) (c .quantity) (totalLine c) refl (d .total) (d .quantity) (total-is c d);
         digits = shown .digits;
         lines = λ x h. switch-size c (shown .digits) (shown .few) x (omega (arith, n));
         last-line = total-size c (shown .digits);

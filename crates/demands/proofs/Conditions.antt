@@ -20,7 +20,7 @@ use Rattle.codec.proofs.ConditionLaws.{map-missing, map-undefined, field-missin
 use Rattle.listing.specs.Listing.{valueOutOfRange}
 use Rattle.listing.specs.Writing.{isZero, plantOutOfRange, bufferShort}
 use Rattle.listing.proofs.ConditionLaws.{value-out-of-range, end-out-of-range, self-link, bytes-remain}
-use Rattle.quantity.specs.Quantity.{maxSpare, spareAbove}
+use Rattle.quantity.specs.Quantity.{spareAbove}
 use Rattle.plan.specs.Plan.{trailOf}
 use Rattle.planning.specs.Planning.{switchOutOfRange}
 use Rattle.planner.specs.Calls.{placesShort}
@@ -39,7 +39,7 @@ use Rattle.sheet.specs.Page.{buyingPage}
 use Rattle.sheet.specs.Form.{formed, countsIn}
 use Rattle.sheet.specs.Shown.{Shown}
 use Rattle.sheet.proofs.RoundTrip.{written-formed, read-shown, written-again}
-use Rattle.desk.specs.Console.{has, setOutOfRange, notBelow, outsideSet}
+use Rattle.desk.specs.Console.{has, setOutOfRange, outsideSet}
 use Rattle.desk.proofs.Sets.{beyond-is}
 use Rattle.consoles.specs.Calls.{consoleOutOfRange}
 use Rattle.demands.specs.Conditions.{ConditionsAre}
@@ -94,10 +94,6 @@ ten w b = less (length b) (length w)
 eleven : (p : Plant) (x : ℕ) → (switchOutOfRange p x ≡ true) ↔ (p .switches ≤ x)
 unfolding switchOutOfRange
 eleven p x = most (p .switches) x
-
-eleven-console : (p : Plant) (x : ℕ) → notBelow (p .switches) x ≡ switchOutOfRange p x
-unfolding switchOutOfRange
-eleven-console p x = refl
 
 twelve : (p : Plant) (lent : List ℕ) → (trailDiffers p lent ≡ true) ↔ (lent ≡ trailOf p → ⊥)
 twelve p lent = true-exactly (trailDiffers p lent) (trail-same p lent, λ e. subst (λ (w : List ℕ). trailDiffers p w ≡ false) (sym e) (trail-own p))

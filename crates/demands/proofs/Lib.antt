@@ -9,6 +9,7 @@ pub mod Demand1
 pub mod Components
 pub mod InUse
 pub mod Demand2
+pub mod ListingBytes
 pub mod SearchIs
 pub mod Naming
 pub mod Demand3

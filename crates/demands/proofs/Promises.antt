@@ -5,6 +5,7 @@ use Rattle.demands.proofs.Conditions.{conditions-are}
 use Rattle.demands.proofs.CheckingOrder.{checking-order}
 use Rattle.demands.proofs.Demand1.{demand-1, untouched}
 use Rattle.demands.proofs.Demand2.{demand-2}
+use Rattle.demands.proofs.ListingBytes.{listing-bytes}
 use Rattle.demands.proofs.SearchIs.{search-is}
 use Rattle.demands.proofs.Demand3.{demand-3}
 use Rattle.demands.proofs.Answered.{answered, answered-always}
@@ -25,6 +26,7 @@ promises = record {
   conditions = conditions-are;
   checking-order = checking-order;
   demand-2 = demand-2;
+  listing-bytes = listing-bytes;
   search-is = search-is;
   demand-3 = λ s p r. demand-3 s (r .bytes) p (r .read);
   answered = λ s p r. answered s (r .bytes) p (r .read);

@@ -1,10 +1,10 @@
 -- What these calls answer for every listing s that is read as a plant p, in the papers' words: the bridges, the numbers of a plant, the
 -- order of links, the outward labels and the link named; and what `rules` prints. A field that holds by the definition alone says so.
-use Rattle.demands.specs.Vocabulary.{_≡_, _⊎_, _↔_, false, Bool, List, [], _∷_, _++_, map, flatten, ℕ, _≤_, _<_, _+_, _/_, T, length}
-use Rattle.demands.specs.Vocabulary.{drop, getD, take, at, given, refused, answer, Plant, live, maxLinks, reading, linksWith, roots}
-use Rattle.demands.specs.Vocabulary.{Bridge, liveLinks, bridges, trailFrom, nth, upTo, trailOf, rulesOf, Span, stretchOf, frontOf}
-use Rattle.demands.specs.Vocabulary.{Search, valuesOf, halving, IsAllUp, IsDown, Order, none, unknown, ascii, decimal, line}
-use Rattle.demands.specs.Vocabulary.{_%_, printed, summing, bridging, ordering, outgoing, naming, link, outLabels}
+use Rattle.demands.specs.Vocabulary.{_≡_, _⊎_, _↔_, false, Bool, List, [], _∷_, _++_, map, flatten, ℕ, _≤_, _<_, _+_, _/_, _%_, T}
+use Rattle.demands.specs.Vocabulary.{length, drop, getD, take, at, given, refused, answer, Plant, live, maxLinks, reading, linksWith}
+use Rattle.demands.specs.Vocabulary.{roots, Bridge, liveLinks, bridges, trailFrom, nth, upTo, trailOf, rulesOf, Span, stretchOf}
+use Rattle.demands.specs.Vocabulary.{frontOf, Search, IsAllUp, IsDown, valuesOf, halving, Order, none, unknown, ascii, decimal, line}
+use Rattle.demands.specs.Vocabulary.{printed, summing, bridging, ordering, outgoing, naming, link, outLabels}
 use Rattle.search.specs.Values.{checking}
 use Rattle.demands.specs.Names.{ringAt, orderAt}
 

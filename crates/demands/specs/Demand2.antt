@@ -1,12 +1,23 @@
 -- Demand 2: the definitions are document 01's, the round trips and the trail.
-use Rattle.demands.specs.Vocabulary.{_≡_, _↔_, true, false, Bool, List, [], _∷_, _++_, ℕ, suc, _≤_, _<_, _+_, _*_, _-_, _/_, T}
+use Rattle.demands.specs.Vocabulary.{_≡_, _↔_, true, false, Bool, List, [], _∷_, _++_, ℕ, suc, _≤_, _<_, _+_, _*_, _-_, _/_, _^_, T}
 use Rattle.demands.specs.Vocabulary.{length, drop, getD, take, count, In, Distinct, range, keep, given, answer, Plant, live}
-use Rattle.demands.specs.Vocabulary.{maxSwitches, maxRules, maxHops, Sound, reading, encode, bufferAfter, tail, head, Arc, visitLinks}
-use Rattle.demands.specs.Vocabulary.{linksWith, rootOf, roots, componentOf, linkWith, used, To, Bridge, bridge, liveLinks}
-use Rattle.demands.specs.Vocabulary.{visitedFrom, enteredFrom, earlierFrom, usedFrom, Fewest, distanceFrom, trailFrom, TrailByRule}
-use Rattle.demands.specs.Vocabulary.{nth, run, upTo, back, FirstHop, inAll, allRules, trailOf, trailWith, trailBegin, inTable}
-use Rattle.demands.specs.Vocabulary.{AreTrails, Span, rewriting, rereading, trailing, rewritten, laidOut, outSpan}
+use Rattle.demands.specs.Vocabulary.{outOfService, linkAt, maxSwitches, maxLinks, maxRules, maxHops, Sound, reading, encode, writing}
+use Rattle.demands.specs.Vocabulary.{bufferAfter, tail, head, Arc, opposite, visitLinks, linksWith, rootOf, roots, componentOf}
+use Rattle.demands.specs.Vocabulary.{linkWith, used, To, Bridge, bridge, liveLinks, visitedFrom, enteredFrom, earlierFrom, usedFrom}
+use Rattle.demands.specs.Vocabulary.{Fewest, distanceFrom, trailFrom, TrailByRule, nth, run, upTo, back, FirstHop, inAll, allRules}
+use Rattle.demands.specs.Vocabulary.{upBy, upByLink, trailOf, trailWith, trailBegin, inTable, AreTrails, Span, rewriting, rereading}
+use Rattle.demands.specs.Vocabulary.{trailing, rewritten, laidOut, outSpan}
 use Rattle.demands.specs.Names.{ReadAs, ringAt, orderAt, placeAt, probeRunAt}
+
+-- the labels of link l, and whether it is in service
+pub record LabelsAre (p : Plant) (l : ℕ) : Type 0 where
+  -- "arc label 2×l crosses link l from first end to second; 2×l + 1 crosses it back"
+  pub crosses : (tail p (2 * l) ≡ linkAt p l .first) × (head p (2 * l) ≡ linkAt p l .second)
+  pub crosses-back : (tail p (2 * l + 1) ≡ linkAt p l .second) × (head p (2 * l + 1) ≡ linkAt p l .first)
+  -- each is opposite to the other
+  pub opposites : (opposite (2 * l) ≡ 2 * l + 1) × (opposite (2 * l + 1) ≡ 2 * l)
+  -- a link in service is one of the listing that is not marked
+  pub in-service : T (live p l) ↔ ((l < p .count) × (outOfService p l ≡ false))
 
 -- the components of a plant: what is joined over links in service, and in which order they are planned (document 02, order 9)
 pub record ComponentsAre (p : Plant) : Type 0 where
@@ -21,6 +32,16 @@ pub record ComponentsAre (p : Plant) : Type 0 where
   pub first : getD (roots p) 0 0 ≡ p .start
   pub lowest : (i x : ℕ) → 1 ≤ i → i < length (roots p) → x < p .switches → To p (Arc p) (getD (roots p) i 0) x → getD (roots p) i 0 ≤ x
   pub rising : (i j : ℕ) → 1 ≤ i → i < j → j < length (roots p) → getD (roots p) i 0 < getD (roots p) j 0
+
+-- the order of the visit from r, the root of a component: the list of the switches visited has the last one first
+pub record VisitOrder (p : Plant) (r : ℕ) : Type 0 where
+  -- it visits the switches of the component, each once, and r first
+  pub each : (x : ℕ) → In x (visitedFrom p r .ord) ↔ To p (Arc p) r x
+  pub once : Distinct (visitedFrom p r .ord)
+  pub begins : (i : ℕ) → i + 1 ≡ length (visitedFrom p r .ord) → getD (visitedFrom p r .ord) i 0 ≡ r
+  -- the switch at place i was visited earlier than that at place j exactly if it stands after it
+  pub earlier : (i j : ℕ) → i < length (visitedFrom p r .ord) → j < length (visitedFrom p r .ord)
+      → T (earlierFrom p r (getD (visitedFrom p r .ord) i 0) (getD (visitedFrom p r .ord) j 0)) ↔ (j < i)
 
 -- which arcs are in use, of an arc a of a link in service, by the visit from r, the root of its component
 pub record InUse (p : Plant) (r a : ℕ) : Type 0 where
@@ -53,6 +74,7 @@ pub record PlanIs (p : Plant) : Type 0 where
   -- each root. "The visit calls itself at most 64 deep": as deep as there are switches is enough, and leave to go deeper changes nothing
   pub visit : (r deep : ℕ) → In r (roots p) → p .switches ≤ deep
       → visitLinks p (keep (live p) (range 0 (p .count))) deep r (record { ord = r ∷ []; ent = [] }) ≡ visitedFrom p r
+  pub visit-order : (r : ℕ) → In r (roots p) → VisitOrder p r
   -- the arcs in use: of links in service alone
   pub in-use : (a : ℕ) → Arc p a → InUse p (rootOf p (tail p a)) a
   pub in-service : (a : ℕ) → T (used p a) → Arc p a
@@ -70,6 +92,15 @@ pub record RunIs (rule : ℕ → ℕ → Bool) (up : ℕ → Bool) (hd : ℕ →
   -- "otherwise it is lost"
   pub no-rule : (at n a : ℕ) (w : List ℕ) → rule at a ≡ false → run rule up hd at n (a ∷ w) ≡ record { ended = false; hops = n; last = at }
   pub link-down : (at n a : ℕ) (w : List ℕ) → up a ≡ false → run rule up hd at n (a ∷ w) ≡ record { ended = false; hops = n; last = at }
+
+-- link states: "one byte for each link tells its state: 0 down, any other value up"
+pub record StatesAre (states : List ℕ) : Type 0 where
+  pub down : (l : ℕ) → l < length states → (upBy states l ≡ false) ↔ (getD states l 0 ≡ 0)
+  pub up : (l : ℕ) → l < length states → (upBy states l ≡ true) ↔ (1 ≤ getD states l 0)
+  -- a link without a byte is down; with fewer bytes than links the calls refuse 13
+  pub past : (l : ℕ) → length states ≤ l → upBy states l ≡ false
+  -- both labels of a link are up if it is (read aloud)
+  pub by-link : (a : ℕ) → upByLink states a ≡ upBy states (a / 2)
 
 -- the rules that packets run under
 pub record RulesAre (p : Plant) : Type 0 where
@@ -120,15 +151,24 @@ pub record Demand2 : Type 0 where
   pub most-hops : maxHops ≡ maxRules * maxSwitches + (maxSwitches - 1)
   -- what was read is written as the bytes that were read, and what was written is read as the plant that was written
   pub read-write : (s : List ℕ) (p : Plant) → ReadAs s p → encode p ≡ s
-  pub write-read : (p : Plant) → Sound p → answer (reading (encode p)) ≡ given p
+  pub write-read : (p : Plant) → Sound p → ReadAs (encode p) p
   -- so it is with the calls: the buffer begins with the listing, bytes past it stay, and they read it back
   pub rewrite : (s b : List ℕ) (p : Plant) → ReadAs s p → length s ≤ length b
       → (answer (rewriting s b) ≡ given (length s)) × (rewritten s b ≡ s ++ drop (length s) b)
   pub reread : (p : Plant) (b : List ℕ) → Sound p → length (encode p) ≤ length b
       → (answer (rereading p b) ≡ given p) × (bufferAfter p b ≡ encode p ++ drop (length (encode p)) b)
+  -- so it is with any plant value that the writer accepts: it answers the length n of the listing, and bytes past it stay. The type of a
+  -- plant gives it as many link places as a plant can have links, and tags of 16 bits; with these, the writer accepts p exactly if p is
+  -- sound and there is room for its listing, and the first n bytes are read back as p
+  pub written : (p : Plant) (b : List ℕ) (n : ℕ) → answer (writing p b) ≡ given n
+      → (length (encode p) ≡ n) × (n ≤ length b) × (bufferAfter p b ≡ encode p ++ drop n b)
+  pub accepts : (p : Plant) (b : List ℕ) → length (p .links) ≡ maxLinks → ((l : ℕ) → l < maxLinks → linkAt p l .tag < 2 ^ 16)
+      → ((n : ℕ) × (answer (writing p b) ≡ given n)) ↔ (Sound p × (length (encode p) ≤ length b))
+  pub written-read : (p : Plant) (b : List ℕ) (n : ℕ) → length (p .links) ≡ maxLinks → ((l : ℕ) → l < maxLinks → linkAt p l .tag < 2 ^ 16)
+      → answer (writing p b) ≡ given n → ReadAs (take n (bufferAfter p b)) p
   -- "the longest sound listing has 1,285 bytes": none has more, and one has as many
   pub longest : (s : List ℕ) (p : Plant) → answer (reading s) ≡ given p → length s ≤ 1285
-  pub as-long : (p : Plant) × (length (encode p) ≡ 1285) × (answer (reading (encode p)) ≡ given p)
+  pub as-long : (p : Plant) × (length (encode p) ≡ 1285) × ReadAs (encode p) p
   -- what is read is sound
   pub sound : (s : List ℕ) (p : Plant) → ReadAs s p → Sound p
   -- the plan of a listing is document 01's, component by component
@@ -136,7 +176,9 @@ pub record Demand2 : Type 0 where
   -- "trails follow one another in the buffer": one with enough places begins with them, and places past them stay
   pub laid : (s b : List ℕ) (p : Plant) → answer (reading s) ≡ given p → length (trailOf p) ≤ length b
       → (answer (trailing s b) ≡ given (length (trailOf p))) × (laidOut s b ≡ trailOf p ++ drop (length (trailOf p)) b)
-  -- packets, rules and probes are document 01's
+  -- labels, link states, packets, rules and probes are document 01's
+  pub labels : (p : Plant) (l : ℕ) → LabelsAre p l
+  pub states : (states : List ℕ) → StatesAre states
   pub run : (rule : ℕ → ℕ → Bool) (up : ℕ → Bool) (hd : ℕ → ℕ) → RunIs rule up hd
   pub rules : (p : Plant) → RulesAre p
   pub injection : (s : List ℕ) (p : Plant) → ReadAs s p → (x : ℕ) → x < p .switches → InjectionIs p x

@@ -1,9 +1,9 @@
 -- Demand 3: the rule page and the search.
 use Rattle.demands.specs.Vocabulary.{_≡_, _↔_, true, List, map, flatten, ℕ, _≤_, _<_, _+_, _*_, T, length, getD, count, In, Distinct}
-use Rattle.demands.specs.Vocabulary.{memb, given, answer, Plant, live, linksWith, roots, liveLinks, Crosses, ClosedWalk, ClosedWalks}
-use Rattle.demands.specs.Vocabulary.{bridges, trailFrom, FirstDown, nth, upBy, zeroRule, trailOf, ruleOf, rulesOf, Call, perform}
-use Rattle.demands.specs.Vocabulary.{begun, ended, newSearch, IsDown, tabling, naming, beginning, performing, link, AllTrue}
-use Rattle.demands.specs.Vocabulary.{OneOfThree, Searches, maxRules, Table}
+use Rattle.demands.specs.Vocabulary.{memb, given, answer, Plant, live, maxRules, linksWith, roots, liveLinks, Crosses, ClosedWalk}
+use Rattle.demands.specs.Vocabulary.{ClosedWalks, bridges, trailFrom, FirstDown, nth, upBy, Table, zeroRule, trailOf, ruleOf, rulesOf}
+use Rattle.demands.specs.Vocabulary.{Call, perform, begun, ended, newSearch, IsDown, tabling, naming, beginning, performing, link}
+use Rattle.demands.specs.Vocabulary.{AllTrue, OneOfThree, Searches}
 use Rattle.demands.specs.Names.{orderAt}
 
 -- the labels of the rules

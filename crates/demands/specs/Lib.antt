@@ -6,6 +6,7 @@ pub mod CheckingOrder
 pub mod Demand1
 pub mod Untouched
 pub mod Demand2
+pub mod ListingBytes
 pub mod SearchIs
 pub mod Demand3
 pub mod Answered

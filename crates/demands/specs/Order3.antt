@@ -1,7 +1,23 @@
 -- Document 02, order 3: the buying page.
-use Rattle.demands.specs.Vocabulary.{_≡_, _↔_, true, false, List, _++_, ℕ, _≤_, _<_, _+_, _*_, length, drop, at, sum, given, refused}
-use Rattle.demands.specs.Vocabulary.{answer, Plant, liveLinks, bridges, linksAt, sentBy, rulesOf, orderQuantity, Sheet, lineColumns}
-use Rattle.demands.specs.Vocabulary.{formed, readingPage, buyingPage, switchLine, totalLine, Shown, ThreeDigits, buying, boughtOut}
+use Rattle.demands.specs.Vocabulary.{_≡_, _↔_, true, false, List, [], _∷_, _++_, map, flatten, ℕ, _≤_, _<_, _+_, _*_, length, drop}
+use Rattle.demands.specs.Vocabulary.{replicate, at, range, sum, given, refused, answer, Plant, liveLinks, bridges, linksAt, sentBy}
+use Rattle.demands.specs.Vocabulary.{rulesOf, orderQuantity, decimal, Sheet, lineColumns, formed, readingPage, buyingPage, switchLine}
+use Rattle.demands.specs.Vocabulary.{totalLine, Shown, ThreeDigits, buying, boughtOut}
+
+-- "right-aligned decimal" in so many columns, "all else spaces"; what `decimal` is says `AnsweredAlways`
+pub record RightAligned (columns n : ℕ) (field : List ℕ) : Type 0 where
+  pub wide : length field ≡ columns
+  pub before : ℕ
+  pub is : field ≡ replicate before 32 ++ decimal n
+
+-- a line that has `first` in columns 1 to 6, and numbers in columns 7 to 14 and 15 to 22; nine spaces and a newline are the rest of its 32
+pub record LineIs (first : List ℕ) (seven fifteen : ℕ) (line : List ℕ) : Type 0 where
+  pub six : length first ≡ 6
+  pub second : List ℕ
+  pub third : List ℕ
+  pub second-number : RightAligned 8 seven second
+  pub third-number : RightAligned 8 fifteen third
+  pub is : line ≡ first ++ (second ++ (third ++ (replicate 9 32 ++ (10 ∷ []))))
 
 -- for every listing s that is read as a plant p, and a spare that is not refused: what the page of the counts c is
 pub record PageWritten (s : List ℕ) (p : Plant) (spare : ℕ) (c : Sheet) : Type 0 where
@@ -13,6 +29,12 @@ pub record PageWritten (s : List ℕ) (p : Plant) (spare : ℕ) (c : Sheet) : Ty
   -- "then all rules and the order quantity"
   pub total : c .total ≡ liveLinks p + bridges p
   pub quantity : answer (orderQuantity (liveLinks p + bridges p) spare) ≡ given (c .quantity)
+  -- "one line a switch, rising": "columns 1 to 6 hold the switch, 7 to 14 its rules, 15 to 22 the links at it"; "a last line has `total`
+  -- left-aligned in the first field, then all rules and the order quantity"
+  pub page : buyingPage c ≡ flatten (map (switchLine c) (range 0 (p .switches))) ++ totalLine c
+  pub line : (x : ℕ) → x < p .switches
+      → (first : List ℕ) × RightAligned 6 x first × LineIs first (at (c .rules) x) (at (c .links) x) (switchLine c x)
+  pub total-columns : LineIs (116 ∷ 111 ∷ 116 ∷ 97 ∷ 108 ∷ 32 ∷ []) (c .total) (c .quantity) (totalLine c)
   -- three digits suffice for each number, so "each line is 32 bytes"
   pub digits : ThreeDigits c
   pub lines : (x : ℕ) → x < p .switches → length (switchLine c x) ≡ lineColumns

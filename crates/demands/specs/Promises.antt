@@ -12,6 +12,7 @@ use Rattle.demands.specs.CheckingOrder.{CheckingOrder}
 use Rattle.demands.specs.Demand1.{Demand1}
 use Rattle.demands.specs.Untouched.{Untouched}
 use Rattle.demands.specs.Demand2.{Demand2}
+use Rattle.demands.specs.ListingBytes.{ListingBytes}
 use Rattle.demands.specs.SearchIs.{SearchIs}
 use Rattle.demands.specs.Demand3.{Demand3}
 use Rattle.demands.specs.Answered.{Answered, AnsweredAlways}
@@ -33,6 +34,8 @@ pub record Promises : Type 0 where
   -- the order in which the reader and the writer try them
   pub checking-order : CheckingOrder
   pub demand-2 : Demand2
+  -- what the bytes of a listing say
+  pub listing-bytes : ListingBytes
   -- the search is document 01's, in its values
   pub search-is : SearchIs
   -- "the rule page is document 01's", and what a search does; order 4's promises with it

@@ -5,9 +5,9 @@ pub use mathlib.Core.Path.{_≡_}
 pub use mathlib.Core.Logic.{_⊎_, _↔_}
 pub use mathlib.Core.Bool.{true, false, not, Bool, _&&_, _||_}
 pub use mathlib.Core.List.{List, [], _∷_, _++_, map, flatten}
-pub use Prim.Native.Nat.{ℕ, suc, _≤_, _<_, _+_, _*_, _-_, _/_, _^_}
+pub use Prim.Native.Nat.{ℕ, suc, _≤_, _<_, _+_, _*_, _-_, _/_, _%_, _^_}
 pub use lib.Dec.{T, ltb, leb}
-pub use lib.ListN.{length, drop, getD, take}
+pub use lib.ListN.{length, drop, getD, take, replicate}
 -- ---- lists, further
 pub use Rattle.lists.specs.Arrays.{at}
 pub use Rattle.lists.specs.Count.{count}
@@ -21,12 +21,12 @@ pub use Rattle.answers.specs.Checks.{Conditions, Checked, answer, check, _then_
 -- ---- the plant and its limits
 pub use Rattle.plant.specs.declared.Link.{Link}
 pub use Rattle.plant.specs.declared.Plant.{Plant}
-pub use Rattle.plant.specs.Links.{zeroLink, live, marked, outOfService}
+pub use Rattle.plant.specs.Links.{zeroLink, live, marked, outOfService, linkAt}
 pub use Rattle.limits.specs.Limits.{maxSwitches, maxLinks, maxRules, maxHops}
 pub use Rattle.limits.specs.Sound.{Sound}
 -- ---- the listing: its parts and fields, read and written
 pub use Rattle.codec.specs.declared.Field.{Field}
-pub use Rattle.codec.specs.Field.{Bytes}
+pub use Rattle.codec.specs.Field.{Bytes, number}
 pub use Rattle.codec.specs.Given.{bitAt, SomeGiven, EndsBefore, HoldsAbsent}
 pub use Rattle.codec.specs.Part.{mapMissing, mapUndefined, fieldMissing, fieldRedundant, fieldValues, mapByte, part, partBytes}
 pub use Rattle.listing.specs.Listing.{headerFields, linkFields, linkFrom, headerOutOfRange, endOutOfRange, selfLink, bytesRemain, header}
@@ -83,7 +83,6 @@ pub use Rattle.judging.specs.Conditions.{trailDiffers, hopsDiffer, statesShort,
 pub use Rattle.order.specs.declared.Order.{Order}
 pub use Rattle.probing.specs.Calls.{none, unknown}
 -- ---- the buying page, and what is printed
-pub use Prim.Native.Nat.{_%_}
 pub use Rattle.text.specs.Ascii.{ascii}
 pub use Rattle.text.specs.Decimal.{decimal}
 pub use Rattle.text.specs.Lines.{line}
