@@ -7,8 +7,8 @@ use Rattle.demands.proofs.Demand1.{demand-1, untouched}
 use Rattle.demands.proofs.Demand2.{demand-2}
 use Rattle.demands.proofs.SearchIs.{search-is}
 use Rattle.demands.proofs.Demand3.{demand-3}
-use Rattle.demands.proofs.GotTo.{got-to, packets-tell}
-use Rattle.demands.proofs.BySwitches.{same-totals-of, by-switches}
+use Rattle.demands.proofs.GotTo.{got-to, two-way, packets-tell}
+use Rattle.demands.proofs.BySwitches.{same-totals-of, by-switches, more-by-switch}
 use Rattle.demands.proofs.BuyingPages.{page-written, page-form}
 use Rattle.demands.proofs.Counted.{counted}
 use Rattle.demands.proofs.Ceilings.{ceilings}
@@ -27,9 +27,11 @@ promises = record {
   search-is = search-is;
   demand-3 = λ s p r. demand-3 s (r .bytes) p (r .read);
   got-to = got-to;
+  two-way = two-way;
   packets-tell = λ s p r. packets-tell s (r .bytes) p (r .read);
   same-totals = same-totals-of;
   by-switches = λ s p r. by-switches s (r .bytes) p (r .read);
+  more-by-switch = more-by-switch;
   page-written = λ s p r. page-written s (r .bytes) p (r .read);
   page-form = page-form;
   counted = counted;

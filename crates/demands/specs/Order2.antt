@@ -1,5 +1,5 @@
 -- Document 02, order 2: rules for each switch.
-use Rattle.demands.specs.Vocabulary.{_≡_, List, ℕ, _≤_, _*_, at, count, sum, given, answer, Plant, used, sentBy, pastSenders}
+use Rattle.demands.specs.Vocabulary.{_≡_, List, ℕ, _≤_, _+_, _*_, at, count, sum, given, answer, Plant, used, sentBy, pastSenders}
 use Rattle.demands.specs.Vocabulary.{bySwitch, rulesOf, tableOf, Totals, maxSpare, withSpare, counting}
 
 -- for every plant value, sound or not: `tableOf p` is its forwarding table, and `bySwitch` what is answered of it
@@ -17,3 +17,8 @@ pub record BySwitches (s : List ℕ) (p : Plant) : Type 0 where
   -- "the spare is still laid on the total, since rounding per switch can give more": it never gives less, for any spare that is not refused
   pub spare-on-total : (spare : ℕ) → spare ≤ maxSpare
       → withSpare (bySwitch (tableOf p) .total) spare ≤ sum (p .switches) (λ x. withSpare (at (bySwitch (tableOf p) .counts) x) spare)
+
+-- that it "can give more": of two rules, one at each of two switches, with a spare of 10 percent
+pub record MoreBySwitch : Type 0 where
+  pub on-total : withSpare (1 + 1) 10 ≡ 3
+  pub by-switch : withSpare 1 10 + withSpare 1 10 ≡ 4

@@ -11,7 +11,8 @@ pub record Sets : Type 0 where
   pub none-beyond : (set : ℕ) → set < 2 ^ maxSwitches → setOutOfRange maxSwitches set ≡ false
   -- "a fresh desk has empty sets and no search"
   pub fresh : (k : ℕ) → k ≤ 3 → consoleOf freshDesk k ≡ idle
-  pub empty : (x : ℕ) → has (idle .set) x ≡ false
+  pub empty : (k : ℕ) → k ≤ 3 → (x : ℕ) → has (consoleOf freshDesk k .set) x ≡ false
+  pub no-search : (k : ℕ) → k ≤ 3 → consoleOf freshDesk k .search ≡ Nothing
 
 -- for a console k of the four, and a listing s that is read as a plant p: what a call does goes by S of p, and by E of the component of the
 -- switch that it goes by, that of a start or of its search

@@ -5,7 +5,7 @@
 -- switch at which each begins, `trailOf p` their trails one after another; of a named switch x, `trailWith p x` is the trail of its
 -- component, `linkWith p x l` says whether link l is one of it, and `linksWith p x` is E.
 use Rattle.demands.specs.Vocabulary.{_≡_, true, false, Bool, List, ℕ, _≤_, _<_, T, given, answer, Plant, outOfService, reading}
-use Rattle.demands.specs.Vocabulary.{linksWith, linkWith, run, Together, Connected, Sheet, quotingFor}
+use Rattle.demands.specs.Vocabulary.{linksWith, linkWith, End, run, Together, Connected, Sheet, quotingFor}
 use Rattle.demands.specs.Names.{ReadAs}
 use Rattle.demands.specs.Conditions.{ConditionsAre}
 use Rattle.demands.specs.CheckingOrder.{CheckingOrder}
@@ -14,8 +14,8 @@ use Rattle.demands.specs.Untouched.{Untouched}
 use Rattle.demands.specs.Demand2.{Demand2}
 use Rattle.demands.specs.SearchIs.{SearchIs}
 use Rattle.demands.specs.Demand3.{Demand3}
-use Rattle.demands.specs.Order1.{GotTo, PacketsTell}
-use Rattle.demands.specs.Order2.{SameTotals, BySwitches}
+use Rattle.demands.specs.Order1.{GotTo, TwoWay, PacketsTell}
+use Rattle.demands.specs.Order2.{SameTotals, BySwitches, MoreBySwitch}
 use Rattle.demands.specs.Order3.{PageWritten, PageForm}
 use Rattle.demands.specs.Order4.{Counted}
 use Rattle.demands.specs.Ceilings.{Ceilings}
@@ -38,10 +38,12 @@ pub record Promises : Type 0 where
   pub demand-3 : (s : List ℕ) (p : Plant) → ReadAs s p → Demand3 s p
   -- order 1: where a packet got to, whatever the rules are; and what the calls tell
   pub got-to : (rule : ℕ → ℕ → Bool) (up : ℕ → Bool) (hd : ℕ → ℕ) (at : ℕ) (w : List ℕ) → GotTo rule up hd at w (run rule up hd at 0 w)
+  pub two-way : (e : End) → TwoWay e
   pub packets-tell : (s : List ℕ) (p : Plant) → ReadAs s p → (x : ℕ) → x < p .switches → PacketsTell s p x
   -- order 2: rules for each switch; "both totals must be the same number for every plant", sound or not
   pub same-totals : (p : Plant) → SameTotals p
   pub by-switches : (s : List ℕ) (p : Plant) → ReadAs s p → BySwitches s p
+  pub more-by-switch : MoreBySwitch
   -- order 3: the buying page of the counts c, for every spare that is not refused; and what a reader accepts
   pub page-written : (s : List ℕ) (p : Plant) → ReadAs s p → (spare : ℕ) (c : Sheet) → answer (quotingFor s spare) ≡ given c
       → PageWritten s p spare c
