@@ -19,5 +19,6 @@ pub mod Counted
 pub mod Rounds
 pub mod Service
 pub mod Consoles
+pub mod FedCalls
 pub mod TogetherCase
 pub mod Promises

@@ -15,6 +15,7 @@ use Rattle.demands.proofs.Ceilings.{ceilings}
 use Rattle.demands.proofs.Rounds.{round-trail, round-run, shorter-trail, by-label}
 use Rattle.demands.proofs.Service.{marks, out-of-service, states-of, all-in-service}
 use Rattle.demands.proofs.Consoles.{sets, console-calls, isolated, agreeing, console-searches}
+use Rattle.demands.proofs.FedCalls.{fed-calls}
 use Rattle.demands.proofs.Components.{never-nine, parted, elsewhere, no-links, one-component}
 
 pub promises : Promises
@@ -48,6 +49,7 @@ promises = record {
   console-calls = console-calls;
   isolated = isolated;
   agreeing = agreeing;
+  fed-calls = fed-calls;
   console-searches = console-searches;
   never-nine = never-nine;
   parted = λ s p r. parted s (r .bytes) p (r .read);

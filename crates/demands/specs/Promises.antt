@@ -5,7 +5,7 @@
 -- switch at which each begins, `trailOf p` their trails one after another; of a named switch x, `trailWith p x` is the trail of its
 -- component, `linkWith p x l` says whether link l is one of it, and `linksWith p x` is E.
 use Rattle.demands.specs.Vocabulary.{_≡_, true, false, Bool, List, ℕ, _≤_, _<_, T, given, answer, Plant, outOfService, reading}
-use Rattle.demands.specs.Vocabulary.{linksWith, linkWith, End, run, Together, Connected, Sheet, quotingFor}
+use Rattle.demands.specs.Vocabulary.{linksWith, linkWith, End, run, Together, Connected, Sheet, quotingFor, Desk, DeskCall}
 use Rattle.demands.specs.Names.{ReadAs}
 use Rattle.demands.specs.Conditions.{ConditionsAre}
 use Rattle.demands.specs.CheckingOrder.{CheckingOrder}
@@ -21,7 +21,7 @@ use Rattle.demands.specs.Order4.{Counted}
 use Rattle.demands.specs.Ceilings.{Ceilings}
 use Rattle.demands.specs.Order6.{RoundTrail, RoundRun, ShorterTrail, ByLabel}
 use Rattle.demands.specs.Order7.{Marks, OutOfService, StatesOf, AllInService}
-use Rattle.demands.specs.Order8.{Sets, ConsoleCalls, Isolated, Agreeing, ConsoleSearches}
+use Rattle.demands.specs.Order8.{Sets, ConsoleCalls, Isolated, Agreeing, FedCalls, ConsoleSearches}
 use Rattle.demands.specs.Order9.{NeverNine, Parted, Elsewhere, NoLinks, OneComponent}
 
 pub record Promises : Type 0 where
@@ -68,6 +68,7 @@ pub record Promises : Type 0 where
   pub console-calls : (k : ℕ) → k ≤ 3 → (s : List ℕ) (p : Plant) → answer (reading s) ≡ given p → ConsoleCalls k s p
   pub isolated : Isolated
   pub agreeing : Agreeing
+  pub fed-calls : (k : ℕ) (d : Desk) (cs : List DeskCall) (c : DeskCall) → FedCalls k d cs c
   pub console-searches : ConsoleSearches
   -- order 9: plants in several components
   pub never-nine : NeverNine
