@@ -161,7 +161,7 @@ rows =
     ∷ (stands 1, given (0 ∷ []))
     ∷ (stands 2, given (5 ∷ 1 ∷ 0 ∷ 3 ∷ 1 ∷ []))
     ∷ (stands 3, given (0 ∷ []))
-    -- of these, what started and fed a console's search: refused calls, calls of others and new sets do not; without a start there is nothing
+    -- of these, what started and fed a console's search: not refused calls, calls of others or new sets; without a start, nothing
     ∷ (fed 0, given (12 ∷ 0 ∷ 1 ∷ []))
     ∷ (fed 1, given [])
     ∷ (fed 2, given (12 ∷ 1 ∷ 0 ∷ []))

@@ -18,7 +18,7 @@ use Rattle.planner.specs.Calls.{tabling}
 use Rattle.probing.specs.Calls.{beginning, performedIn, performing}
 use Rattle.demands.specs.Demand3.{Demand3}
 use Rattle.demands.proofs.RulePages.{rule-page}
-use Rattle.demands.proofs.Reached.{reached}
+use Rattle.demands.proofs.Reached.{reached, by-rule, says-by-rule, reached-by-rule}
 use Rattle.demands.proofs.Naming.{names}
 use Rattle.probing.proofs.Searching.{searches}
 
@@ -34,4 +34,7 @@ demand-3 s b p e =
       searches = λ x h. searches p ok x h;
       reached = λ x h. reached p ok x h;
       names = λ x h. names s b p e x h;
+      by-rule = λ x h cs states. by-rule p ok x h states cs;
+      says-by-rule = λ x h cs states. says-by-rule p ok x h states cs;
+      reached-by-rule = λ x h. reached-by-rule p ok x h;
     }

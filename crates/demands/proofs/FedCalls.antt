@@ -1,5 +1,5 @@
 -- The calls that start and feed the search of a console, as one more call leaves them. Assumes nothing.
-use mathlib.Core.Path.{_≡_, refl, sym, ap, _∙_}
+use mathlib.Core.Path.{_≡_, refl, ap, _∙_}
 use mathlib.Core.Bool.{Bool, true, false}
 use mathlib.Core.List.{List, [], _∷_, _++_}
 use Prim.Native.Nat.{ℕ}
@@ -8,11 +8,10 @@ use borrow.Author.Tests.{eq-eqb, ne-eqb}
 use Rattle.lists.specs.Tests.{choose}
 use Rattle.answers.specs.Answers.{Answer, given, refused}
 use Rattle.search.specs.declared.Outcome.{Outcome}
-use Rattle.search.specs.Calls.{Call, gives}
 use Rattle.desk.specs.declared.Console.{Console}
 use Rattle.desk.specs.declared.Desk.{Desk}
-use Rattle.consoles.specs.Calls.{Request, newSet, start, outcome}
-use Rattle.consoles.specs.Lists.{DeskCall, answerTo, after, afterAll, Fed, unknown, since, feedWith, feedIf, fedBy, fedIn}
+use Rattle.consoles.specs.Calls.{Request, newSet, outcome}
+use Rattle.consoles.specs.Lists.{DeskCall, answerTo, after, afterAll, Fed, unknown, feedWith, feedIf, fedBy, fedIn}
 use Rattle.demands.specs.Order8.{FedCalls}
 
 -- what a call does, by whether it is of the console

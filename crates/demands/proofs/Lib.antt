@@ -1,7 +1,8 @@
 pub mod RulePages
-pub mod Reached
 pub mod Packets
 pub mod GotTo
+pub mod Reached
+pub mod Premises
 pub mod Tried
 pub mod Conditions
 pub mod CheckingOrder

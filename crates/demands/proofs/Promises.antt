@@ -11,6 +11,7 @@ use Rattle.demands.proofs.GotTo.{got-to, two-way, packets-tell}
 use Rattle.demands.proofs.BySwitches.{same-totals-of, by-switches, more-by-switch}
 use Rattle.demands.proofs.BuyingPages.{page-written, page-form}
 use Rattle.demands.proofs.Counted.{counted}
+use Rattle.demands.proofs.Premises.{premises, lost-over-sound}
 use Rattle.demands.proofs.Ceilings.{ceilings}
 use Rattle.demands.proofs.Rounds.{round-trail, round-run, shorter-trail, by-label}
 use Rattle.demands.proofs.Service.{marks, out-of-service, states-of, all-in-service}
@@ -36,6 +37,8 @@ promises = record {
   page-written = λ s p r. page-written s (r .bytes) p (r .read);
   page-form = page-form;
   counted = counted;
+  premises = premises;
+  lost-over-sound = λ s p r. lost-over-sound p (decode-sound s p (r .bytes) (r .read));
   ceilings = ceilings;
   round-trail = λ s p r. round-trail s (r .bytes) p (r .read);
   round-run = λ s p r. round-run s (r .bytes) p (r .read);

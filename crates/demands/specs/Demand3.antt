@@ -3,7 +3,7 @@ use Rattle.demands.specs.Vocabulary.{_≡_, _↔_, true, List, map, flat
 use Rattle.demands.specs.Vocabulary.{memb, given, answer, Plant, live, linksWith, roots, liveLinks, Crosses, ClosedWalk, ClosedWalks}
 use Rattle.demands.specs.Vocabulary.{bridges, trailFrom, FirstDown, nth, upBy, tableWith, trailOf, ruleOf, rulesOf, Call, perform}
 use Rattle.demands.specs.Vocabulary.{begun, ended, newSearch, IsDown, tabling, naming, beginning, performing, link, AllTrue}
-use Rattle.demands.specs.Vocabulary.{OneOfThree, Searches}
+use Rattle.demands.specs.Vocabulary.{OneOfThree, Searches, Each, Sending, sent, IsReturned, probeEnd, sentOver, Says}
 use Rattle.demands.specs.Names.{orderAt}
 
 -- the labels of the rules
@@ -34,6 +34,11 @@ pub record RulePage (p : Plant) : Type 0 where
   pub attained : ClosedWalks p (map (trailFrom p) (roots p)) × ((l : ℕ) → T (live p l) → Crosses l (trailOf p))
       × (arcsCrossed p (trailOf p) ≡ length (rulesOf p))
 
+-- "a fate is true if it is the one that probe m … has by the packet rule under the link states": returned exactly if its packet has ended,
+-- and else lost
+abbrev pub ByRule : Plant → ℕ → List ℕ → Sending → Type 0
+ByRule p x states (sent m o) = IsReturned o ↔ (probeEnd p x states m .ended ≡ true)
+
 -- for every listing that is read as a plant
 pub record Demand3 (s : List ℕ) (p : Plant) : Type 0 where
   -- "the rule page is document 01's"
@@ -53,3 +58,11 @@ pub record Demand3 (s : List ℕ) (p : Plant) : Type 0 where
       → (k : ℕ) → IsDown k (perform (begun (linksWith p x)) cs .state)
       → (answer (naming s x (trailOf p) (perform (begun (linksWith p x)) cs .state)) ≡ given (link (nth (orderAt p x) k)))
       × FirstDown (upBy states) (orderAt p x) k
+  -- where every accepted fate is true in document 01's sense, so that no packet vanishes, both premises hold, and so does the verdict of an
+  -- ended search; and there is such a list of calls that ends the search, whatever the states are
+  pub by-rule : (x : ℕ) → x < p .switches → (cs : List Call) (states : List ℕ) → Each (ByRule p x states) (sentOver p x cs)
+      → AllTrue p x states cs × OneOfThree p x states cs
+  pub says-by-rule : (x : ℕ) → x < p .switches → (cs : List Call) (states : List ℕ) → Each (ByRule p x states) (sentOver p x cs)
+      → ended (perform (begun (linksWith p x)) cs .state) ≡ true → Says p x states (perform (begun (linksWith p x)) cs .state)
+  pub reached-by-rule : (x : ℕ) → x < p .switches → (states : List ℕ)
+      → (cs : List Call) × Each (ByRule p x states) (sentOver p x cs) × (ended (perform (begun (linksWith p x)) cs .state) ≡ true)

@@ -1,6 +1,6 @@
 -- Document 02, order 8: four consoles, each with its own switches.
-use Rattle.demands.specs.Vocabulary.{_≡_, true, false, List, [], _∷_, _++_, ℕ, _≤_, _<_, _^_, given, refused, _>>=_, Answer, answer, Plant}
-use Rattle.demands.specs.Vocabulary.{maxSwitches, Bytes, linksWith, planningAt, Outcome, Search, Call, perform, begun, give}
+use Rattle.demands.specs.Vocabulary.{_≡_, true, false, List, [], _∷_, _++_, ℕ, _≤_, _<_, _^_, given, refused, _>>=_, Answer, answer}
+use Rattle.demands.specs.Vocabulary.{Plant, maxSwitches, Bytes, linksWith, planningAt, Outcome, Search, Call, perform, begun, give}
 use Rattle.demands.specs.Vocabulary.{newSearch, soundFor, Searches, Console, Desk, Held, Nothing, From, setOutOfRange, has}
 use Rattle.demands.specs.Vocabulary.{consoleWith, idle, freshDesk, consoleOf, newSet, start, outcome, Request, switchOf, asking}
 use Rattle.demands.specs.Vocabulary.{calling, DeskCall, answerTo, after, afterAll, callsOf, answersOf, unknown, since, fedIn, gives}

@@ -91,7 +91,7 @@ pub use Rattle.planner.specs.Calls.{placesShort, rewriting, rereading, summing,
 pub use Rattle.planner.specs.Calls.{roundTrailing, buying, rewritten, laidOut, boughtOut, roundLaidOut, quotingFor}
 pub use Rattle.probing.specs.Calls.{running, checking, roundRunning, choosing, ordering, outgoing, probing, naming, beginning, performing}
 pub use Rattle.probing.specs.Calls.{outSpan, link, outLabels, probeEnd, choiceAt}
-pub use Rattle.probing.specs.Searches.{CeilLog, AllTrue, OneOfThree, Searches, actualOutcome, sentOver, Says}
+pub use Rattle.probing.specs.Searches.{CeilLog, AllTrue, OneOfThree, Searches, actualOutcome, sentOver, Says, NoneBroken}
 -- ---- consoles
 pub use Rattle.desk.specs.declared.Console.{Console}
 pub use Rattle.desk.specs.declared.Desk.{Desk}
