@@ -1,5 +1,5 @@
 -- What document 02's order 2 promises holds: of every plant value, and of every listing that is read as a plant. Assumes nothing.
-use mathlib.Core.Path.{_≡_, refl, sym, ap, _∙_}
+use mathlib.Core.Path.{_≡_, sym, ap, _∙_}
 use mathlib.Core.List.{List}
 use Prim.Native.Nat.{ℕ}
 use native.Mathlib.Omega.{arith}
@@ -19,7 +19,7 @@ use Rattle.quantity.proofs.Spare.{quantity-sum}
 use Rattle.plan.specs.Plan.{rulesOf, tableOf}
 use Rattle.plan.proofs.Totals.{same-totals, totals}
 use Rattle.planner.specs.Calls.{tabling, counting}
-use Rattle.demands.specs.Order2.{SameTotals, BySwitches, MoreBySwitch}
+use Rattle.demands.specs.Order2.{SameTotals, BySwitches}
 
 module _ (p : Plant) where
   over-held : bySwitch (tableOf p) .total ≡ overSwitches (rulesOf p)
@@ -41,6 +41,3 @@ module _ (s : List ℕ) (b : Bytes s) (p : Plant) (e : answer (reading s) ≡ gi
         spare-on-total = λ spare _.
             omega (arith, ap (λ (n : ℕ). withSpare n spare) (t .over-switches), quantity-sum (p .switches) (at (bySwitch (tableOf p) .counts)) spare);
       }
-
-pub more-by-switch : MoreBySwitch
-more-by-switch = record { on-total = refl; by-switch = refl }

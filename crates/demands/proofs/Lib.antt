@@ -15,6 +15,7 @@ pub mod Naming
 pub mod Demand3
 pub mod Ceilings
 pub mod BySwitches
+pub mod RoundingCase
 pub mod BuyingPages
 pub mod Counted
 pub mod Rounds

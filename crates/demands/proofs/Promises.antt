@@ -8,7 +8,8 @@ use Rattle.demands.proofs.Demand2.{demand-2}
 use Rattle.demands.proofs.SearchIs.{search-is}
 use Rattle.demands.proofs.Demand3.{demand-3}
 use Rattle.demands.proofs.GotTo.{got-to, two-way, packets-tell}
-use Rattle.demands.proofs.BySwitches.{same-totals-of, by-switches, more-by-switch}
+use Rattle.demands.proofs.BySwitches.{same-totals-of, by-switches}
+use Rattle.demands.proofs.RoundingCase.{more-by-switch}
 use Rattle.demands.proofs.BuyingPages.{page-written, page-form}
 use Rattle.demands.proofs.Counted.{counted}
 use Rattle.demands.proofs.Premises.{premises, lost-over-sound}
