@@ -11,6 +11,7 @@ pub mod Components
 pub mod InUse
 pub mod Demand2
 pub mod SearchIs
+pub mod CallByCall
 pub mod Naming
 pub mod Demand3
 pub mod Ceilings

@@ -30,7 +30,7 @@ use Rattle.search.proofs.Finds.{moved, accepted, sends}
 use Rattle.probing.specs.Calls.{probeEnd}
 use Rattle.probing.specs.Searches.{NoneBroken, actualOutcome, ComesHome, sentOver}
 use Rattle.probing.proofs.Injection.{links-few, order-links, order-length, probe-tells}
-use Rattle.demands.specs.Order4.{ReturnedIn, LostInRow, Premises, LostOverSound}
+use Rattle.demands.specs.Order4.{ReturnedIn, LostInRow, TrueSendings, Premises, LostOverSound}
 use Rattle.demands.proofs.GotTo.{two-way}
 
 -- ---- what the premises say, where `home m` is that the packet rule brings probe m home
@@ -81,6 +81,11 @@ module _ (home : ℕ → Type 0) where
   one-returns : (l : List Sending) → ((m : ℕ) → home m → LostInRow m l → ⊥) → OneReturns home l
   one-returns l f before after m a b c e i =
       one-of a b c (λ z. f m i (record { before = before; after = after; a = a; b = b; c = c; lost = z; there = e }))
+
+pub true-sendings : (actual : ℕ → Outcome) (l : List Sending) → TrueSendings actual l
+true-sendings actual l =
+    let home : ℕ → Type 0 = λ m. IsReturned (actual m) in
+    record { all-true = (true-returns home l, returns-true home l); one-returns = (none-lost home l, one-returns home l) }
 
 module _ (p : Plant) (x : ℕ) (states : List ℕ) where
   -- it comes home exactly if its run has ended

@@ -12,7 +12,7 @@ use Rattle.demands.proofs.BySwitches.{same-totals-of, by-switches}
 use Rattle.demands.proofs.RoundingCase.{more-by-switch}
 use Rattle.demands.proofs.BuyingPages.{page-written, page-form}
 use Rattle.demands.proofs.Counted.{counted}
-use Rattle.demands.proofs.Premises.{premises, lost-over-sound}
+use Rattle.demands.proofs.Premises.{true-sendings, premises, lost-over-sound}
 use Rattle.demands.proofs.Ceilings.{ceilings}
 use Rattle.demands.proofs.Rounds.{round-trail, round-run, shorter-trail, by-label}
 use Rattle.demands.proofs.Service.{marks, out-of-service, states-of, all-in-service}
@@ -38,6 +38,7 @@ promises = record {
   page-written = λ s p r. page-written s (r .bytes) p (r .read);
   page-form = page-form;
   counted = counted;
+  true-sendings = true-sendings;
   premises = premises;
   lost-over-sound = λ s p r. lost-over-sound p (decode-sound s p (r .bytes) (r .read));
   ceilings = ceilings;

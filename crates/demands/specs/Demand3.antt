@@ -4,6 +4,7 @@ use Rattle.demands.specs.Vocabulary.{memb, given, answer, Plant, live, l
 use Rattle.demands.specs.Vocabulary.{bridges, trailFrom, FirstDown, nth, upBy, tableWith, trailOf, ruleOf, rulesOf, Call, perform}
 use Rattle.demands.specs.Vocabulary.{begun, ended, newSearch, IsDown, tabling, naming, beginning, performing, link, AllTrue}
 use Rattle.demands.specs.Vocabulary.{OneOfThree, Searches, Each, Sending, sent, IsReturned, probeEnd, sentOver, Says}
+use Rattle.demands.specs.Vocabulary.{[], _∷_, _++_, refused, Outcome, Search, ask, give, asks, gives}
 use Rattle.demands.specs.Names.{orderAt}
 
 -- the labels of the rules
@@ -39,6 +40,22 @@ pub record RulePage (p : Plant) : Type 0 where
 abbrev pub ByRule : Plant → ℕ → List ℕ → Sending → Type 0
 ByRule p x states (sent m o) = IsReturned o ↔ (probeEnd p x states m .ended ≡ true)
 
+-- what one more call does after a list of calls cs, from injection switch x; `sentOver p x cs` has the sendings of the list, which its
+-- packets and probes and the premises of its verdict are said of
+pub record CallByCall (p : Plant) (x : ℕ) (cs : List Call) : Type 0 where
+  -- "each call is handed the state that the last accepted fate returned, at first the new search" (read aloud)
+  pub first : (perform (begun (linksWith p x)) [] .state ≡ newSearch (linksWith p x)) × (sentOver p x [] ≡ [])
+  pub accepted : (o : Outcome) (q : Search) (m : ℕ) → answer (give (perform (begun (linksWith p x)) cs .state) o) ≡ given q
+      → answer (ask (perform (begun (linksWith p x)) cs .state)) ≡ given m
+      → (perform (begun (linksWith p x)) (cs ++ gives o ∷ []) .state ≡ q)
+      × (sentOver p x (cs ++ gives o ∷ []) ≡ sentOver p x cs ++ sent m o ∷ [])
+  -- "a call for a probe and a refused call leave that state as it is", and are no sendings
+  pub asked : (perform (begun (linksWith p x)) (cs ++ asks ∷ []) ≡ perform (begun (linksWith p x)) cs)
+      × (sentOver p x (cs ++ asks ∷ []) ≡ sentOver p x cs)
+  pub refusal : (o : Outcome) (n : ℕ) → answer (give (perform (begun (linksWith p x)) cs .state) o) ≡ refused n
+      → (perform (begun (linksWith p x)) (cs ++ gives o ∷ []) ≡ perform (begun (linksWith p x)) cs)
+      × (sentOver p x (cs ++ gives o ∷ []) ≡ sentOver p x cs)
+
 -- for every listing that is read as a plant
 pub record Demand3 (s : List ℕ) (p : Plant) : Type 0 where
   -- "the rule page is document 01's"
@@ -48,6 +65,7 @@ pub record Demand3 (s : List ℕ) (p : Plant) : Type 0 where
   -- switch": the search begins, the calls lead to r, and what holds of r is one statement, `Searches` of probing/specs/Searches
   pub begins : (x : ℕ) → x < p .switches → answer (beginning s x) ≡ given (newSearch (linksWith p x))
   pub performs : (x : ℕ) → x < p .switches → (cs : List Call) → answer (performing s x cs) ≡ given (perform (begun (linksWith p x)) cs)
+  pub call-by-call : (x : ℕ) → x < p .switches → (cs : List Call) → CallByCall p x cs
   pub searches : (x : ℕ) → x < p .switches → (cs : List Call) → Searches p x cs (perform (begun (linksWith p x)) cs)
   -- both premises can hold of a search that ends, whatever the states are
   pub reached : (x : ℕ) → x < p .switches → (states : List ℕ)

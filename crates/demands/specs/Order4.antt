@@ -1,7 +1,8 @@
 -- Document 02, order 4: packets that vanish. What a search does with them is in `Searches` of probing/specs/Searches; here what counts as a
 -- probe, of any list of sendings, and what the two premises of its verdict say.
 use Rattle.demands.specs.Vocabulary.{_≡_, _⊎_, _↔_, true, List, _∷_, _++_, ℕ, T, Outcome, Sending, sent, countedIn, IsReturned}
-use Rattle.demands.specs.Vocabulary.{IsLost, Plant, linksWith, Call, perform, begun, ended, probeEnd, sentOver, AllTrue, OneOfThree}
+use Rattle.demands.specs.Vocabulary.{IsLost, Each, TrueSending, OneReturns, Plant, linksWith, Call, perform, begun, ended}
+use Rattle.demands.specs.Vocabulary.{probeEnd, sentOver, AllTrue, OneOfThree}
 
 -- a sending of probe m returned
 pub record ReturnedIn (m : ℕ) (l : List Sending) : Type 0 where
@@ -27,13 +28,18 @@ Counted = (l : List Sending) (m : ℕ) → T (countedIn l m) ↔ (ReturnedIn m l
 
 -- ---- the premises
 
--- what they say of a list of calls after a new search from injection switch x, by the states of the links: `sentOver p x cs` has its
--- accepted outcomes, each with its probe, and the packet rule brings probe m home if its run has ended
-pub record Premises (p : Plant) (x : ℕ) (states : List ℕ) (cs : List Call) : Type 0 where
-  -- every accepted outcome is true: one of returned is of a probe that comes home, and nothing is asked of lost, since "a fate of lost is
+-- what is assumed of a list of sendings, where probe m has the outcome `actual m` by the packet rule, and comes home if that is returned
+pub record TrueSendings (actual : ℕ → Outcome) (l : List Sending) : Type 0 where
+  -- every sending is true: one that returned is of a probe that comes home; nothing is asked of one that was lost, since "a fate of lost is
   -- then true over sound links too"
-  pub all-true : AllTrue p x states cs ↔ ((m : ℕ) → ReturnedIn m (sentOver p x cs) → probeEnd p x states m .ended ≡ true)
+  pub all-true : Each (TrueSending (λ m. IsReturned (actual m))) l ↔ ((m : ℕ) → ReturnedIn m l → IsReturned (actual m))
   -- "of three sendings in a row of one probe over sound links, one returns": no three in a row of a probe that comes home were lost
+  pub one-returns : OneReturns (λ m. IsReturned (actual m)) l ↔ ((m : ℕ) → IsReturned (actual m) → LostInRow m l → ⊥)
+
+-- so the premises of demand 3, of a list of calls after a new search from injection switch x, by the states of the links: `sentOver p x cs`
+-- has its accepted outcomes, each with its probe, and the packet rule brings probe m home if its run has ended
+pub record Premises (p : Plant) (x : ℕ) (states : List ℕ) (cs : List Call) : Type 0 where
+  pub all-true : AllTrue p x states cs ↔ ((m : ℕ) → ReturnedIn m (sentOver p x cs) → probeEnd p x states m .ended ≡ true)
   pub one-of-three : OneOfThree p x states cs ↔ ((m : ℕ) → probeEnd p x states m .ended ≡ true → LostInRow m (sentOver p x cs) → ⊥)
 
 -- a sending of probe m was lost

@@ -6,7 +6,7 @@
 -- component, `linkWith p x l` says whether link l is one of it, and `linksWith p x` is E.
 use Rattle.demands.specs.Vocabulary.{_≡_, true, false, Bool, List, ℕ, _≤_, _<_, T, given, answer, Plant, outOfService, reading}
 use Rattle.demands.specs.Vocabulary.{linksWith, linkWith, End, run, Together, Connected, Sheet, quotingFor}
-use Rattle.demands.specs.Vocabulary.{Desk, DeskCall, Call, NoneBroken}
+use Rattle.demands.specs.Vocabulary.{Desk, DeskCall, Call, Outcome, Sending, NoneBroken}
 use Rattle.demands.specs.Names.{ReadAs}
 use Rattle.demands.specs.Conditions.{ConditionsAre}
 use Rattle.demands.specs.CheckingOrder.{CheckingOrder}
@@ -18,7 +18,7 @@ use Rattle.demands.specs.Demand3.{Demand3}
 use Rattle.demands.specs.Order1.{GotTo, TwoWay, PacketsTell}
 use Rattle.demands.specs.Order2.{SameTotals, BySwitches, MoreBySwitch}
 use Rattle.demands.specs.Order3.{PageWritten, PageForm}
-use Rattle.demands.specs.Order4.{Counted, Premises, LostOverSound}
+use Rattle.demands.specs.Order4.{Counted, TrueSendings, Premises, LostOverSound}
 use Rattle.demands.specs.Ceilings.{Ceilings}
 use Rattle.demands.specs.Order6.{RoundTrail, RoundRun, ShorterTrail, ByLabel}
 use Rattle.demands.specs.Order7.{Marks, OutOfService, StatesOf, AllInService}
@@ -53,6 +53,7 @@ pub record Promises : Type 0 where
   pub counted : Counted
   -- what its premises say; and they can hold of a search that ends where a sending over sound links was lost: for every plant and switch
   -- whose component has a link, if none of them is broken
+  pub true-sendings : (actual : ℕ → Outcome) (l : List Sending) → TrueSendings actual l
   pub premises : (p : Plant) (x : ℕ) (states : List ℕ) (cs : List Call) → Premises p x states cs
   pub lost-over-sound : (s : List ℕ) (p : Plant) → ReadAs s p → (x : ℕ) → x < p .switches → 1 ≤ linksWith p x → (states : List ℕ)
       → NoneBroken p x states → LostOverSound p x states

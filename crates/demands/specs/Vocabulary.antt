@@ -71,7 +71,7 @@ pub use Rattle.quantity.specs.Quantity.{maxSpare, spareAbove, orderQuantity, wi
 pub use Rattle.allowance.specs.Allowance.{allowance}
 pub use Rattle.search.specs.declared.Outcome.{Outcome}
 pub use Rattle.search.specs.declared.Search.{Search}
-pub use Rattle.search.specs.Calls.{Call, gives, perform, begun, Sending, sent, countedIn, TrueSending, OneReturns}
+pub use Rattle.search.specs.Calls.{Call, asks, gives, perform, begun, Sending, sent, countedIn, TrueSending, OneReturns}
 pub use Rattle.search.specs.Search.{sound, ended, ask, give, newSearch, wanted, soundFor}
 pub use Rattle.search.specs.Sound.{Good}
 pub use Rattle.search.specs.Values.{IsAllUp, IsDown, IsReturned, IsLost, Values, valuesOf, halving, allUp, down, outcomeNumber}
