@@ -4,6 +4,7 @@
 use mathlib.Core.Path.{_≡_, refl}
 use mathlib.Core.List.{List, [], _∷_, map, _++_}
 use Prim.Native.Nat.{ℕ}
+use lib.ListN.{length}
 use Rattle.lists.specs.Count.{count}
 use Rattle.lists.specs.Least.{leastFrom}
 use Rattle.lists.specs.Numbers.{every}
@@ -20,6 +21,8 @@ use Rattle.listing.specs.Listing as listing
 use Rattle.search.specs.declared.Search.the-variants.{Checking, Halving, AllUp, Down}
 use Rattle.search.specs.declared.Outcome.the-variants.{Returned, Lost}
 use Rattle.search.specs.Search.{newSearch}
+use Rattle.search.specs.Calls.{Call, asks, gives}
+use Rattle.search.specs.Values.{outcomeNumber}
 use Rattle.judging.specs.Conditions.{searchUnsound}
 use Rattle.desk.specs.declared.Held.the-variants.{Nothing, From}
 use Rattle.desk.specs.declared.Console.{Console}
@@ -27,7 +30,7 @@ use Rattle.desk.specs.Console.{setOutOfRange, consoleWith, replacing, starting,
 use Rattle.desk.specs.Desk.{freshDesk, consoleOf, withConsole}
 use Rattle.desk.specs.Cases.{console}
 use Rattle.consoles.specs.Calls.{consoleOutOfRange, sizing, Request, newSet, start, outcome, calling, served}
-use Rattle.consoles.specs.Lists.{DeskCall, afterAll, answersOf}
+use Rattle.consoles.specs.Lists.{DeskCall, afterAll, answersOf, Fed, unknown, since, fedIn}
 
 -- the triangle, and that with its last link out of service
 abbrev triangle : List ℕ
@@ -79,6 +82,19 @@ answers k = given (flat (answersOf k freshDesk turns))
 
 abbrev stands : ℕ → Answer (List ℕ)
 stands k = given (console (consoleOf (afterAll freshDesk turns) k))
+
+-- the calls that start and feed a console's search, as numbers: the length of the listing, the switch, and 0 or 1 for each outcome
+abbrev fed : ℕ → Answer (List ℕ)
+fed k = given (numbers (fedIn k freshDesk turns))
+  where
+    outcomes : List Call → List ℕ
+    outcomes [] = []
+    outcomes (asks ∷ l) = outcomes l
+    outcomes (gives o ∷ l) = outcomeNumber o ∷ outcomes l
+
+    numbers : Fed → List ℕ
+    numbers unknown = []
+    numbers (since s x os) = length s ∷ x ∷ outcomes os
 
 abbrev pub rows : List (Answer (List ℕ) × Answer (List ℕ))
 rows =
@@ -145,6 +161,11 @@ rows =
     ∷ (stands 1, given (0 ∷ []))
     ∷ (stands 2, given (5 ∷ 1 ∷ 0 ∷ 3 ∷ 1 ∷ []))
     ∷ (stands 3, given (0 ∷ []))
+    -- of these, what started and fed a console's search: not refused calls, calls of others or new sets; without a start, nothing
+    ∷ (fed 0, given (12 ∷ 0 ∷ 1 ∷ []))
+    ∷ (fed 1, given [])
+    ∷ (fed 2, given (12 ∷ 1 ∷ 0 ∷ []))
+    ∷ (fed 4, given [])
     ∷ []
 
 as-said : map (λ r. r .0) rows ≡ map (λ r. r .1) rows

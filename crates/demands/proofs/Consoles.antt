@@ -17,6 +17,7 @@ use Rattle.search.specs.Search.{newSearch, next}
 use Rattle.judging.specs.Conditions.{wantedChecks}
 use Rattle.planning.proofs.Plans.{at-given}
 use Rattle.probing.proofs.Searching.{searches}
+use Rattle.desk.specs.declared.Console.{Console}
 use Rattle.desk.specs.declared.Held.the-variants.{From}
 use Rattle.desk.specs.Console.{has, setOutOfRange, switchChecks, consoleWith, replacing, starting, telling}
 use Rattle.desk.specs.Inner.{givingTo}
@@ -34,7 +35,8 @@ pub sets : Sets
 sets = record {
   none-beyond = λ set h. sym (none-above set maxSwitches h);
   fresh = fresh-idle;
-  empty = λ x. sym (small-has 0 x (pow-pos x));
+  empty = λ k h x. ap (λ (c : Console). has (c .set) x) (fresh-idle k h) ∙ sym (small-has 0 x (pow-pos x));
+  no-search = λ k h. ap (λ (c : Console). c .search) (fresh-idle k h);
 }
 
 pub console-calls : (k : ℕ) → k ≤ 3 → (s : List ℕ) (p : Plant) → answer (reading s) ≡ given p → ConsoleCalls k s p

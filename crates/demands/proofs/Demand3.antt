@@ -24,7 +24,8 @@ use Rattle.planner.specs.Calls.{tabling}
 use Rattle.probing.specs.Calls.{beginning, performedIn, performing}
 use Rattle.demands.specs.Demand3.{PageHanded, Demand3}
 use Rattle.demands.proofs.RulePages.{rule-page}
-use Rattle.demands.proofs.Reached.{reached}
+use Rattle.demands.proofs.Reached.{reached, by-rule, says-by-rule, reached-by-rule}
+use Rattle.demands.proofs.CallByCall.{call-by-call}
 use Rattle.demands.proofs.Naming.{names}
 use Rattle.probing.proofs.Searching.{searches}
 
@@ -47,7 +48,11 @@ demand-3 s b p e =
       rules = rule-page p ok;
       begins = λ x h. gives-so (planningAt s x) (λ q. newSearch (linksWith q x)) p (given-at s x p e h);
       performs = λ x h cs. gives-so (planningAt s x) (performedIn x cs) p (given-at s x p e h);
+      call-by-call = λ x h cs. call-by-call p x cs;
       searches = λ x h. searches p ok x h;
       reached = λ x h. reached p ok x h;
       names = λ x h. names s b p e x h;
+      by-rule = λ x h cs states. by-rule p ok x h states cs;
+      says-by-rule = λ x h cs states. says-by-rule p ok x h states cs;
+      reached-by-rule = λ x h. reached-by-rule p ok x h;
     }

@@ -1,12 +1,14 @@
 -- What document 02's order 1 promises holds: of any run, of probes, and of the calls that run a packet. Assumes a sound plant and one of its switches where it speaks of
 -- a trail.
-use mathlib.Core.Path.{_≡_, sym, ap, _∙_, subst}
-use mathlib.Core.Bool.{Bool, true, false, _&&_}
+use mathlib.Core.Path.{_≡_, refl, sym, ap, _∙_, subst}
+use mathlib.Core.Logic.{_↔_}
+use mathlib.Core.Bool.{Bool, true, false, false≢true, _&&_}
 use mathlib.Core.List.{List}
 use Prim.Native.Nat.{ℕ, _*_, _<_}
 use native.Mathlib.Omega.{arith}
 use borrow.Author.Tests.{eq-eqb, ne-eqb}
 use lib.ListN.{length, getD, take, length-append}
+use Rattle.lists.specs.Tests.{choose}
 use Rattle.lists.proofs.Tests.{and-true, and-false}
 use Rattle.plant.specs.declared.Plant.{Plant}
 use Rattle.limits.specs.Sound.{Sound}
@@ -28,14 +30,16 @@ use Rattle.rings.proofs.Injection.{full-run, probe-home}
 use Rattle.rings.proofs.GotTo as rings
 use Rattle.packet.specs.Outcome.{outcomeOf}
 use Rattle.packet.proofs.Ways.{back-length}
+use Rattle.search.specs.declared.Outcome.the-variants.{Returned, Lost}
 use Rattle.search.specs.declared.Search.{Search}
 use Rattle.search.specs.Search.{wanted}
+use Rattle.search.specs.Values.{IsReturned, IsLost}
 use Rattle.planning.specs.Planning.{planningAt}
 use Rattle.planning.proofs.Plans.{given-at}
 use Rattle.probing.specs.Calls.{runIn, running, checkIn, checking, outLabels, probeEnd, probeIn, probing}
 use Rattle.probing.proofs.Injection.{trail-used, ring-at}
 use Rattle.probing.specs.Searches.{actualOutcome}
-use Rattle.demands.specs.Order1.{GotTo, ProbeGotTo, PacketsTell}
+use Rattle.demands.specs.Order1.{GotTo, ProbeGotTo, TwoWay, PacketsTell}
 
 -- ---- any run
 
@@ -62,6 +66,15 @@ module _ (rule : ℕ → ℕ → Bool) (up : ℕ → Bool) (hd : ℕ → ℕ) (a
         reached = rw hops (ap (leadsTo hd at) (crossed-first rule up hd w at));
         ended = (λ t. omega (arith, r .0 t), λ e. r .1 (omega arith));
       }
+
+-- ---- the two-way outcome
+
+by-ended : (b : Bool) → (IsReturned (choose b Returned Lost) ↔ (b ≡ true)) × (IsLost (choose b Returned Lost) ↔ (b ≡ false))
+by-ended true = ((λ z. refl, λ z. refl), (λ z. absurd (omega (arith, z)), λ z. absurd (false≢true (sym z))))
+by-ended false = ((λ z. absurd (omega (arith, z)), λ z. absurd (false≢true z)), (λ z. refl, λ z. refl))
+
+pub two-way : (e : End) → TwoWay e
+two-way e = let r = by-ended (e .ended) in record { returned = r .0; lost = r .1 }
 
 -- ---- probes
 

@@ -9,14 +9,17 @@ use Rattle.demands.proofs.ListingBytes.{listing-bytes}
 use Rattle.demands.proofs.SearchIs.{search-is}
 use Rattle.demands.proofs.Demand3.{demand-3}
 use Rattle.demands.proofs.Answered.{answered, answered-always}
-use Rattle.demands.proofs.GotTo.{got-to, packets-tell}
+use Rattle.demands.proofs.GotTo.{got-to, packets-tell, two-way}
 use Rattle.demands.proofs.BySwitches.{same-totals-of, by-switches}
+use Rattle.demands.proofs.RoundingCase.{more-by-switch}
 use Rattle.demands.proofs.BuyingPages.{page-written, page-form}
 use Rattle.demands.proofs.Counted.{counted}
+use Rattle.demands.proofs.Premises.{true-sendings, premises, lost-over-sound}
 use Rattle.demands.proofs.Ceilings.{ceilings}
 use Rattle.demands.proofs.Rounds.{round-trail, round-run, shorter-trail, by-label}
 use Rattle.demands.proofs.Service.{marks, out-of-service, states-of, all-in-service}
 use Rattle.demands.proofs.Consoles.{sets, console-calls, isolated, agreeing, console-searches}
+use Rattle.demands.proofs.FedCalls.{fed-calls}
 use Rattle.demands.proofs.Components.{never-nine, parted, elsewhere, no-links, one-component}
 
 pub promises : Promises
@@ -32,12 +35,17 @@ promises = record {
   answered = λ s p r. answered s (r .bytes) p (r .read);
   answered-always = answered-always;
   got-to = got-to;
+  two-way = two-way;
   packets-tell = λ s p r. packets-tell s (r .bytes) p (r .read);
   same-totals = same-totals-of;
   by-switches = λ s p r. by-switches s (r .bytes) p (r .read);
+  more-by-switch = more-by-switch;
   page-written = λ s p r. page-written s (r .bytes) p (r .read);
   page-form = page-form;
   counted = counted;
+  true-sendings = true-sendings;
+  premises = premises;
+  lost-over-sound = λ s p r. lost-over-sound p (decode-sound s p (r .bytes) (r .read));
   ceilings = ceilings;
   round-trail = λ s p r. round-trail s (r .bytes) p (r .read);
   round-run = λ s p r. round-run s (r .bytes) p (r .read);
@@ -51,6 +59,7 @@ promises = record {
   console-calls = console-calls;
   isolated = isolated;
   agreeing = agreeing;
+  fed-calls = fed-calls;
   console-searches = console-searches;
   never-nine = never-nine;
   parted = λ s p r. parted s (r .bytes) p (r .read);

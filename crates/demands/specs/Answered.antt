@@ -3,8 +3,8 @@
 use Rattle.demands.specs.Vocabulary.{_≡_, _⊎_, _↔_, false, Bool, List, [], _∷_, _++_, map, flatten, ℕ, _≤_, _<_, _+_, _/_, _%_, T}
 use Rattle.demands.specs.Vocabulary.{length, drop, getD, take, at, given, refused, answer, Plant, live, maxLinks, reading, linksWith}
 use Rattle.demands.specs.Vocabulary.{roots, Bridge, liveLinks, bridges, trailFrom, nth, upTo, trailOf, rulesOf, Span, stretchOf}
-use Rattle.demands.specs.Vocabulary.{frontOf, Search, IsAllUp, IsDown, valuesOf, halving, Order, none, unknown, ascii, decimal, line}
-use Rattle.demands.specs.Vocabulary.{printed, summing, bridging, ordering, outgoing, naming, link, outLabels}
+use Rattle.demands.specs.Vocabulary.{frontOf, Search, IsAllUp, IsDown, valuesOf, halving, Order, none, ascii, decimal, line, printed}
+use Rattle.demands.specs.Vocabulary.{summing, bridging, ordering, outgoing, naming, link, outLabels, unknown}
 use Rattle.search.specs.Values.{checking}
 use Rattle.demands.specs.Names.{ringAt, orderAt}
 

@@ -1,8 +1,8 @@
 -- Document 02, order 1: where the packet got to.
 use Rattle.demands.specs.Vocabulary.{_≡_, _⊎_, _↔_, true, false, Bool, List, ℕ, _≤_, _<_, _*_, _/_, length, getD, take, given, answer}
 use Rattle.demands.specs.Vocabulary.{Plant, head, linksWith, used, FirstDown, probeRules, nth, End, run, leadsTo, back, inAll, upBy}
-use Rattle.demands.specs.Vocabulary.{upByLink, inTable, Search, wanted, outcomeOf, running, checking, probing, outLabels}
-use Rattle.demands.specs.Vocabulary.{actualOutcome}
+use Rattle.demands.specs.Vocabulary.{upByLink, inTable, Search, wanted, IsReturned, IsLost, outcomeOf, running, checking, probing}
+use Rattle.demands.specs.Vocabulary.{outLabels, actualOutcome}
 use Rattle.demands.specs.Names.{ringAt, orderAt, probeAt, probeRunAt}
 
 -- what the answer e of a run tells: of a packet from switch `at` with labels w, under these rules, by the labels that are up
@@ -29,6 +29,11 @@ pub record ProbeGotTo (p : Plant) (x : ℕ) (states : List ℕ) (m : ℕ) (e : E
   pub lost-at : e .ended ≡ false
       → (k : ℕ) × FirstDown (upBy states) (orderAt p x) k × (nth (orderAt p x) k ≡ getD (outLabels p x m) (e .hops) 0 / 2)
 
+-- "who used the old two-way fate reads it out of the new one", of every answer e of a run: returned exactly if it has ended, else lost
+pub record TwoWay (e : End) : Type 0 where
+  pub returned : IsReturned (outcomeOf e) ↔ (e .ended ≡ true)
+  pub lost : IsLost (outcomeOf e) ↔ (e .ended ≡ false)
+
 -- for every listing that is read as a plant, and every one of its switches: what the calls that run a packet tell
 pub record PacketsTell (s : List ℕ) (p : Plant) (x : ℕ) : Type 0 where
   -- whatever labels are up: with all labels of its way out crossed, a probe goes back from where they lead, and counts on from as many hops
@@ -45,6 +50,6 @@ pub record PacketsTell (s : List ℕ) (p : Plant) (x : ℕ) : Type 0 where
   pub run-probe : (w states : List ℕ) (q : Search) (e : End) → answer (probing s x w states q) ≡ given e
       → GotTo (probeRules p (used p) (linksWith p x) (wanted q)) (upByLink states) (head p) x (probeAt p x (wanted q)) e
       × ProbeGotTo p x states (wanted q) e
-  -- "who used the old two-way fate reads it out of the new one": it is the one that demand 3 speaks of
+  -- the two-way outcome of the answer is the one that demand 3 speaks of
   pub outcome : (w states : List ℕ) (q : Search) (e : End) → answer (probing s x w states q) ≡ given e
       → outcomeOf e ≡ actualOutcome p x states (wanted q)

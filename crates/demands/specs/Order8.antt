@@ -1,9 +1,9 @@
 -- Document 02, order 8: four consoles, each with its own switches.
-use Rattle.demands.specs.Vocabulary.{_≡_, true, false, List, ℕ, _≤_, _<_, _^_, given, refused, _>>=_, Answer, answer, Plant}
-use Rattle.demands.specs.Vocabulary.{maxSwitches, Bytes, linksWith, planningAt, Outcome, Search, Call, perform, begun, give}
-use Rattle.demands.specs.Vocabulary.{newSearch, soundFor, Searches, Console, Desk, Held, Nothing, From, setOutOfRange, has}
+use Rattle.demands.specs.Vocabulary.{_≡_, true, false, List, [], _∷_, _++_, ℕ, _≤_, _<_, _^_, given, refused, _>>=_, Answer, answer}
+use Rattle.demands.specs.Vocabulary.{Plant, maxSwitches, Bytes, linksWith, planningAt, Outcome, Search, Call, gives, perform, begun}
+use Rattle.demands.specs.Vocabulary.{give, newSearch, soundFor, Searches, Console, Desk, Held, Nothing, From, setOutOfRange, has}
 use Rattle.demands.specs.Vocabulary.{consoleWith, idle, freshDesk, consoleOf, newSet, start, outcome, Request, switchOf, asking}
-use Rattle.demands.specs.Vocabulary.{calling, DeskCall, answerTo, after, afterAll, callsOf, answersOf, since, fedIn}
+use Rattle.demands.specs.Vocabulary.{calling, DeskCall, answerTo, after, afterAll, callsOf, answersOf, unknown, since, fedIn}
 
 -- sets of switches, and a fresh desk
 pub record Sets : Type 0 where
@@ -11,7 +11,8 @@ pub record Sets : Type 0 where
   pub none-beyond : (set : ℕ) → set < 2 ^ maxSwitches → setOutOfRange maxSwitches set ≡ false
   -- "a fresh desk has empty sets and no search"
   pub fresh : (k : ℕ) → k ≤ 3 → consoleOf freshDesk k ≡ idle
-  pub empty : (x : ℕ) → has (idle .set) x ≡ false
+  pub empty : (k : ℕ) → k ≤ 3 → (x : ℕ) → has (consoleOf freshDesk k .set) x ≡ false
+  pub no-search : (k : ℕ) → k ≤ 3 → consoleOf freshDesk k .search ≡ Nothing
 
 -- for a console k of the four, and a listing s that is read as a plant p: what a call does goes by S of p, and by E of the component of the
 -- switch that it goes by, that of a start or of its search
@@ -53,6 +54,25 @@ pub record Agreement (k : ℕ) (d e : Desk) (cs ds : List DeskCall) : Type 0 whe
 abbrev pub Agreeing : Type 0
 Agreeing = (k : ℕ) → k ≤ 3 → (d e : Desk) (cs ds : List DeskCall) → consoleOf d k ≡ consoleOf e k → callsOf k cs ≡ callsOf k ds
     → Agreement k d e cs ds
+
+-- `fedIn k d cs`, the calls of the list cs on a desk d that start and feed the search of console k: `since s x os`, the last start that was
+-- not refused, at switch x with the listing s, and the outcomes os after it that were not refused, or `unknown` without such a start. What
+-- it is before every call, and after one more call c
+pub record FedCalls (k : ℕ) (d : Desk) (cs : List DeskCall) (c : DeskCall) : Type 0 where
+  -- (read aloud)
+  pub none : fedIn k d [] ≡ unknown
+  -- a start of console k that is not refused, whatever was before it
+  pub started : c .console ≡ k → (x : ℕ) → c .request ≡ start x → (a : Console) → answerTo (afterAll d cs) c ≡ given a
+      → fedIn k d (cs ++ c ∷ []) ≡ since (c .listing) x []
+  -- an outcome of console k that is not refused is one more after the same start
+  pub fed : c .console ≡ k → (o : Outcome) → c .request ≡ outcome o → (a : Console) → answerTo (afterAll d cs) c ≡ given a
+      → (s : List ℕ) (x : ℕ) (os : List Call) → fedIn k d cs ≡ since s x os → fedIn k d (cs ++ c ∷ []) ≡ since s x (os ++ gives o ∷ [])
+  -- without a start before it, it tells nothing
+  pub fed-unknown : c .console ≡ k → (o : Outcome) → c .request ≡ outcome o → fedIn k d cs ≡ unknown → fedIn k d (cs ++ c ∷ []) ≡ unknown
+  -- a new set, a refused call and a call of another console leave it
+  pub set-leaves : (set : ℕ) → c .request ≡ newSet set → fedIn k d (cs ++ c ∷ []) ≡ fedIn k d cs
+  pub refusal-leaves : (n : ℕ) → answerTo (afterAll d cs) c ≡ refused n → fedIn k d (cs ++ c ∷ []) ≡ fedIn k d cs
+  pub others-leave : (c .console ≡ k → ⊥) → fedIn k d (cs ++ c ∷ []) ≡ fedIn k d cs
 
 -- demand 3 of a console's search, for every list cs of calls on a desk d: where the calls that start and feed the search of console k are
 -- the start at switch x with the listing s, and then the outcomes os, they do what demand 3 says of them, whatever the other consoles do

@@ -5,7 +5,8 @@
 -- switch at which each begins, `trailOf p` their trails one after another; of a named switch x, `trailWith p x` is the trail of its
 -- component, `linkWith p x l` says whether link l is one of it, and `linksWith p x` is E.
 use Rattle.demands.specs.Vocabulary.{_≡_, true, false, Bool, List, ℕ, _≤_, _<_, T, given, answer, Plant, outOfService, reading}
-use Rattle.demands.specs.Vocabulary.{linksWith, linkWith, run, Together, Connected, Sheet}
+use Rattle.demands.specs.Vocabulary.{linksWith, linkWith, End, run, Together, Connected, Outcome, Call, Sending, Sheet, NoneBroken}
+use Rattle.demands.specs.Vocabulary.{Desk, DeskCall}
 use Rattle.demands.specs.Names.{ReadAs}
 use Rattle.demands.specs.Conditions.{ConditionsAre}
 use Rattle.demands.specs.CheckingOrder.{CheckingOrder}
@@ -16,14 +17,14 @@ use Rattle.demands.specs.ListingBytes.{ListingBytes}
 use Rattle.demands.specs.SearchIs.{SearchIs}
 use Rattle.demands.specs.Demand3.{Demand3}
 use Rattle.demands.specs.Answered.{Answered, AnsweredAlways}
-use Rattle.demands.specs.Order1.{GotTo, PacketsTell}
-use Rattle.demands.specs.Order2.{SameTotals, BySwitches}
+use Rattle.demands.specs.Order1.{GotTo, PacketsTell, TwoWay}
+use Rattle.demands.specs.Order2.{SameTotals, BySwitches, MoreBySwitch}
 use Rattle.demands.specs.Order3.{PageWritten, PageForm}
-use Rattle.demands.specs.Order4.{Counted}
+use Rattle.demands.specs.Order4.{Counted, TrueSendings, Premises, LostOverSound}
 use Rattle.demands.specs.Ceilings.{Ceilings}
 use Rattle.demands.specs.Order6.{RoundTrail, RoundRun, ShorterTrail, ByLabel}
 use Rattle.demands.specs.Order7.{Marks, OutOfService, StatesOf, AllInService}
-use Rattle.demands.specs.Order8.{Sets, ConsoleCalls, Isolated, Agreeing, ConsoleSearches}
+use Rattle.demands.specs.Order8.{Sets, ConsoleCalls, Isolated, Agreeing, FedCalls, ConsoleSearches}
 use Rattle.demands.specs.Order9.{NeverNine, Parted, Elsewhere, NoLinks, OneComponent}
 
 pub record Promises : Type 0 where
@@ -45,15 +46,23 @@ pub record Promises : Type 0 where
   pub answered-always : AnsweredAlways
   -- order 1: where a packet got to, whatever the rules are; and what the calls tell
   pub got-to : (rule : ℕ → ℕ → Bool) (up : ℕ → Bool) (hd : ℕ → ℕ) (at : ℕ) (w : List ℕ) → GotTo rule up hd at w (run rule up hd at 0 w)
+  pub two-way : (e : End) → TwoWay e
   pub packets-tell : (s : List ℕ) (p : Plant) → ReadAs s p → (x : ℕ) → x < p .switches → PacketsTell s p x
   -- order 2: rules for each switch; "both totals must be the same number for every plant", sound or not
   pub same-totals : (p : Plant) → SameTotals p
   pub by-switches : (s : List ℕ) (p : Plant) → ReadAs s p → BySwitches s p
+  pub more-by-switch : MoreBySwitch
   -- order 3: for every spare of 0 to 100 there are counts c, whose page is written; and what a reader accepts
   pub page-written : (s : List ℕ) (p : Plant) → ReadAs s p → (spare : ℕ) → spare ≤ 100 → (c : Sheet) × PageWritten s p spare c
   pub page-form : (b : List ℕ) → PageForm b
   -- order 4: what counts as a probe
   pub counted : Counted
+  -- what its premises say; and they can hold of a search that ends where a sending over sound links was lost: for every plant and switch
+  -- whose component has a link, if none of them is broken
+  pub true-sendings : (actual : ℕ → Outcome) (l : List Sending) → TrueSendings actual l
+  pub premises : (p : Plant) (x : ℕ) (states : List ℕ) (cs : List Call) → Premises p x states cs
+  pub lost-over-sound : (s : List ℕ) (p : Plant) → ReadAs s p → (x : ℕ) → x < p .switches → 1 ≤ linksWith p x → (states : List ℕ)
+      → NoneBroken p x states → LostOverSound p x states
   -- order 5: the allowance keeps its meaning, as the order quantity has document 01's
   pub ceilings : Ceilings
   -- order 6: links that fail one way
@@ -72,6 +81,7 @@ pub record Promises : Type 0 where
   pub console-calls : (k : ℕ) → k ≤ 3 → (s : List ℕ) (p : Plant) → answer (reading s) ≡ given p → ConsoleCalls k s p
   pub isolated : Isolated
   pub agreeing : Agreeing
+  pub fed-calls : (k : ℕ) (d : Desk) (cs : List DeskCall) (c : DeskCall) → FedCalls k d cs c
   pub console-searches : ConsoleSearches
   -- order 9: plants in several components
   pub never-nine : NeverNine

@@ -72,7 +72,7 @@ pub use Rattle.quantity.specs.Quantity.{maxSpare, spareAbove, orderQuantity, wi
 pub use Rattle.allowance.specs.Allowance.{allowance}
 pub use Rattle.search.specs.declared.Outcome.{Outcome}
 pub use Rattle.search.specs.declared.Search.{Search}
-pub use Rattle.search.specs.Calls.{Call, perform, begun, Sending, sent, countedIn, TrueSending, OneReturns}
+pub use Rattle.search.specs.Calls.{Call, asks, gives, perform, begun, Sending, sent, countedIn, TrueSending, OneReturns}
 pub use Rattle.search.specs.Search.{sound, ended, ask, give, newSearch, wanted, soundFor}
 pub use Rattle.search.specs.Sound.{Good}
 pub use Rattle.search.specs.Values.{IsAllUp, IsDown, IsReturned, IsLost, Values, valuesOf, halving, allUp, down, outcomeNumber}
@@ -98,7 +98,7 @@ pub use Rattle.planner.specs.Calls.{placesShort, rewriting, rereading, summing,
 pub use Rattle.planner.specs.Calls.{roundTrailing, buying, rewritten, laidOut, boughtOut, roundLaidOut}
 pub use Rattle.probing.specs.Calls.{running, checking, roundRunning, choosing, ordering, outgoing, probing, naming, beginning, performing}
 pub use Rattle.probing.specs.Calls.{outSpan, link, outLabels, probeEnd, choiceAt}
-pub use Rattle.probing.specs.Searches.{CeilLog, AllTrue, OneOfThree, Searches, actualOutcome, sentOver, Says}
+pub use Rattle.probing.specs.Searches.{CeilLog, AllTrue, OneOfThree, Searches, actualOutcome, sentOver, Says, NoneBroken}
 -- ---- consoles
 pub use Rattle.desk.specs.declared.Console.{Console}
 pub use Rattle.desk.specs.declared.Desk.{Desk}
@@ -107,4 +107,4 @@ pub use Rattle.desk.specs.declared.Held.the-variants.{Nothing, From}
 pub use Rattle.desk.specs.Console.{setOutOfRange, outsideSet, has, consoleWith, idle}
 pub use Rattle.desk.specs.Desk.{freshDesk, consoleOf}
 pub use Rattle.consoles.specs.Calls.{consoleOutOfRange, newSet, start, outcome, serving, Request, switchOf, asking, calling, served}
-pub use Rattle.consoles.specs.Lists.{DeskCall, answerTo, after, afterAll, callsOf, answersOf, since, fedIn}
+pub use Rattle.consoles.specs.Lists.{DeskCall, answerTo, after, afterAll, callsOf, answersOf, unknown, since, fedIn}
