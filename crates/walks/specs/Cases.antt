@@ -176,8 +176,8 @@ tailOut = record {
   round = 0 ∷ 2 ∷ 4 ∷ 5 ∷ 3 ∷ 1 ∷ [];
 }
 
--- two links between 0 and 1, and one from there to 2: at switch 1 the second link is tried, and crossed both ways, before the third, which is
--- entered. To enter first what leads to an unvisited switch would give 0 4 5 2 3 1
+-- two links between 0 and 1, and one from there to 2: at switch 1 the second link is crossed both ways before the third is entered. To
+-- enter first what leads to an unvisited switch would give 0 4 5 2 3 1
 abbrev pub pairAndTail : Row
 pairAndTail = record {
   plant = plantOf 3 ((0, 1) ∷ (1, 0) ∷ (1, 2) ∷ []);
