@@ -18,8 +18,7 @@ use Rattle.walks.specs.Graph.{Crosses, arcs, visitedFrom}
 use Rattle.walks.specs.Round.{roundFrom}
 use Rattle.walks.specs.RoundRule.{Leaves, RoundAt, finished, passed, entered, met, ByRoundRule}
 use Rattle.walks.proofs.Live.{live-below}
-use Rattle.walks.proofs.Labels.{even-half, odd-half, even-or-odd, opposite-half, opposite-even, same-link, crosses, crosses-arc, tail-opposite, even-arc, odd-arc, ends-apart}
-use Rattle.walks.proofs.Visited.{begin}
+use Rattle.walks.proofs.Labels.{even-or-odd, opposite-half, opposite-even, same-link, crosses, crosses-arc, tail-opposite, even-arc, odd-arc, ends-apart}
 use Rattle.walks.proofs.Tour.{Met, Tours, stop, pass, both, through, hops-are}
 use Rattle.walks.proofs.Round.{run}
 
