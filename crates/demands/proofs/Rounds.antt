@@ -26,6 +26,7 @@ use Rattle.walks.specs.Graph.{liveLinks}
 use Rattle.walks.specs.Components.{rootOf, linkWith, linksWith, used}
 use Rattle.walks.proofs.Components.{listed-in, links-with}
 use Rattle.walks.proofs.Round.{round-visits, first-met}
+use Rattle.walks.proofs.RoundRule.{round-by-rule, round-only}
 use Rattle.walks.proofs.Valid.{sound-valid}
 use Rattle.walks.proofs.Labels.{even-half, odd-half}
 use Rattle.plan.specs.Plan.{trailOf, trailWith, roundOf, roundWith}
@@ -77,6 +78,8 @@ pub round-trail : (s : List ℕ) → Bytes s → (p : Plant) → answer (reading
 unfolding roundTrailing roundLaidOut
 round-trail s bytes p e = record {
   visit = λ r i. round-visits p valid r (listed-in p valid (ok .start-in) r i);
+  by-rule = λ r i. round-by-rule p valid r (listed-in p valid (ok .start-in) r i);
+  only = λ r i. round-only p valid r (listed-in p valid (ok .start-in) r i);
   first-met = λ r i. first-met p valid r (listed-in p valid (ok .start-in) r i);
   are = are;
   fewest = λ x y w h c v. omega (arith, vouched-fewest p (linkWith p x) (alive p x) y w v, links-with p valid (ok .start-in) x h, hops-of p ok x h);

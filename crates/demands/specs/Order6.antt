@@ -5,7 +5,7 @@ use Rattle.demands.specs.Vocabulary.{linkWith, liveLinks, visitedFrom, e
 use Rattle.demands.specs.Vocabulary.{FirstHop, upByLabel, EveryUp, Vouches, linkBytes, inAll, upBy, trailOf, roundOf, trailWith}
 use Rattle.demands.specs.Vocabulary.{roundWith, roundBegin, AreRounds, Choice, hopsIn, Call, perform, begun, TrueSending, OneReturns}
 use Rattle.demands.specs.Vocabulary.{ended, IsReturned, outcomeOf, roundTrailing, roundLaidOut, roundRunning, choosing, probeEnd}
-use Rattle.demands.specs.Vocabulary.{sentOver, Says}
+use Rattle.demands.specs.Vocabulary.{sentOver, Says, ByRoundRule}
 use Rattle.demands.specs.Names.{probeRunAt, roundRingAt, roundPlaceAt}
 use Rattle.demands.specs.Order1.{GotTo}
 
@@ -13,6 +13,10 @@ use Rattle.demands.specs.Order1.{GotTo}
 pub record RoundTrail (s : List ℕ) (p : Plant) : Type 0 where
   -- "visit as in document 01": the switches and the entered arcs that each goes by are those of the plan
   pub visit : (r : ℕ) → In r (roots p) → tourFrom p r .seen ≡ visitedFrom p r
+  -- "an entered link is crossed, its far side finished, then crossed back; any other link is crossed and crossed back from the end where it
+  -- is first met": each goes by this rule, and no other list of labels does
+  pub by-rule : (r : ℕ) → In r (roots p) → ByRoundRule p r (roundFrom p r)
+  pub only : (r : ℕ) → In r (roots p) → (w : List ℕ) → ByRoundRule p r w → w ≡ roundFrom p r
   -- a link that is not entered "is crossed and crossed back from the end where it is first met": its later visited end, and at once
   pub first-met : (r : ℕ) → In r (roots p) → (x y : List ℕ) (a : ℕ) → roundFrom p r ≡ x ++ (a ∷ y) → (In (opposite a) x → ⊥)
       → (T (enteredFrom p r (a / 2)) → ⊥)

@@ -39,6 +39,7 @@ pub use Rattle.walks.specs.Components.{linksWith, rootOf, roots, componentOf, l
 pub use Rattle.walks.specs.Graph.{To, Bridge, bridge, liveLinks, visitedFrom, enteredFrom, earlierFrom, usedFrom, Crosses, ClosedWalk}
 pub use Rattle.walks.specs.Graph.{ClosedWalks, bridges, linksAt, switchesFrom, linksFrom, bridgesFrom, arcsUsedFrom}
 pub use Rattle.walks.specs.Round.{tourFrom, roundFrom}
+pub use Rattle.walks.specs.RoundRule.{ByRoundRule}
 -- ---- distances and the trail
 pub use Rattle.routes.specs.Meaning.{Fewest}
 pub use Rattle.routes.specs.Plants.{distanceFrom, trailFrom, TrailByRule}

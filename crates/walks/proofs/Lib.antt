@@ -23,3 +23,4 @@ pub mod Halfway
 pub mod FirstMet
 pub mod NextHop
 pub mod Round
+pub mod RoundRule

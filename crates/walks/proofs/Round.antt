@@ -51,7 +51,7 @@ module _ (p : Plant) (ok : Valid p) (r : ℕ) (r-in : r < p .switches) where
   unfolding roundFrom
   made-is = sym (hops-are (tail p) (head p) (arcs p) (toured .run))
 
-  run : Tours (tail p) (head p) (arcs p) r (arcs p) (begin r) [] (visitedFrom p r) (roundFrom p r) (roundFrom p r)
+  pub run : Tours (tail p) (head p) (arcs p) r (arcs p) (begin r) [] (visitedFrom p r) (roundFrom p r) (roundFrom p r)
   unfolding roundFrom
   run =
       subst (λ (w : List ℕ). Tours (tail p) (head p) (arcs p) r (arcs p) (begin r) [] (visitedFrom p r) (roundFrom p r) w) made-is

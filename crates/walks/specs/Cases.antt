@@ -176,8 +176,21 @@ tailOut = record {
   round = 0 ∷ 2 ∷ 4 ∷ 5 ∷ 3 ∷ 1 ∷ [];
 }
 
+-- two links between 0 and 1, and one from there to 2: at switch 1 the second link is crossed both ways before the third is entered. To
+-- enter first what leads to an unvisited switch would give 0 4 5 2 3 1
+abbrev pub pairAndTail : Row
+pairAndTail = record {
+  plant = plantOf 3 ((0, 1) ∷ (1, 0) ∷ (1, 2) ∷ []);
+  root = 0;
+  joined = true;
+  bridging = 2 ∷ [];
+  in-use = 0 ∷ 2 ∷ 4 ∷ 5 ∷ [];
+  order = 0 ∷ 1 ∷ 2 ∷ [];
+  round = 0 ∷ 2 ∷ 3 ∷ 4 ∷ 5 ∷ 1 ∷ [];
+}
+
 abbrev pub table : List Row
-table = triangle ∷ oneLink ∷ threeParallel ∷ alone ∷ path ∷ ringWithTail ∷ tableOne ∷ apart ∷ openTriangle ∷ oneOfThree ∷ tailOut ∷ []
+table = triangle ∷ oneLink ∷ threeParallel ∷ alone ∷ path ∷ ringWithTail ∷ tableOne ∷ apart ∷ openTriangle ∷ oneOfThree ∷ tailOut ∷ pairAndTail ∷ []
 
 pub as-expected : map (λ r. rowOf (r .plant) (r .root)) table ≡ table
 unfolding rowOf bridge usedFrom visitFrom arcs others visit scan roundFrom tour walkAt opposite tail head live every

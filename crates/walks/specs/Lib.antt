@@ -4,6 +4,7 @@ pub mod Arcs
 pub mod Graph
 pub mod Components
 pub mod Round
+pub mod RoundRule
 pub mod ByLinks
 pub mod Cases
 pub mod Inner
