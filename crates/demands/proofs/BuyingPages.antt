@@ -1,7 +1,5 @@
 -- What document 02's order 3 promises holds: of every page that is written, and of all bytes that are read. Assumes nothing.
 use mathlib.Core.Path.{_≡_, refl, sym, ap, _∙_}
-use mathlib.Core.Logic.{_⊎_, inl, inr}
-use mathlib.Core.Bool.{true, false}
 use mathlib.Core.List.{List, [], _∷_, _++_, map, flatten}
 use Prim.Native.Nat.{ℕ, _+_, _-_, _≤_, _<_}
 use native.Mathlib.Omega.{arith}
@@ -11,11 +9,10 @@ use Rattle.lists.specs.Arrays.{at}
 use Rattle.lists.specs.Numbers.{range}
 use Rattle.lists.proofs.Numbers.{values-at}
 use Rattle.lists.proofs.Sum.{sum-same}
-use Rattle.lists.proofs.Tests.{bool?}
 use Rattle.plant.specs.declared.Plant.{Plant}
-use Rattle.answers.specs.Answers.{given, refused}
+use Rattle.answers.specs.Answers.{given}
 use Rattle.answers.specs.Checks.{answer}
-use Rattle.answers.proofs.Checks.{given-refused, goes-on, gives-so, was-given}
+use Rattle.answers.proofs.Checks.{goes-on, gives-so, was-given}
 use Rattle.codec.specs.Field.{Bytes}
 use Rattle.limits.specs.Limits.{maxSwitches}
 use Rattle.walks.specs.Graph.{linksAt}
@@ -29,15 +26,14 @@ use Rattle.text.specs.Decimal.{decimal}
 use Rattle.text.specs.Lines.{each}
 use Rattle.sheet.specs.Numbers.{numbersOf}
 use Rattle.sheet.specs.Page.{switchLine, totalLine, buyingPage, pageLength}
-use Rattle.sheet.specs.Form.{formed, countsIn, readingPage}
 use Rattle.sheet.specs.Shown.{Shown}
 use Rattle.sheet.proofs.Page.{field-size, switch-is, total-is, switch-size, total-size, page-size}
-use Rattle.sheet.proofs.RoundTrip.{written-formed, read-of-written, read-shown, written-again, accepted-shown, written-of-read}
+use Rattle.sheet.proofs.RoundTrip.{read-of-written, accepted-shown, written-of-read}
 use Rattle.listing.specs.Listing.{reading}
 use Rattle.listing.proofs.RoundTrip.{decode-sound}
 use Rattle.quoting.specs.Quotes.{sheetWith, pricing}
 use Rattle.planner.specs.Calls.{quotingFor}
-use Rattle.planner.proofs.Buying.{quoted-shown, buying-short, buying-given, buying-left}
+use Rattle.planner.proofs.Buying.{quoted-shown, buying-given, buying-left}
 use Rattle.demands.specs.Order3.{RightAligned, LineIs, PageWritten, PageForm}
 
 -- ---- the columns of a line
@@ -110,7 +106,6 @@ module _ (s : List ℕ) (bytes : Bytes s) (p : Plant) (e : answer (reading s) �
         size = omega (arith, k, n);
         written = λ b h. let m : pageLength c ≤ length b = omega (arith, n) in
             (buying-given s spare b c q m ∙ ap given l, buying-left s spare b c q m ∙ ap (λ (j : ℕ). buyingPage c ++ drop j b) l);
-        too-short = λ b h. buying-short s spare b c q (omega (arith, n));
         read-back = read-of-written c shown;
       }
 
@@ -133,22 +128,8 @@ module _ (s : List ℕ) (bytes : Bytes s) (p : Plant) (e : answer (reading s) �
   page-written = (counts, page-of s bytes p e spare counts quoted)
 
 module _ (b : List ℕ) where
-  outside : formed b ≡ false → answer (readingPage b) ≡ refused 18
-  unfolding readingPage
-  outside e = rw e refl
-
-  inside : formed b ≡ true → answer (readingPage b) ≡ given (countsIn b)
-  unfolding readingPage
-  inside e = rw e refl
-
-  refused-only : answer (readingPage b) ≡ refused 18 → (formed b ≡ true) ⊎ (formed b ≡ false) → formed b ≡ false
-  refused-only r (inl e) = absurd (given-refused (countsIn b) 18 (sym (inside e) ∙ r))
-  refused-only r (inr e) = e
-
   pub page-form : PageForm b
   page-form = record {
-    refused-outside = (λ r. refused-only r (bool? (formed b)), outside);
-    such-pages = (λ e. (countsIn b, read-shown b e, written-again b e), λ w. ap formed (sym (w .2)) ∙ written-formed (w .0) (w .1));
     counts-shown = accepted-shown b;
     written-back = written-of-read b;
     only-one = λ b′ c g h. sym (written-of-read b c g) ∙ written-of-read b′ c h;

@@ -56,7 +56,6 @@ console-calls k h s p e =
           so (outcome o) (consoleWith set (From x q)) ∙ rw (f, lt-leb (p .switches) x h, i)
           (sym (ap (λ (a : Answer Search). a >>= λ r. given (consoleWith set (From x r))) (given-sound (linksWith p x) q o j)
           ∙ trying-then (wantedChecks (linksWith p x) q) (given (next q o)) (λ r. given (consoleWith set (From x r)))));
-      no-search = λ o set f. so (outcome o) (consoleWith set _) ∙ rw f;
     }
 
 pub isolated : Isolated

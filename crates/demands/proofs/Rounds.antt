@@ -53,7 +53,7 @@ use Rattle.search.specs.Calls.{TrueSending, OneReturns}
 use Rattle.planning.specs.Planning.{planningAt}
 use Rattle.planning.proofs.Plans.{given-at}
 use Rattle.planner.specs.Calls.{roundTrailing, roundLaidOut}
-use Rattle.planner.proofs.Trailing.{lay-short, lay-enough, laid-by, trail-given, left-given}
+use Rattle.planner.proofs.Trailing.{lay-enough, laid-by, trail-given, left-given}
 use Rattle.probing.specs.Calls.{roundIn, roundRunning, choiceAt, choiceIn, choosing, probeEnd}
 use Rattle.probing.specs.Searches.{actualOutcome, sentOver}
 use Rattle.probing.proofs.Injection.{root-among, ring-at, trail-links, order-links, round-exactly}
@@ -88,7 +88,6 @@ round-trail s bytes p e = record {
         sym (r ∙ trail-given roundOf s b p e),
         sym (laid-by (roundOf p) b _ r ∙ left-given roundOf s b p e) ∙ ap (λ (n : ℕ). roundOf p ++ drop n b) (are .number),
       );
-  too-short = λ b h. sym (lay-short (roundOf p) b (omega (arith, are .number)) ∙ trail-given roundOf s b p e);
 }
   where
     ok : Sound p

@@ -6,12 +6,12 @@ use Prim.Native.Nat.{ℕ, _*_, _/_, _<_}
 use native.Mathlib.Omega.{arith}
 use lib.Dec.{T}
 use lib.ListN.{length, getD}
-use Rattle.lists.specs.Members.{In, memb, Distinct}
+use Rattle.lists.specs.Members.{In, memb}
 use Rattle.lists.proofs.Members.{memb→in, in→memb}
 use Rattle.lists.proofs.Count.{count-both}
 use Rattle.lists.specs.Numbers.{range, keep}
 use Rattle.lists.proofs.Rising.{keep-rises}
-use Rattle.lists.proofs.Numbers.{in-range, keep-in, in-keep, range-distinct, keep-distinct}
+use Rattle.lists.proofs.Numbers.{in-range, keep-in, in-keep}
 use Rattle.plant.specs.declared.Plant.{Plant}
 use Rattle.limits.specs.Sound.{Sound}
 use Rattle.walks.proofs.Live.{live-below}
@@ -59,7 +59,6 @@ module _ (p : Plant) where
     rule-page = record {
       of-arcs = own-rules;
       crossed = λ a. (λ h. exactly a .1 (labels-used a .0 h), λ h. labels-used a .1 (exactly a .0 h));
-      once = subst Distinct (sym labels-are) (keep-distinct (used p) (range 0 (2 * p .count)) (range-distinct 0 (2 * p .count)));
       rising = subst (λ (ls : List ℕ). (i j : ℕ) → i < j → j < length ls → getD ls i 0 < getD ls j 0) (sym labels-are) (keep-rises (used p) 0 (2 * p .count));
       number = rules-number p ok;
       fewest = λ ws c h. omega (arith, rules-number p ok, fewest-together p (sound-valid p ok) ws c h);

@@ -3,10 +3,10 @@
 use mathlib.Core.Path.{_≡_, refl, sym, _∙_}
 use mathlib.Core.Logic.{inl, inr}
 use mathlib.Core.Bool.{Bool, true, false}
-use mathlib.Core.List.{List, _++_}
+use mathlib.Core.List.{List}
 use Prim.Native.Nat.{ℕ, _-_, _*_, _/_, _≤_, _<_}
 use native.Mathlib.Omega.{arith}
-use borrow.Author.Tests.{lt-ltb, le-ltb}
+use borrow.Author.Tests.{le-ltb}
 use lib.Dec.{T, eqb}
 use lib.ListN.{length}
 use Rattle.lists.specs.Members.{In}
@@ -17,12 +17,12 @@ use Rattle.plant.specs.Links.{first, outOfService, live}
 use Rattle.limits.specs.Sound.{Sound}
 use Rattle.answers.specs.Answers.{given}
 use Rattle.answers.specs.Checks.{answer}
-use Rattle.answers.proofs.Checks.{given-given, goes-on}
+use Rattle.answers.proofs.Checks.{given-given}
 use Rattle.codec.specs.Field.{Bytes}
 use Rattle.listing.specs.Listing.{reading}
 use Rattle.listing.specs.Listing as listing
 use Rattle.listing.proofs.RoundTrip.{decode-sound}
-use Rattle.listing.proofs.Marks.{bit-three, without, plain-read, plain-written, link-undefined, header-undefined, mark-past}
+use Rattle.listing.proofs.Marks.{bit-three, without, plain-read, plain-written, link-undefined, header-undefined}
 use Rattle.walks.specs.Arcs.{Arc}
 use Rattle.walks.specs.Graph.{Crosses, bridge}
 use Rattle.walks.specs.Components.{rootOf, linkWith, linksWith}
@@ -40,7 +40,6 @@ use Rattle.rings.proofs.Injection.{probe-arcs}
 use Rattle.planning.specs.Planning.{planningAt}
 use Rattle.planning.proofs.Plans.{given-at}
 use Rattle.judging.specs.Conditions.{statesShort}
-use Rattle.judging.proofs.Lent.{trail-own, hops-own}
 use Rattle.probing.specs.Calls.{runIn, running, checkIn, checking, roundIn, roundRunning, probeIn, probing}
 use Rattle.probing.specs.Searches.{NoneBroken}
 use Rattle.probing.proofs.Injection.{ring-at, order-links}
@@ -61,7 +60,6 @@ marks = record {
   next = λ switches mark before s. refl;
   undefined = link-undefined;
   undefined-header = header-undefined;
-  past = mark-past;
 }
 
 -- ---- a plant without a mark
@@ -132,11 +130,6 @@ module _ (s : List ℕ) (b : Bytes s) (p : Plant) (g : answer (reading s) ≡ gi
   pub states-of : StatesOf s p x
   unfolding running runIn checking checkIn probing probeIn roundRunning roundIn statesShort
   states-of = record {
-    cover = λ labels states h. goes-on (planningAt s x) (runIn x labels states) p (given-at s x p g x-in) ∙ rw (lt-ltb (length states) (p .count) h) refl;
-    cover-check = λ states h. goes-on (planningAt s x) (checkIn x (trailOf p) states) p (given-at s x p g x-in) ∙ rw (trail-own p, lt-ltb (length states) (p .count) h) refl;
-    cover-probe = λ states q h. goes-on (planningAt s x) (probeIn x (trailOf p) states q) p (given-at s x p g x-in) ∙ rw (trail-own p, lt-ltb (length states) (p .count) h) refl;
-    cover-labels = λ spare states h.
-        goes-on (planningAt s x) (roundIn x (roundOf p ++ spare) states) p (given-at s x p g x-in) ∙ rw (hops-own (roundOf p) spare, lt-ltb (length states) (2 * p .count) h) refl;
     run = λ labels states states′ h. running-bytes s x states states′ (by-link live states states′ h) labels;
     full-check = λ w states states′ h. checking-bytes s x states states′ ready (by-link (λ r. linkWith r x) states states′ h) w;
     run-probe = λ w states states′ q h. probing-bytes s x states states′ ready (by-link (λ r. linkWith r x) states states′ h) w q;

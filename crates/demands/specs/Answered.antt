@@ -4,8 +4,9 @@ use Rattle.demands.specs.Vocabulary.{_≡_, _⊎_, _↔_, false, Bool, L
 use Rattle.demands.specs.Vocabulary.{length, drop, getD, take, at, given, refused, answer, Plant, live, maxLinks, reading, linksWith}
 use Rattle.demands.specs.Vocabulary.{roots, Bridge, liveLinks, bridges, trailFrom, nth, upTo, trailOf, rulesOf, Span, stretchOf}
 use Rattle.demands.specs.Vocabulary.{frontOf, Search, IsAllUp, IsDown, valuesOf, halving, Order, none, ascii, decimal, line, printed}
-use Rattle.demands.specs.Vocabulary.{summing, bridging, ordering, outgoing, naming, link, outLabels, unknown}
+use Rattle.demands.specs.Vocabulary.{summing, bridging, ordering, outgoing, naming, link, outLabels}
 use Rattle.search.specs.Values.{checking}
+use Rattle.probing.specs.Calls.{unknown}
 use Rattle.demands.specs.Names.{ringAt, orderAt}
 
 -- the bridges as they are handed back: a flag for each link place, set for each bridge in service and for nothing else

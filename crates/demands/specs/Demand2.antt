@@ -28,7 +28,7 @@ pub record ComponentsAre (p : Plant) : Type 0 where
   pub own : (x : ℕ) → x < p .switches → In (rootOf p x) (roots p) × To p (Arc p) (rootOf p x) x
   pub once : Distinct (roots p)
   pub few : length (roots p) ≤ maxSwitches
-  -- "the start's first, begun at the start, the rest by their lowest switch, begun there"
+  -- "the start's first, begun at the start, the rest by their lowest switch, begun there" (the first is read aloud)
   pub first : getD (roots p) 0 0 ≡ p .start
   pub lowest : (i x : ℕ) → 1 ≤ i → i < length (roots p) → x < p .switches → To p (Arc p) (getD (roots p) i 0) x → getD (roots p) i 0 ≤ x
   pub rising : (i j : ℕ) → 1 ≤ i → i < j → j < length (roots p) → getD (roots p) i 0 < getD (roots p) j 0
@@ -83,7 +83,8 @@ pub record PlanIs (p : Plant) : Type 0 where
   pub each-trail : (r : ℕ) → In r (roots p) → TrailIs p r
   pub trails : AreTrails p
 
--- what the run of a packet is, under any rules and by the labels that are up, those whose link is: from switch `at`, after n hops
+-- what the run of a packet is, under any rules and by the labels that are up, those whose link is: from switch `at`, after n hops. Each
+-- field is a case of its definition read aloud
 pub record RunIs (rule : ℕ → ℕ → Bool) (up : ℕ → Bool) (hd : ℕ → ℕ) : Type 0 where
   -- "at a switch with a rule for the next label, and that label's link up, it crosses"
   pub crosses : (at n a : ℕ) (w : List ℕ) → rule at a ≡ true → up a ≡ true → run rule up hd at n (a ∷ w) ≡ run rule up hd (hd a) (suc n) w
@@ -104,9 +105,9 @@ pub record StatesAre (states : List ℕ) : Type 0 where
 
 -- the rules that packets run under
 pub record RulesAre (p : Plant) : Type 0 where
-  -- the rule page: one for each arc in use, at the switch that it leaves
+  -- the rule page: one for each arc in use, at the switch that it leaves (read aloud)
   pub table : (at a : ℕ) → (inTable p at a ≡ true) ↔ (T (used p a) × (tail p a ≡ at))
-  -- "opposite arcs have rules of their own: 2×E rules in all"
+  -- "opposite arcs have rules of their own: 2×E rules in all" (the first is read aloud)
   pub all : (at a : ℕ) → (inAll p at a ≡ true) ↔ (T (live p (a / 2)) × (tail p a ≡ at))
   pub number : allRules p ≡ 2 * liveLinks p
 
@@ -128,7 +129,7 @@ pub record InjectionIs (p : Plant) (x : ℕ) : Type 0 where
   pub span-from : (m : ℕ) → outSpan p x m .from ≡ trailBegin p (componentOf p x) + placeAt p x
   pub span-within : (m : ℕ)
       → StandsIn (trailBegin p (componentOf p x)) (trailBegin p (componentOf p x) + length (trailWith p x)) (outSpan p x m)
-  -- "the ring is read from there to the trail's end, then from its front"
+  -- "the ring is read from there to the trail's end, then from its front" (read aloud)
   pub ring : ringAt p x ≡ drop (placeAt p x) (trailWith p x) ++ take (placeAt p x) (trailWith p x)
   -- "the order of links is by first crossing from that place": each link of the component once, and the earlier in the order is the earlier
   -- crossed
@@ -139,11 +140,11 @@ pub record InjectionIs (p : Plant) (x : ℕ) : Type 0 where
   -- E is how many these are
   pub links : linksWith p x ≡ count (p .count) (linkWith p x)
   -- "probe m, for 1 ≤ m < E, goes out up to the first crossing of the m-th link and then back over the opposite arcs", under the rules of
-  -- all arcs
+  -- all arcs (read aloud)
   pub probe : (up : ℕ → Bool) (m : ℕ) → m < linksWith p x
       → probeRunAt p x up m
       ≡ run (inAll p) up (head p) x 0 (upTo (nth (orderAt p x) m) (ringAt p x) ++ back (upTo (nth (orderAt p x) m) (ringAt p x)))
-  -- "the full check, m = E, is the whole ring", under the rule page alone
+  -- "the full check, m = E, is the whole ring", under the rule page alone (read aloud)
   pub full-check : (up : ℕ → Bool) → probeRunAt p x up (linksWith p x) ≡ run (inTable p) up (head p) x 0 (ringAt p x)
 
 pub record Demand2 : Type 0 where

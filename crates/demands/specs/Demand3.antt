@@ -1,10 +1,10 @@
 -- Demand 3: the rule page and the search.
 use Rattle.demands.specs.Vocabulary.{_≡_, _↔_, true, List, [], _∷_, _++_, map, flatten, ℕ, _≤_, _<_, _+_, _*_, T, length, getD, count}
-use Rattle.demands.specs.Vocabulary.{Each, In, Distinct, memb, given, refused, answer, Plant, live, maxRules, linksWith, roots}
-use Rattle.demands.specs.Vocabulary.{liveLinks, Crosses, ClosedWalk, ClosedWalks, bridges, trailFrom, FirstDown, nth, upBy, Table}
-use Rattle.demands.specs.Vocabulary.{zeroRule, trailOf, ruleOf, rulesOf, Outcome, Search, Call, asks, gives, perform, begun, Sending}
-use Rattle.demands.specs.Vocabulary.{sent, ended, ask, give, newSearch, IsDown, IsReturned, tabling, naming, beginning, performing}
-use Rattle.demands.specs.Vocabulary.{link, probeEnd, AllTrue, OneOfThree, Searches, sentOver, Says}
+use Rattle.demands.specs.Vocabulary.{Each, In, memb, given, refused, answer, Plant, live, maxRules, linksWith, roots, liveLinks}
+use Rattle.demands.specs.Vocabulary.{Crosses, ClosedWalk, ClosedWalks, bridges, trailFrom, FirstDown, nth, upBy, Table, zeroRule}
+use Rattle.demands.specs.Vocabulary.{trailOf, ruleOf, rulesOf, Outcome, Search, Call, asks, gives, perform, begun, Sending, sent}
+use Rattle.demands.specs.Vocabulary.{ended, ask, give, newSearch, IsDown, IsReturned, tabling, naming, beginning, performing, link}
+use Rattle.demands.specs.Vocabulary.{probeEnd, AllTrue, OneOfThree, Searches, sentOver, Says}
 use Rattle.demands.specs.Names.{orderAt}
 
 -- the labels of the rules
@@ -22,8 +22,7 @@ pub record RulePage (p : Plant) : Type 0 where
   -- other
   pub of-arcs : rulesOf p ≡ map (ruleOf p) (ruleLabels p)
   pub crossed : (a : ℕ) → In a (ruleLabels p) ↔ In a (trailOf p)
-  pub once : Distinct (ruleLabels p)
-  -- "by rising label"
+  -- "by rising label": so each once
   pub rising : (i j : ℕ) → i < j → j < length (ruleLabels p) → getD (ruleLabels p) i 0 < getD (ruleLabels p) j 0
   pub number : length (rulesOf p) ≡ liveLinks p + bridges p
   -- every list of closed walks which together cross every link in service, either way, uses at least as many different directed arcs; one
@@ -70,7 +69,8 @@ pub record Demand3 (s : List ℕ) (p : Plant) : Type 0 where
   pub page : (t : Table) × (answer (tabling s) ≡ given t) × PageHanded p t
   pub rules : RulePage p
   -- "for every list of calls that ask for a probe or give a fate, refused ones included, after a new search over E links from any injection
-  -- switch": the search begins, the calls lead to r, and what holds of r is one statement, `Searches` of probing/specs/Searches
+  -- switch": the search begins, the calls lead to r (these two are read aloud), and what holds of r is one statement, `Searches` of
+  -- probing/specs/Searches
   pub begins : (x : ℕ) → x < p .switches → answer (beginning s x) ≡ given (newSearch (linksWith p x))
   pub performs : (x : ℕ) → x < p .switches → (cs : List Call) → answer (performing s x cs) ≡ given (perform (begun (linksWith p x)) cs)
   pub call-by-call : (x : ℕ) → x < p .switches → (cs : List Call) → CallByCall p x cs

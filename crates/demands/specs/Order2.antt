@@ -6,12 +6,14 @@ use Rattle.demands.specs.Names.{ReadAs}
 -- for every plant value, sound or not: `tableOf p` is its forwarding table, and `bySwitch` what is answered of it
 pub record SameTotals (p : Plant) : Type 0 where
   -- the total is over switches, each with the number of rules in the table which have it as sending switch, up to the last that sends
+  -- (read aloud)
   pub total : bySwitch (tableOf p) .total ≡ sum (pastSenders (rulesOf p)) (sentBy (rulesOf p))
   -- "both totals must be the same number for every plant": that over switches, and that over labels
   pub same : sum (pastSenders (rulesOf p)) (sentBy (rulesOf p)) ≡ count (2 * p .count) (used p)
 
 -- for every listing that is read as a plant
 pub record BySwitches (s : List ℕ) (p : Plant) : Type 0 where
+  -- (read aloud)
   pub answers : answer (counting s) ≡ given (bySwitch (tableOf p))
   -- a number for each of the S switches, zeros from S on; the total over the S switches is that over labels, and links plus bridges
   pub totals : Totals p (bySwitch (tableOf p))

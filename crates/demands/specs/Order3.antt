@@ -1,8 +1,8 @@
 -- Document 02, order 3: the buying page.
-use Rattle.demands.specs.Vocabulary.{_≡_, _↔_, true, false, List, [], _∷_, _++_, map, flatten, ℕ, _≤_, _<_, _+_, _*_, length, drop}
-use Rattle.demands.specs.Vocabulary.{replicate, at, range, sum, given, refused, answer, Plant, liveLinks, bridges, linksAt, sentBy}
-use Rattle.demands.specs.Vocabulary.{rulesOf, orderQuantity, decimal, Sheet, lineColumns, formed, readingPage, buyingPage, switchLine}
-use Rattle.demands.specs.Vocabulary.{totalLine, Shown, ThreeDigits, buying, boughtOut}
+use Rattle.demands.specs.Vocabulary.{_≡_, List, [], _∷_, _++_, map, flatten, ℕ, _≤_, _<_, _+_, _*_, length, drop, replicate, at}
+use Rattle.demands.specs.Vocabulary.{range, sum, given, answer, Plant, liveLinks, bridges, linksAt, sentBy, rulesOf, orderQuantity}
+use Rattle.demands.specs.Vocabulary.{decimal, Sheet, lineColumns, readingPage, buyingPage, switchLine, totalLine, Shown, ThreeDigits}
+use Rattle.demands.specs.Vocabulary.{buying, boughtOut}
 
 -- "right-aligned decimal" in so many columns, "all else spaces"; what `decimal` is says `AnsweredAlways`
 pub record RightAligned (columns n : ℕ) (field : List ℕ) : Type 0 where
@@ -39,20 +39,16 @@ pub record PageWritten (s : List ℕ) (p : Plant) (spare : ℕ) (c : Sheet) : Ty
   pub digits : ThreeDigits c
   pub lines : (x : ℕ) → x < p .switches → length (switchLine c x) ≡ lineColumns
   pub last-line : length (totalLine c) ≡ lineColumns
-  -- "the page is S + 1 lines, and bytes after it stay untouched"; 18 "if the lent page is too short"
+  -- "the page is S + 1 lines, and bytes after it stay untouched"; with fewer it is 18, by demand 1
   pub size : length (buyingPage c) ≡ lineColumns * (p .switches + 1)
   pub written : (b : List ℕ) → lineColumns * (p .switches + 1) ≤ length b
       → (answer (buying s spare b) ≡ given (length (buyingPage c))) × (boughtOut s spare b ≡ buyingPage c ++ drop (length (buyingPage c)) b)
-  pub too-short : (b : List ℕ) → length b < lineColumns * (p .switches + 1) → answer (buying s spare b) ≡ refused 18
   -- "a reader gets the counts back exactly"
   pub read-back : answer (readingPage (buyingPage c)) ≡ given c
 
--- for any bytes b: what the reader accepts
+-- for any bytes b: what the reader accepts, which are the pages of the counts that a page can hold and nothing else, by demand 1 and
+-- `eighteen-read` of `Conditions`
 pub record PageForm (b : List ℕ) : Type 0 where
-  -- 18 exactly outside the form, whose parts are those of `formed`
-  pub refused-outside : (answer (readingPage b) ≡ refused 18) ↔ (formed b ≡ false)
-  -- the form is that of the pages of the counts that a page can hold, and of nothing else
-  pub such-pages : (formed b ≡ true) ↔ ((c : Sheet) × Shown c × (buyingPage c ≡ b))
   -- the counts that are read are such: of at most three digits each, with rules that add up
   pub counts-shown : (c : Sheet) → answer (readingPage b) ≡ given c → Shown c
   -- what is accepted is written back as the same bytes, so that it is the only page with its counts

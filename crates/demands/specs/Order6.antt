@@ -1,11 +1,11 @@
 -- Document 02, order 6: links that fail one way.
 use Rattle.demands.specs.Vocabulary.{_≡_, _↔_, true, List, _∷_, _++_, ℕ, _≤_, _<_, _+_, _*_, _/_, T, length, drop, take, Each, In}
-use Rattle.demands.specs.Vocabulary.{given, refused, answer, Plant, tail, head, opposite, linksWith, rootOf, roots, componentOf}
-use Rattle.demands.specs.Vocabulary.{linkWith, liveLinks, visitedFrom, enteredFrom, earlierFrom, ClosedWalk, tourFrom, roundFrom, End}
-use Rattle.demands.specs.Vocabulary.{FirstHop, upByLabel, EveryUp, Vouches, linkBytes, inAll, upBy, trailOf, roundOf, trailWith}
+use Rattle.demands.specs.Vocabulary.{given, answer, Plant, tail, head, opposite, linksWith, rootOf, roots, componentOf, linkWith}
+use Rattle.demands.specs.Vocabulary.{liveLinks, visitedFrom, enteredFrom, earlierFrom, ClosedWalk, tourFrom, roundFrom, ByRoundRule}
+use Rattle.demands.specs.Vocabulary.{End, FirstHop, upByLabel, EveryUp, Vouches, linkBytes, inAll, upBy, trailOf, roundOf, trailWith}
 use Rattle.demands.specs.Vocabulary.{roundWith, roundBegin, AreRounds, Choice, hopsIn, Call, perform, begun, TrueSending, OneReturns}
 use Rattle.demands.specs.Vocabulary.{ended, IsReturned, outcomeOf, roundTrailing, roundLaidOut, roundRunning, choosing, probeEnd}
-use Rattle.demands.specs.Vocabulary.{sentOver, Says, ByRoundRule}
+use Rattle.demands.specs.Vocabulary.{sentOver, Says}
 use Rattle.demands.specs.Names.{probeRunAt, roundRingAt, roundPlaceAt}
 use Rattle.demands.specs.Order1.{GotTo}
 
@@ -27,10 +27,9 @@ pub record RoundTrail (s : List ℕ) (p : Plant) : Type 0 where
   -- wherever the packet is injected
   pub fewest : (x y : ℕ) (w : List ℕ) → x < p .switches → ClosedWalk p w → Vouches p (linkWith p x) y w → length (roundWith p x) ≤ length w
   -- "round trails are made and laid likewise": a buffer with enough places begins with them, and places past them stay; one with fewer is
-  -- 10
+  -- 10, by demand 1
   pub laid : (b : List ℕ) → 2 * liveLinks p ≤ length b
       → (answer (roundTrailing s b) ≡ given (2 * liveLinks p)) × (roundLaidOut s b ≡ roundOf p ++ drop (2 * liveLinks p) b)
-  pub too-short : (b : List ℕ) → length b < 2 * liveLinks p → answer (roundTrailing s b) ≡ refused 10
 
 -- for every switch x of it: the round run, over the round trail of its component
 pub record RoundRun (s : List ℕ) (p : Plant) (x : ℕ) : Type 0 where

@@ -1,8 +1,8 @@
 -- Document 02, order 7: links laid up, here out of service.
-use Rattle.demands.specs.Vocabulary.{_≡_, _↔_, true, false, Bool, List, [], _∷_, _++_, ℕ, _≤_, _<_, _+_, _*_, _/_, T, ltb, length, In}
-use Rattle.demands.specs.Vocabulary.{given, refused, _>>=_, answer, check, _then_, Link, Plant, live, marked, outOfService, part}
-use Rattle.demands.specs.Vocabulary.{partBytes, writing, linkWith, bridge, liveLinks, Crosses, ClosedWalk, upByLabel, linkBytes}
-use Rattle.demands.specs.Vocabulary.{inAll, upBy, trailOf, roundOf, inTable, Search, running, checking, roundRunning, probing, Says}
+use Rattle.demands.specs.Vocabulary.{_≡_, _↔_, true, false, Bool, List, [], _∷_, ℕ, _≤_, _<_, _+_, _*_, _/_, T, ltb, length, In}
+use Rattle.demands.specs.Vocabulary.{given, refused, _>>=_, answer, check, _then_, Link, Plant, live, marked, part, partBytes}
+use Rattle.demands.specs.Vocabulary.{linkWith, bridge, liveLinks, Crosses, ClosedWalk, upByLabel, linkBytes, inAll, upBy, trailOf}
+use Rattle.demands.specs.Vocabulary.{roundOf, inTable, Search, running, checking, roundRunning, probing, Says}
 use Rattle.listing.specs.Listing as listing
 use Rattle.demands.specs.Names.{probeAt}
 use Rattle.demands.specs.Demand3.{ruleLabels}
@@ -31,8 +31,6 @@ pub record Marks : Type 0 where
   pub undefined : (switches : ℕ) (before : Link) (m : ℕ) (s : List ℕ)
       → (answer (listing.link switches before (m ∷ s)) ≡ refused 2) ↔ (16 ≤ m)
   pub undefined-header : (m : ℕ) (s : List ℕ) → (answer (listing.header (m ∷ s)) ≡ refused 2) ↔ (8 ≤ m)
-  -- a place past the last link has no mark
-  pub past : (p : Plant) (b : List ℕ) (l : ℕ) → p .count ≤ l → outOfService p l ≡ true → answer (writing p b) ≡ refused 5
 
 -- for every plant p that a listing is read as, and a link l of it that is marked
 pub record OutOfService (p : Plant) (l : ℕ) : Type 0 where
@@ -59,14 +57,9 @@ pub record SameByLabel (p : Plant) (links : ℕ → Bool) (states states′ : Li
 
 -- for every listing s that is read as a plant p, and one of its switches x
 pub record StatesOf (s : List ℕ) (p : Plant) (x : ℕ) : Type 0 where
-  -- "state bytes still cover every link number", in the round run every label: with fewer, and the plant's own trail, the answer is 13
-  pub cover : (labels states : List ℕ) → length states < p .count → answer (running s x labels states) ≡ refused 13
-  pub cover-check : (states : List ℕ) → length states < p .count → answer (checking s x (trailOf p) states) ≡ refused 13
-  pub cover-probe : (states : List ℕ) (q : Search) → length states < p .count → answer (probing s x (trailOf p) states q) ≡ refused 13
-  pub cover-labels : (spare states : List ℕ) → length states < 2 * p .count
-      → answer (roundRunning s x (roundOf p ++ spare) states) ≡ refused 13
-  -- but that of a link out of service is looked at by nobody; nor is that of a link elsewhere by the full check, by probes and by the round
-  -- run (order 9)
+  -- "state bytes still cover every link number", in the round run every label: 13 of demand 1 goes by the listing's link count. But that of
+  -- a link out of service is looked at by nobody; nor is that of a link elsewhere by the full check, by probes and by the round run (order
+  -- 9)
   pub run : (labels states states′ : List ℕ) → SameByLink p (live p) states states′
       → answer (running s x labels states) ≡ answer (running s x labels states′)
   pub full-check : (w states states′ : List ℕ) → SameByLink p (linkWith p x) states states′

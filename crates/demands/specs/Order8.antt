@@ -9,13 +9,13 @@ use Rattle.demands.specs.Vocabulary.{calling, DeskCall, answerTo, after,
 pub record Sets : Type 0 where
   -- 20, a bit at or above S (`ConditionsAre`): with as many switches as a plant can have, no set of 64 bits has one
   pub none-beyond : (set : ℕ) → set < 2 ^ maxSwitches → setOutOfRange maxSwitches set ≡ false
-  -- "a fresh desk has empty sets and no search"
+  -- "a fresh desk has empty sets and no search" (read aloud)
   pub fresh : (k : ℕ) → k ≤ 3 → consoleOf freshDesk k ≡ idle
   pub empty : (k : ℕ) → k ≤ 3 → (x : ℕ) → has (consoleOf freshDesk k .set) x ≡ false
   pub no-search : (k : ℕ) → k ≤ 3 → consoleOf freshDesk k .search ≡ Nothing
 
 -- for a console k of the four, and a listing s that is read as a plant p: what a call does goes by S of p, and by E of the component of the
--- switch that it goes by, that of a start or of its search
+-- switch that it goes by, that of a start or of its search. `asks`, `keeps-search` and `replaces` are the definition of a call read aloud
 pub record ConsoleCalls (k : ℕ) (s : List ℕ) (p : Plant) : Type 0 where
   pub asks : (r : Request) (c : Console) → answer (calling k s r c) ≡ answer (asking (p .switches) (linksWith p (switchOf r c)) r c)
   -- "a console replaces its set": its search stays as it is, whatever it is
@@ -29,9 +29,6 @@ pub record ConsoleCalls (k : ℕ) (s : List ℕ) (p : Plant) : Type 0 where
   pub feeds : (o : Outcome) (set x : ℕ) (q : Search) → setOutOfRange (p .switches) set ≡ false → x < p .switches → has set x ≡ true
       → soundFor (linksWith p x) q ≡ true
       → answer (calling k s (outcome o) (consoleWith set (From x q))) ≡ (answer (give q o) >>= λ r. given (consoleWith set (From x r)))
-  -- "refusal 15 if it has none", right after 20
-  pub no-search : (o : Outcome) (set : ℕ) → setOutOfRange (p .switches) set ≡ false
-      → answer (calling k s (outcome o) (consoleWith set Nothing)) ≡ refused 15
 
 -- "a call touches only its console's set and search, and answers with both as they then stand"
 pub record Isolated : Type 0 where

@@ -82,7 +82,7 @@ pub use Rattle.packet.specs.Outcome.{outcomeOf}
 pub use Rattle.judging.specs.Conditions.{trailDiffers, hopsDiffer, statesShort, searchUnsound}
 -- ---- values that calls hand back
 pub use Rattle.order.specs.declared.Order.{Order}
-pub use Rattle.probing.specs.Calls.{none, unknown}
+pub use Rattle.probing.specs.Calls.{none}
 -- ---- the buying page, and what is printed
 pub use Rattle.text.specs.Ascii.{ascii}
 pub use Rattle.text.specs.Decimal.{decimal}
