@@ -68,4 +68,4 @@ pub console-searches : ConsoleSearches
 console-searches k h d cs s x os b e =
     let f = subst (FedBy (consoleOf (afterAll d cs) k)) e (fed-keeps k h d cs unknown tt) in
     let g = at-given s x (f .0) (f .1) in
-    record { plant = f .0; planned = f .1; stands = f .2; searches = searches (f .0) (decode-sound s (f .0) b (g .0)) x (g .1) os }
+    record { plant = f .0; read = g .0; at-switch = g .1; stands = f .2; searches = searches (f .0) (decode-sound s (f .0) b (g .0)) x (g .1) os }

@@ -62,13 +62,18 @@ unfolding rereading
 reread-refused p b n e =
     refused-exactly (writing p b .checks) (writing p b .result) n .1 (refused-exactly (rereading p b .checks) (rereading p b .result) n .0 e)
 
+written-refused : (p : Plant) (b : List ℕ) (n : ℕ) → answer (writing p b) ≡ refused n → answer (rereading p b) ≡ refused n
+unfolding rereading
+written-refused p b n e =
+    refused-exactly (rereading p b .checks) (rereading p b .result) n .1 (refused-exactly (writing p b .checks) (writing p b .result) n .0 e)
+
 pub demand-1 : Demand1
 unfolding rewriting rereading summing bridging parting tabling counting laying trailing roundTrailing buying quoting pricing writingPage readingPage orderQuantity runIn running checkIn checking roundIn roundRunning choiceIn choosing orderIn ordering outwardIn outgoing probeIn probing nameIn naming beginning performing ask give replacing starting telling sizing calling planningAt switchOutOfRange
 demand-1 = record {
   read = λ s n e. let r = refusal-numbers s n e in in-range n 1 8 (r .0) (omega (arith, r .1));
   write = writer-numbers;
   rewrite = λ s b. after s _ (rewriting s b) refl (λ p. refl);
-  reread = λ p b n e. writer-numbers p b n (reread-refused p b n e);
+  reread = λ p b. (λ n e. writer-numbers p b n (reread-refused p b n e), λ n. (reread-refused p b n, written-refused p b n));
   summarize = λ s. after s _ (summing s) (sym (append-nil (reading s .checks))) (λ p. refl);
   find-bridges = λ s. after s _ (bridging s) (sym (append-nil (reading s .checks))) (λ p. refl);
   find-components = λ s. after s _ (parting s) (sym (append-nil (reading s .checks))) (λ p. refl);

@@ -1,8 +1,8 @@
 -- Demand 2 holds: the plan, packets and probes are document 01's, and the round trips of the listing and of the calls keep bytes and plants. Assumes nothing.
 use mathlib.Core.Path.{_≡_, refl, sym, ap, _∙_, subst}
-use mathlib.Core.List.{List, [], _∷_, _++_}
+use mathlib.Core.List.{List, [], _∷_, _++_, map, flatten}
 use mathlib.Core.Logic.{_↔_}
-use mathlib.Core.Bool.{false, not}
+use mathlib.Core.Bool.{Bool, false, not}
 use Prim.Native.Nat.{ℕ, zero, suc, _≤_, _<_}
 use borrow.Author.Tests.{le-ltb, eqb-true, eqb-false, eq-eqb, ne-eqb, not-true, not-false}
 use lib.Dec.{T, eqb}
@@ -10,9 +10,9 @@ use native.Mathlib.Omega.{arith}
 use lib.ListN.{length, getD, take, drop}
 use lib.Seq.{take-at}
 use Rattle.lists.specs.Members.{In}
-use Rattle.lists.proofs.Tests.{T-true, true-T}
+use Rattle.lists.proofs.Tests.{T-true, true-T, and-left, and-right, and-both, eq→eqb}
 use Rattle.plant.specs.declared.Plant.{Plant}
-use Rattle.plant.specs.Links.{live, outOfService}
+use Rattle.plant.specs.Links.{first, live, outOfService}
 use Rattle.answers.specs.Answers.{given}
 use Rattle.answers.specs.Checks.{check, answer, leaves}
 use Rattle.answers.proofs.Checks.{goes-on, gives-so}
@@ -23,7 +23,10 @@ use Rattle.listing.specs.Writing.{bufferShort, writing, bufferAfter}
 use Rattle.listing.proofs.Longest.{longestPlant, longest, longest-attained}
 use Rattle.listing.proofs.RoundTrip.{read-write, write-read, decode-sound, encode-bytes}
 use Rattle.listing.proofs.WriteRoundTrip.{sound-exactly, written-given, sound-written, buffer-written, written-read}
-use Rattle.walks.specs.Components.{roots}
+use Rattle.walks.specs.Components.{rootOf, roots}
+use Rattle.walks.specs.Round.{roundFrom}
+use Rattle.walks.specs.Arcs.{Arc}
+use Rattle.walks.specs.Graph.{To}
 use Rattle.walks.proofs.Live.{live-below, live-listed}
 use Rattle.walks.proofs.Labels.{opposite-even, opposite-odd, tail-even, head-even, tail-odd, head-odd}
 use Rattle.walks.proofs.Valid.{sound-valid}
@@ -32,11 +35,12 @@ use Rattle.walks.proofs.ByLinks.{visited-by-links}
 use Rattle.walks.proofs.Components.{used-arc, used-of, listed-in}
 use Rattle.routes.proofs.Plants.{distance-fewest, by-rule, only-by-rule}
 use Rattle.rings.specs.Rules.{upBy}
-use Rattle.plan.specs.Plan.{trailOf}
+use Rattle.routes.specs.Plants.{trailFrom}
+use Rattle.plan.specs.Plan.{trailsOf, trailOf, roundsOf, roundOf}
 use Rattle.plan.proofs.Trails.{trails-are}
 use Rattle.planner.specs.Calls.{rewriting, rewritten, rereading, trailing, laidOut}
 use Rattle.planner.proofs.Trailing.{lay-enough, laid-by, trail-given, left-given}
-use Rattle.demands.specs.Demand2.{LabelsAre, StatesAre, TrailIs, PlanIs, Demand2}
+use Rattle.demands.specs.Demand2.{LabelsAre, StatesAre, ComponentOf, TrailIs, PlanIs, Demand2}
 use Rattle.demands.proofs.Packets.{run-is, rules-are, injection-is}
 use Rattle.demands.proofs.Components.{components-are}
 use Rattle.demands.proofs.InUse.{visit-order, in-use}
@@ -99,11 +103,35 @@ trail-is p ok r i =
       only = only-by-rule p valid r r-in;
     }
 
+-- the component of a switch
+module _ (p : Plant) (ok : Sound p) (x : ℕ) (h : x < p .switches) where
+  abbrev same : ℕ → Bool
+  same l = eqb (rootOf p (first p l)) (rootOf p x)
+
+  joined : (l : ℕ) → T (live p l) → (rootOf p x ≡ rootOf p (first p l)) ↔ To p (Arc p) x (first p l)
+  joined l t = components-are p ok .joined x (first p l) h (sound-valid p ok .first-in l t)
+
+  component-of : ComponentOf p x
+  component-of = record {
+    own-trail = refl;
+    own-round = refl;
+    own-link = λ l. (
+      λ t. let live-l = and-left (live p l) (same l) t in
+          (live-l, joined l live-l .0 (sym (eqb-true (rootOf p (first p l)) (rootOf p x) (T-true (same l) (and-right (live p l) (same l) t))))),
+      λ r. and-both (live p l) (same l) (r .0) (eq→eqb (sym (joined l (r .0) .1 (r .1)))),
+    );
+  }
+
+in-rows : (p : Plant) → (trailOf p ≡ flatten (map (trailFrom p) (roots p))) × (roundOf p ≡ flatten (map (roundFrom p) (roots p)))
+unfolding trailsOf roundsOf
+in-rows p = (refl, refl)
+
 plan-is : (p : Plant) → Sound p → PlanIs p
 plan-is p ok =
     let valid = sound-valid p ok in
     record {
       components = components-are p ok;
+      component-of = component-of p ok;
       bridges = λ l h. bridge-is p valid l h;
       visit = λ r deep i h. visited-by-links p valid r deep (listed-in p valid (ok .start-in) r i) h;
       visit-order = visit-order p ok;
@@ -111,6 +139,7 @@ plan-is p ok =
       in-service = used-arc p;
       each-trail = trail-is p ok;
       trails = trails-are p ok;
+      one-after-another = in-rows p;
     }
 
 pub demand-2 : Demand2

@@ -99,6 +99,7 @@ module _ (p : Plant) (x : ℕ) (states : List ℕ) where
       let l = sentOver p x cs in
       record {
         all-true = (λ h m r. home-ended m .0 (true-returns home l h m r), λ f. returns-true home l (λ m r. home-ended m .1 (f m r)));
+        probe-end = λ m. refl;
         one-of-three = (λ h m e r. none-lost home l h m (home-ended m .1 e) r, λ f. one-returns home l (λ m i r. f m (home-ended m .0 i) r));
       }
 

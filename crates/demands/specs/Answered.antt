@@ -33,9 +33,9 @@ Sends e q m =
 
 -- the outward labels from switch x, of every state that sends a probe over the links of its component
 pub record Outward (s : List ℕ) (p : Plant) (x : ℕ) : Type 0 where
-  -- "probe m, for 1 ≤ m < E, goes out up to the first crossing of the m-th link"
+  -- "probe m, for 1 ≤ m < E, goes out up to the first crossing of the m-th link" (read aloud)
   pub probe : (m : ℕ) → m < linksWith p x → outLabels p x m ≡ upTo (nth (orderAt p x) m) (ringAt p x)
-  -- "the full check, m = E, is the whole ring"
+  -- "the full check, m = E, is the whole ring" (read aloud)
   pub full-check : outLabels p x (linksWith p x) ≡ ringAt p x
   -- "the outward labels are in at most two stretches, each handed back as a part of the lent trail": the stretch and then the front, at the
   -- bounds b that are answered

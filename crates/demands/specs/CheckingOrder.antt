@@ -1,11 +1,11 @@
 -- The order in which the reader and the writer try what they are given ("Refusals in checking order" of document 01): "Header, then records
 -- in order, each tried against those that concern it. A map is judged before its fields. … Within one part the lowest number goes first.
 -- The writer tries all of 5, then 6 and 7 record by record, then 16." What each condition says is in `ConditionsAre`.
-use Rattle.demands.specs.Vocabulary.{_≡_, _⊎_, true, false, List, [], _∷_, _++_, ℕ, suc, _≤_, _<_, length, given, refused, refuse}
-use Rattle.demands.specs.Vocabulary.{_>>=_, Conditions, Checked, answer, Link, Plant, zeroLink, Field, mapMissing, mapUndefined}
-use Rattle.demands.specs.Vocabulary.{fieldMissing, fieldRedundant, fieldValues, headerFields, linkFields, linkFrom, headerOutOfRange}
+use Rattle.demands.specs.Vocabulary.{_≡_, _⊎_, true, false, List, [], _∷_, _++_, ℕ, suc, _≤_, _<_, length, getD, given, refused}
+use Rattle.demands.specs.Vocabulary.{refuse, _>>=_, Conditions, Checked, answer, Link, Plant, zeroLink, Field, mapMissing}
+use Rattle.demands.specs.Vocabulary.{mapUndefined, fieldMissing, fieldRedundant, fieldValues, headerFields, linkFields, linkFrom}
 use Rattle.demands.specs.Vocabulary.{endOutOfRange, selfLink, bytesRemain, header, soundLink, links, withLinks, linksOf, reading}
-use Rattle.demands.specs.Vocabulary.{encode, plantOutOfRange, soundLinks, bufferShort, writing}
+use Rattle.demands.specs.Vocabulary.{encode, valueOutOfRange, plantOutOfRange, soundLinks, bufferShort, writing}
 use Rattle.listing.specs.Listing.{link}
 
 -- condition n is one of these, and holds
@@ -21,6 +21,10 @@ LowestFirst c = (n m : ℕ) → answer c ≡ refused n → Holds m (c .checks) �
 abbrev pub partChecks : List Field → List ℕ → Conditions
 partChecks fs s = (1, mapMissing s) ∷ (2, mapUndefined fs s) ∷ (3, fieldMissing fs s) ∷ (4, fieldRedundant fs s) ∷ []
 
+-- the value of a field of the header
+abbrev pub headerValue : List ℕ → ℕ → ℕ
+headerValue s i = getD (fieldValues headerFields s) i 0
+
 -- 6 and 7, of the ends of a link
 abbrev pub endChecks : ℕ → Link → Conditions
 endChecks switches l = (6, endOutOfRange switches l) ∷ (7, selfLink l) ∷ []
@@ -33,7 +37,9 @@ lastOr before (l ∷ ls) = lastOr l ls
 pub record CheckingOrder : Type 0 where
   -- ---- a part: what it is tried against, by number (read aloud), and the lowest first
 
-  pub header-tries : (s : List ℕ) → header s .checks ≡ partChecks headerFields s ++ (5, headerOutOfRange (fieldValues headerFields s)) ∷ []
+  pub header-tries : (s : List ℕ) → header s .checks
+      ≡ partChecks headerFields s
+      ++ (5, valueOutOfRange (headerValue s 0) (headerValue s 1) (headerValue s 2)) ∷ []
   pub header-lowest : (s : List ℕ) → LowestFirst (header s)
   pub record-tries : (switches : ℕ) (before : Link) (s : List ℕ)
       → link switches before s .checks

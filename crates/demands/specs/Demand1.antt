@@ -1,4 +1,4 @@
--- Demand 1: each call answers its result, or a refusal exactly under its condition. That a refusal leaves what is lent as it was is in
+-- Demand 1: each call answers a result, or a refusal exactly under its condition. That a refusal leaves what is lent as it was is in
 -- `Untouched`, what each condition says in `Conditions`.
 use Rattle.demands.specs.Vocabulary.{true, not, List, [], _∷_, ℕ, _*_, given, Conditions, answer, Plant, reading, bufferShort}
 use Rattle.demands.specs.Vocabulary.{writing, linksWith, End, trailOf, roundOf, switchOutOfRange, Span, stretchOf, frontOf, Choice}
@@ -8,7 +8,7 @@ use Rattle.demands.specs.Vocabulary.{placesShort, rewriting, rereading, 
 use Rattle.demands.specs.Vocabulary.{roundTrailing, buying, running, checking, roundRunning, choosing, ordering, outgoing, probing}
 use Rattle.demands.specs.Vocabulary.{naming, beginning, performing, Desk, Held, Nothing, From, setOutOfRange, outsideSet, freshDesk}
 use Rattle.demands.specs.Vocabulary.{consoleOf, newSet, start, outcome, serving}
-use Rattle.demands.specs.Tried.{Tries, TriesListing, TriesConsole, RefusedBy}
+use Rattle.demands.specs.Tried.{Tries, TriesListing, TriesConsole, RefusedBy, RefusedAs}
 
 -- what an outcome tries of the search that a console holds, with this set, in a plant: 15 if it has none
 abbrev pub ofHeld : Plant → ℕ → Held → Conditions
@@ -16,14 +16,16 @@ ofHeld p set Nothing = (15, true) ∷ []
 ofHeld p set (From x q) =
     (11, switchOutOfRange p x) ∷ (21, outsideSet set x) ∷ (14, searchUnsound (linksWith p x) q) ∷ (15, ended q) ∷ []
 
--- A field for each call, as in docs/CALLS.md: the conditions that it tries, each with its number, in their order. Each is the call's
--- definition read aloud, condition by condition; a call that tries nothing gives its result.
+-- A field for each call, as in docs/CALLS.md: the conditions that it tries, each with its number, in their order; of a reading and a writing
+-- the numbers alone, since their conditions and order are `CheckingOrder`. Each is the call's definition read aloud, condition by condition;
+-- of a call that tries nothing it says no more than that it gives a result.
 pub record Demand1 : Type 0 where
   -- calls that are given a listing s or a plant p, and lent a buffer b
   pub read : (s : List ℕ) → RefusedBy (1 ∷ 2 ∷ 3 ∷ 4 ∷ 5 ∷ 6 ∷ 7 ∷ 8 ∷ []) (answer (reading s))
   pub write : (p : Plant) (b : List ℕ) → RefusedBy (5 ∷ 6 ∷ 7 ∷ 16 ∷ []) (answer (writing p b))
   pub rewrite : (s b : List ℕ) → TriesListing s (λ p. (16, bufferShort s b) ∷ []) (answer (rewriting s b))
-  pub reread : (p : Plant) (b : List ℕ) → RefusedBy (5 ∷ 6 ∷ 7 ∷ 16 ∷ []) (answer (rereading p b))
+  pub reread : (p : Plant) (b : List ℕ)
+      → RefusedBy (5 ∷ 6 ∷ 7 ∷ 16 ∷ []) (answer (rereading p b)) × RefusedAs (answer (rereading p b)) (answer (writing p b))
   pub summarize : (s : List ℕ) → TriesListing s (λ p. []) (answer (summing s))
   pub find-bridges : (s : List ℕ) → TriesListing s (λ p. []) (answer (bridging s))
   pub find-components : (s : List ℕ) → TriesListing s (λ p. []) (answer (parting s))

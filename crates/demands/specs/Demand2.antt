@@ -1,12 +1,12 @@
 -- Demand 2: the definitions are document 01's, the round trips and the trail.
-use Rattle.demands.specs.Vocabulary.{_≡_, _↔_, true, false, Bool, List, [], _∷_, _++_, ℕ, suc, _≤_, _<_, _+_, _*_, _-_, _/_, _^_, T}
-use Rattle.demands.specs.Vocabulary.{length, drop, getD, take, count, In, Distinct, range, keep, given, answer, Plant, live}
-use Rattle.demands.specs.Vocabulary.{outOfService, linkAt, maxSwitches, maxLinks, maxRules, maxHops, Sound, reading, encode, writing}
-use Rattle.demands.specs.Vocabulary.{bufferAfter, tail, head, Arc, opposite, visitLinks, linksWith, rootOf, roots, componentOf}
-use Rattle.demands.specs.Vocabulary.{linkWith, used, To, Bridge, bridge, liveLinks, visitedFrom, enteredFrom, earlierFrom, usedFrom}
-use Rattle.demands.specs.Vocabulary.{Fewest, distanceFrom, trailFrom, TrailByRule, nth, run, upTo, back, FirstHop, inAll, allRules}
-use Rattle.demands.specs.Vocabulary.{upBy, upByLink, trailOf, trailWith, trailBegin, inTable, AreTrails, Span, rewriting, rereading}
-use Rattle.demands.specs.Vocabulary.{trailing, rewritten, laidOut, outSpan}
+use Rattle.demands.specs.Vocabulary.{_≡_, _↔_, true, false, Bool, List, [], _∷_, _++_, map, flatten, ℕ, suc, _≤_, _<_, _+_, _*_, _-_}
+use Rattle.demands.specs.Vocabulary.{_/_, _^_, T, length, drop, getD, take, count, In, Distinct, range, keep, given, answer, Plant}
+use Rattle.demands.specs.Vocabulary.{live, outOfService, linkAt, maxSwitches, maxLinks, maxRules, maxHops, Sound, reading, encode}
+use Rattle.demands.specs.Vocabulary.{writing, bufferAfter, tail, head, Arc, opposite, visitLinks, linksWith, rootOf, roots}
+use Rattle.demands.specs.Vocabulary.{componentOf, linkWith, used, To, Bridge, bridge, liveLinks, visitedFrom, enteredFrom}
+use Rattle.demands.specs.Vocabulary.{earlierFrom, usedFrom, roundFrom, Fewest, distanceFrom, trailFrom, TrailByRule, nth, run, upTo}
+use Rattle.demands.specs.Vocabulary.{back, FirstHop, inAll, allRules, upBy, upByLink, trailOf, roundOf, trailWith, trailBegin}
+use Rattle.demands.specs.Vocabulary.{inTable, roundWith, AreTrails, Span, rewriting, rereading, trailing, rewritten, laidOut, outSpan}
 use Rattle.demands.specs.Names.{ReadAs, ringAt, orderAt, placeAt, probeRunAt}
 
 -- the labels of link l, and whether it is in service
@@ -43,6 +43,13 @@ pub record VisitOrder (p : Plant) (r : ℕ) : Type 0 where
   pub earlier : (i j : ℕ) → i < length (visitedFrom p r .ord) → j < length (visitedFrom p r .ord)
       → T (earlierFrom p r (getD (visitedFrom p r .ord) i 0) (getD (visitedFrom p r .ord) j 0)) ↔ (j < i)
 
+-- "injection, order, probes and E belong to the island of the named switch" x: its trail and its round trail are those from its root (read
+-- aloud), and its links are those in service that a walk from x leads to
+pub record ComponentOf (p : Plant) (x : ℕ) : Type 0 where
+  pub own-trail : trailWith p x ≡ trailFrom p (rootOf p x)
+  pub own-round : roundWith p x ≡ roundFrom p (rootOf p x)
+  pub own-link : (l : ℕ) → T (linkWith p x l) ↔ (T (live p l) × To p (Arc p) x (linkAt p l .first))
+
 -- which arcs are in use, of an arc a of a link in service, by the visit from r, the root of its component
 pub record InUse (p : Plant) (r a : ℕ) : Type 0 where
   -- "both arcs of a bridge are in use"
@@ -68,6 +75,7 @@ pub record TrailIs (p : Plant) (r : ℕ) : Type 0 where
 -- what components, bridges, the visits and the trails of a plant are, in the papers' words
 pub record PlanIs (p : Plant) : Type 0 where
   pub components : ComponentsAre p
+  pub component-of : (x : ℕ) → x < p .switches → ComponentOf p x
   -- "a bridge is a link without which its two ends are not joined"
   pub bridges : (l : ℕ) → T (live p l) → T (bridge p l) ↔ Bridge p l
   -- "at each switch the links are tried by rising number, and a link to an unvisited switch is entered before the next is tried": so from
@@ -82,6 +90,8 @@ pub record PlanIs (p : Plant) : Type 0 where
   -- hops
   pub each-trail : (r : ℕ) → In r (roots p) → TrailIs p r
   pub trails : AreTrails p
+  -- "trails follow one another", and so do round trails (read aloud)
+  pub one-after-another : (trailOf p ≡ flatten (map (trailFrom p) (roots p))) × (roundOf p ≡ flatten (map (roundFrom p) (roots p)))
 
 -- what the run of a packet is, under any rules and by the labels that are up, those whose link is: from switch `at`, after n hops. Each
 -- field is a case of its definition read aloud
@@ -148,7 +158,7 @@ pub record InjectionIs (p : Plant) (x : ℕ) : Type 0 where
   pub full-check : (up : ℕ → Bool) → probeRunAt p x up (linksWith p x) ≡ run (inTable p) up (head p) x 0 (ringAt p x)
 
 pub record Demand2 : Type 0 where
-  -- "it has at most 20,479 hops: 319 arcs × 64 + 63"; a field of the plan has the rest
+  -- "it has at most 20,479 hops: 319 arcs × 64 + 63" (read aloud); a field of the plan has the rest
   pub most-hops : maxHops ≡ maxRules * maxSwitches + (maxSwitches - 1)
   -- what was read is written as the bytes that were read, and what was written is read as the plant that was written
   pub read-write : (s : List ℕ) (p : Plant) → ReadAs s p → encode p ≡ s

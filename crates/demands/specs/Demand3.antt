@@ -1,8 +1,8 @@
 -- Demand 3: the rule page and the search.
 use Rattle.demands.specs.Vocabulary.{_≡_, _↔_, true, List, [], _∷_, _++_, map, flatten, ℕ, _≤_, _<_, _+_, _*_, T, length, getD, count}
-use Rattle.demands.specs.Vocabulary.{Each, In, memb, given, refused, answer, Plant, live, maxRules, linksWith, roots, liveLinks}
-use Rattle.demands.specs.Vocabulary.{Crosses, ClosedWalk, ClosedWalks, bridges, trailFrom, FirstDown, nth, upBy, Table, zeroRule}
-use Rattle.demands.specs.Vocabulary.{trailOf, ruleOf, rulesOf, Outcome, Search, Call, asks, gives, perform, begun, Sending, sent}
+use Rattle.demands.specs.Vocabulary.{Each, In, memb, given, refused, answer, Plant, live, maxRules, tail, head, linksWith, roots}
+use Rattle.demands.specs.Vocabulary.{liveLinks, Crosses, ClosedWalk, ClosedWalks, bridges, trailFrom, FirstDown, nth, upBy, Table}
+use Rattle.demands.specs.Vocabulary.{zeroRule, trailOf, rulesOf, Outcome, Search, Call, asks, gives, perform, begun, Sending, sent}
 use Rattle.demands.specs.Vocabulary.{ended, ask, give, newSearch, IsDown, IsReturned, tabling, naming, beginning, performing, link}
 use Rattle.demands.specs.Vocabulary.{probeEnd, AllTrue, OneOfThree, Searches, sentOver, Says}
 use Rattle.demands.specs.Names.{orderAt}
@@ -20,7 +20,7 @@ arcsCrossed p w = count (2 * p .count) (λ a. memb a w)
 pub record RulePage (p : Plant) : Type 0 where
   -- a rule is the sending switch, the label and the receiving switch of its arc; there is one for each arc that the trails cross, and no
   -- other
-  pub of-arcs : rulesOf p ≡ map (ruleOf p) (ruleLabels p)
+  pub of-arcs : rulesOf p ≡ map (λ a. record { from = tail p a; label = a; to = head p a }) (ruleLabels p)
   pub crossed : (a : ℕ) → In a (ruleLabels p) ↔ In a (trailOf p)
   -- "by rising label": so each once
   pub rising : (i j : ℕ) → i < j → j < length (ruleLabels p) → getD (ruleLabels p) i 0 < getD (ruleLabels p) j 0

@@ -1,8 +1,9 @@
 -- Document 02, order 4: packets that vanish. What a search does with them is in `Searches` of probing/specs/Searches; here what counts as a
 -- probe, of any list of sendings, and what the two premises of its verdict say.
-use Rattle.demands.specs.Vocabulary.{_≡_, _⊎_, _↔_, true, List, _∷_, _++_, ℕ, T, Each, Plant, linksWith, Outcome, Call, perform}
-use Rattle.demands.specs.Vocabulary.{begun, Sending, sent, countedIn, TrueSending, OneReturns, ended, IsReturned, IsLost, probeEnd}
-use Rattle.demands.specs.Vocabulary.{AllTrue, OneOfThree, sentOver}
+use Rattle.demands.specs.Vocabulary.{_≡_, _⊎_, _↔_, true, List, _∷_, _++_, ℕ, T, Each, Plant, linksWith, upByLink, Outcome, Call}
+use Rattle.demands.specs.Vocabulary.{perform, begun, Sending, sent, countedIn, TrueSending, OneReturns, ended, IsReturned, IsLost}
+use Rattle.demands.specs.Vocabulary.{probeEnd, AllTrue, OneOfThree, sentOver}
+use Rattle.demands.specs.Names.{probeRunAt}
 
 -- a sending of probe m returned
 pub record ReturnedIn (m : ℕ) (l : List Sending) : Type 0 where
@@ -22,7 +23,8 @@ pub record LostInRow (m : ℕ) (l : List Sending) : Type 0 where
   pub lost : IsLost a × IsLost b × IsLost c
   pub there : l ≡ before ++ (sent m a ∷ sent m b ∷ sent m c ∷ after)
 
--- "a probe counts as lost when three sendings in a row were lost, and as home at the first that returns"
+-- "a probe now counts as lost when three sendings in a row were lost, and as home at the first that returns": when it counts; what it then
+-- counts as is in `SearchIs`
 abbrev pub Counted : Type 0
 Counted = (l : List Sending) (m : ℕ) → T (countedIn l m) ↔ (ReturnedIn m l ⊎ LostInRow m l)
 
@@ -40,6 +42,8 @@ pub record TrueSendings (actual : ℕ → Outcome) (l : List Sending) : Type 0 w
 -- has its accepted outcomes, each with its probe, and the packet rule brings probe m home if its run has ended
 pub record Premises (p : Plant) (x : ℕ) (states : List ℕ) (cs : List Call) : Type 0 where
   pub all-true : AllTrue p x states cs ↔ ((m : ℕ) → ReturnedIn m (sentOver p x cs) → probeEnd p x states m .ended ≡ true)
+  -- that is the run of `InjectionIs` (read aloud)
+  pub probe-end : (m : ℕ) → probeEnd p x states m ≡ probeRunAt p x (upByLink states) m
   pub one-of-three : OneOfThree p x states cs ↔ ((m : ℕ) → probeEnd p x states m .ended ≡ true → LostInRow m (sentOver p x cs) → ⊥)
 
 -- a sending of probe m was lost

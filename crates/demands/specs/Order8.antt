@@ -1,6 +1,6 @@
 -- Document 02, order 8: four consoles, each with its own switches.
 use Rattle.demands.specs.Vocabulary.{_≡_, true, false, List, [], _∷_, _++_, ℕ, _≤_, _<_, _^_, given, refused, _>>=_, Answer, answer}
-use Rattle.demands.specs.Vocabulary.{Plant, maxSwitches, Bytes, linksWith, planningAt, Outcome, Search, Call, gives, perform, begun}
+use Rattle.demands.specs.Vocabulary.{Plant, maxSwitches, Bytes, reading, linksWith, Outcome, Search, Call, gives, perform, begun}
 use Rattle.demands.specs.Vocabulary.{give, newSearch, soundFor, Searches, Console, Desk, Held, Nothing, From, setOutOfRange, has}
 use Rattle.demands.specs.Vocabulary.{consoleWith, idle, freshDesk, consoleOf, newSet, start, outcome, Request, switchOf, asking}
 use Rattle.demands.specs.Vocabulary.{calling, DeskCall, answerTo, after, afterAll, callsOf, answersOf, unknown, since, fedIn}
@@ -76,7 +76,8 @@ pub record FedCalls (k : ℕ) (d : Desk) (cs : List DeskCall) (c : DeskCall) : T
 -- between
 pub record ConsoleSearch (k : ℕ) (d : Desk) (cs : List DeskCall) (s : List ℕ) (x : ℕ) (os : List Call) : Type 0 where
   pub plant : Plant
-  pub planned : answer (planningAt s x) ≡ given plant
+  pub read : answer (reading s) ≡ given plant
+  pub at-switch : x < plant .switches
   -- the console has the search from x to which the outcomes lead
   pub stands : consoleOf (afterAll d cs) k .search ≡ From x (perform (begun (linksWith plant x)) os .state)
   pub searches : Searches plant x os (perform (begun (linksWith plant x)) os)

@@ -28,3 +28,7 @@ pub record TriesConsole {A : Type 0} (k : ℕ) (s : List ℕ) (cs : Plant → Co
 -- a reading and a writing themselves are refused by these numbers alone; how their conditions follow each other is in `CheckingOrder`
 abbrev pub RefusedBy : {A : Type 0} → List ℕ → Answer A → Type 0
 RefusedBy ns a = (n : ℕ) → a ≡ refused n → In n ns
+
+-- one answer is refused exactly as another is
+abbrev pub RefusedAs : {A B : Type 0} → Answer A → Answer B → Type 0
+RefusedAs a b = (n : ℕ) → (a ≡ refused n) ↔ (b ≡ refused n)

@@ -29,7 +29,7 @@ pub use Rattle.codec.specs.declared.Field.{Field}
 pub use Rattle.codec.specs.Field.{Bytes, number}
 pub use Rattle.codec.specs.Given.{bitAt, SomeGiven, EndsBefore, HoldsAbsent}
 pub use Rattle.codec.specs.Part.{mapMissing, mapUndefined, fieldMissing, fieldRedundant, fieldValues, mapByte, part, partBytes}
-pub use Rattle.listing.specs.Listing.{headerFields, linkFields, linkFrom, headerOutOfRange, endOutOfRange, selfLink, bytesRemain, header}
+pub use Rattle.listing.specs.Listing.{headerFields, linkFields, linkFrom, endOutOfRange, selfLink, bytesRemain, header}
 pub use Rattle.listing.specs.Listing.{soundLink, links, withLinks, linksOf, reading, encode, valueOutOfRange}
 pub use Rattle.listing.specs.Writing.{plantOutOfRange, soundLinks, bufferShort, writing, bufferAfter}
 -- ---- walks, bridges, the visit, arcs in use, components, the round trail
@@ -56,13 +56,13 @@ pub use Rattle.rings.specs.Rules.{inAll, allRules, upBy, upByLink}
 pub use Rattle.table.specs.declared.Table.{Table}
 pub use Rattle.table.specs.Rules.{zeroRule, rulesIn, tableIn}
 pub use Rattle.senders.specs.Senders.{sentBy, pastSenders, bySwitch}
-pub use Rattle.plan.specs.Plan.{trailOf, roundOf, trailWith, trailBegin, inTable, ruleOf, rulesOf, roundWith, tableOf, roundBegin}
+pub use Rattle.plan.specs.Plan.{trailOf, roundOf, trailWith, trailBegin, inTable, rulesOf, roundWith, tableOf, roundBegin}
 pub use Rattle.plan.specs.Plan.{Connected}
 pub use Rattle.plan.specs.Rounds.{AreRounds}
 pub use Rattle.plan.specs.Totals.{Totals}
 pub use Rattle.plan.specs.Trails.{AreTrails}
 pub use Rattle.planning.specs.Components.{zeroComponent, componentsOf}
-pub use Rattle.planning.specs.Planning.{switchOutOfRange, planningAt}
+pub use Rattle.planning.specs.Planning.{switchOutOfRange}
 -- ---- spans of a lent trail, and the choice between two
 pub use Rattle.order.specs.declared.Span.{Span}
 pub use Rattle.order.specs.Span.{stretchOf, frontOf, ringSpan, spanOf}
