@@ -34,7 +34,7 @@ use Rattle.listing.proofs.RoundTrip.{decode-sound}
 use Rattle.quoting.specs.Quotes.{sheetWith, pricing}
 use Rattle.planner.specs.Calls.{quotingFor}
 use Rattle.planner.proofs.Buying.{quoted-shown, buying-given, buying-left}
-use Rattle.demands.specs.Order3.{RightAligned, LineIs, PageWritten, PageForm}
+use Rattle.demands.specs.Order3.{RightAligned, LineIs, PageLines, PageWritten, PageForm}
 
 -- ---- the columns of a line
 
@@ -60,9 +60,22 @@ unfolding flatten
 line-by-line f [] = refl
 line-by-line f (x ∷ xs) = ap (λ (l : List ℕ). f x ++ l) (line-by-line f xs)
 
-page-lines : (c : Sheet) → buyingPage c ≡ flatten (map (switchLine c) (range 0 (c .switches))) ++ totalLine c
+lines-in : (c : Sheet) → buyingPage c ≡ flatten (map (switchLine c) (range 0 (c .switches))) ++ totalLine c
 unfolding buyingPage
-page-lines c = ap (λ (l : List ℕ). l ++ totalLine c) (line-by-line (switchLine c) (range 0 (c .switches)))
+lines-in c = ap (λ (l : List ℕ). l ++ totalLine c) (line-by-line (switchLine c) (range 0 (c .switches)))
+
+pub page-lines : (c : Sheet) → Shown c → PageLines c
+page-lines c shown =
+    let d = shown .digits in
+    record {
+      page = lines-in c;
+      line = λ x h.
+          let f = right-aligned 6 x (omega arith) (omega (arith, shown .few)) in
+          (rightIn 6 (decimal x), f, line-of (rightIn 6 (decimal x)) (at (c .rules) x) (at (c .links) x) (switchLine c x) (f .wide) (d .rules x h) (d .links x h) (switch-is c d (shown .few) x h));
+      total-columns = line-of (116 ∷ 111 ∷ 116 ∷ 97 ∷ 108 ∷ 32 ∷ []) (c .total) (c .quantity) (totalLine c) refl (d .total) (d .quantity) (total-is c d);
+      lines = λ x h. switch-size c d (shown .few) x h;
+      last-line = total-size c d;
+    }
 
 -- ---- what is written
 
@@ -93,16 +106,7 @@ module _ (s : List ℕ) (bytes : Bytes s) (p : Plant) (e : answer (reading s) �
         links-twice = sum-same (p .switches) (at (c .links)) (linksAt p) at-switch ∙ links-twice p ok;
         total = ap (λ (d : Sheet). d .total) counts-are ∙ t .number;
         quantity = ap (λ (a : ℕ). answer (orderQuantity a spare)) (sym (t .number)) ∙ priced .1 ∙ ap (λ (d : Sheet). given (d .quantity)) (priced .2);
-        page = page-lines c ∙ ap (λ (k : ℕ). flatten (map (switchLine c) (range 0 k)) ++ totalLine c) n;
-        line = λ x h.
-            let i : x < c .switches = omega (arith, n) in
-            let d = shown .digits in
-            let f = right-aligned 6 x (omega arith) (omega (arith, ok .few-switches)) in
-            (rightIn 6 (decimal x), f, line-of (rightIn 6 (decimal x)) (at (c .rules) x) (at (c .links) x) (switchLine c x) (f .wide) (d .rules x i) (d .links x i) (switch-is c d (shown .few) x i));
-        total-columns = let d = shown .digits in line-of (116 ∷ 111 ∷ 116 ∷ 97 ∷ 108 ∷ 32 ∷ []) (c .total) (c .quantity) (totalLine c) refl (d .total) (d .quantity) (total-is c d);
-        digits = shown .digits;
-        lines = λ x h. switch-size c (shown .digits) (shown .few) x (omega (arith, n));
-        last-line = total-size c (shown .digits);
+        shown = shown;
         size = omega (arith, k, n);
         written = λ b h. let m : pageLength c ≤ length b = omega (arith, n) in
             (buying-given s spare b c q m ∙ ap given l, buying-left s spare b c q m ∙ ap (λ (j : ℕ). buyingPage c ++ drop j b) l);

@@ -28,8 +28,8 @@ use Rattle.search.specs.declared.Search.{Search}
 use Rattle.search.specs.declared.Search.the-variants.{Checking, Halving, AllUp, Down}
 use Rattle.search.specs.Search.{tries, sound, ended}
 use Rattle.search.specs.Sound.{Good}
-use Rattle.search.specs.Values.{IsAllUp, IsDown}
-use Rattle.search.proofs.Values.{is-all-up, is-down}
+use Rattle.search.specs.Values.{checking, IsAllUp, IsDown}
+use Rattle.search.proofs.Values.{same-state, is-all-up, is-down}
 use Rattle.search.proofs.Sound.{counts-fits, checking-fits, halving-fits, good-sound}
 use Rattle.judging.specs.Conditions.{trailDiffers, hopsDiffer, statesShort, searchUnsound}
 use Rattle.judging.proofs.Lent.{trail-same, trail-own, hops-begin, hops-own}
@@ -42,7 +42,7 @@ use Rattle.sheet.proofs.RoundTrip.{written-formed, read-shown, written-again}
 use Rattle.desk.specs.Console.{has, setOutOfRange, outsideSet}
 use Rattle.desk.proofs.Sets.{beyond-is}
 use Rattle.consoles.specs.Calls.{consoleOutOfRange}
-use Rattle.demands.specs.Conditions.{ConditionsAre}
+use Rattle.demands.specs.Conditions.{SoundOver, ConditionsAre}
 
 -- tests of numbers
 less : (a b : ℕ) → (ltb a b ≡ true) ↔ (a < b)
@@ -108,6 +108,19 @@ thirteen : (e : ℕ) (states : List ℕ) → (statesShort e states ≡ true) ↔
 unfolding statesShort
 thirteen e states = less (length states) e
 
+-- a good state, by its values
+over : (e : ℕ) (q : Search) → Good e q → SoundOver e q
+over e (Checking count lost) g = inl (lost, ap (λ (c : ℕ). checking c lost) (g .0), g .1, omega (arith, g .2))
+over e (Halving low high lost) g = inr (inl (low, high, lost, refl, g .0, g .1, g .2, omega (arith, g .3)))
+over e AllUp g = inr (inr (inl refl))
+over e (Down place) g = inr (inr (inr (place, refl, g .0, g .1)))
+
+good-of : (e : ℕ) (q : Search) → SoundOver e q → Good e q
+good-of e q (inl s) = subst (Good e) (sym (same-state q (Checking e (s .0)) (s .1))) (refl, s .2, omega (arith, s .3))
+good-of e q (inr (inl s)) = subst (Good e) (sym (same-state q (Halving (s .0) (s .1) (s .2)) (s .3))) (s .4, s .5, s .6, omega (arith, s .7))
+good-of e q (inr (inr (inl s))) = subst (Good e) (sym (is-all-up q s)) tt
+good-of e q (inr (inr (inr s))) = subst (Good e) (sym (is-down q (s .0) (s .1))) (s .2, s .3)
+
 -- a good state is sound, and sound for the listing
 fine : (e : ℕ) (q : Search) → e ≤ maxLinks → Good e q → searchUnsound e q ≡ false
 unfolding searchUnsound
@@ -124,10 +137,10 @@ alone (Halving low high lost) t = let r = halving-fits low high lost t in (high,
 alone AllUp t = (0, omega arith, tt)
 alone (Down place) t = let r = counts-fits place t in (place, r .1, (r .0, omega arith))
 
-fourteen-alone : (q : Search) → (sound q ≡ false) ↔ ((e : ℕ) × (e ≤ maxLinks) × Good e q → ⊥)
+fourteen-alone : (q : Search) → (sound q ≡ false) ↔ ((e : ℕ) × (e ≤ maxLinks) × SoundOver e q → ⊥)
 fourteen-alone q = (
-  λ f g. not-both (sound q) (good-sound (g .0) q (g .1) (g .2) .0) f,
-  λ n. not-true-false (sound q) (λ t. n (alone q t)),
+  λ f g. not-both (sound q) (good-sound (g .0) q (g .1) (good-of (g .0) q (g .2)) .0) f,
+  λ n. not-true-false (sound q) (λ t. let r = alone q t in n (r .0, r .1, over (r .0) q (r .2))),
 )
 
 fifteen : (q : Search) → (ended q ≡ true) ↔ (IsAllUp q ⊎ ((k : ℕ) × IsDown k q))
@@ -201,7 +214,7 @@ conditions-are = record {
   twelve = twelve;
   twelve-hops = twelve-hops;
   thirteen = thirteen;
-  fourteen = λ e q h. true-exactly (searchUnsound e q) (good-here e q, fine e q h);
+  fourteen = λ e q h. true-exactly (searchUnsound e q) (λ f. over e q (good-here e q f), λ s. fine e q h (good-of e q s));
   fourteen-alone = fourteen-alone;
   fifteen = fifteen;
   sixteen = sixteen;

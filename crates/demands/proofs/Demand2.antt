@@ -90,6 +90,7 @@ states-are states = record {
   );
   past = λ l h. ap not (eq-eqb (getD states l 0) 0 (getD-past states l h));
   by-link = λ a. refl;
+  by-label = λ a. refl;
 }
 
 trail-is : (p : Plant) → Sound p → (r : ℕ) → In r (roots p) → TrailIs p r

@@ -12,7 +12,7 @@ use Rattle.demands.proofs.Answered.{answered, answered-always}
 use Rattle.demands.proofs.GotTo.{got-to, packets-tell, two-way}
 use Rattle.demands.proofs.BySwitches.{same-totals-of, by-switches}
 use Rattle.demands.proofs.RoundingCase.{more-by-switch}
-use Rattle.demands.proofs.BuyingPages.{page-written, page-form}
+use Rattle.demands.proofs.BuyingPages.{page-written, page-lines, page-form}
 use Rattle.demands.proofs.Counted.{counted}
 use Rattle.demands.proofs.Premises.{true-sendings, premises, lost-over-sound}
 use Rattle.demands.proofs.Ceilings.{ceilings}
@@ -41,6 +41,7 @@ promises = record {
   by-switches = λ s p r. by-switches s (r .bytes) p (r .read);
   more-by-switch = more-by-switch;
   page-written = λ s p r. page-written s (r .bytes) p (r .read);
+  page-lines = page-lines;
   page-form = page-form;
   counted = counted;
   true-sendings = true-sendings;

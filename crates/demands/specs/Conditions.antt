@@ -5,9 +5,18 @@ use Rattle.demands.specs.Vocabulary.{_≡_, _⊎_, _↔_, true, false, L
 use Rattle.demands.specs.Vocabulary.{Plant, zeroLink, maxSwitches, maxLinks, Field, bitAt, SomeGiven, EndsBefore, HoldsAbsent}
 use Rattle.demands.specs.Vocabulary.{mapMissing, mapUndefined, fieldMissing, fieldRedundant, mapByte, endOutOfRange, selfLink}
 use Rattle.demands.specs.Vocabulary.{bytesRemain, valueOutOfRange, plantOutOfRange, bufferShort, trailOf, switchOutOfRange}
-use Rattle.demands.specs.Vocabulary.{spareAbove, Search, sound, ended, Good, IsAllUp, IsDown, trailDiffers, hopsDiffer, statesShort}
-use Rattle.demands.specs.Vocabulary.{searchUnsound, Sheet, formed, buyingPage, pageShort, Shown, placesShort, setOutOfRange}
-use Rattle.demands.specs.Vocabulary.{outsideSet, consoleOutOfRange}
+use Rattle.demands.specs.Vocabulary.{spareAbove, Search, sound, ended, IsAllUp, IsDown, valuesOf, halving, trailDiffers, hopsDiffer}
+use Rattle.demands.specs.Vocabulary.{statesShort, searchUnsound, Sheet, formed, buyingPage, pageShort, Shown, placesShort}
+use Rattle.demands.specs.Vocabulary.{setOutOfRange, outsideSet, consoleOutOfRange}
+use Rattle.search.specs.Values.{checking}
+
+-- a state that is sound over e links, by its values: not "a Checking count or Down place … not in 1 to 256, or Halving lacks 1 ≤ low < high
+-- ≤ 256; in a call with a listing, also a count that is not E, or a high or place above E", with "the sendings lost so far, 0 to 2"
+abbrev pub SoundOver : ℕ → Search → Type 0
+SoundOver e q =
+    ((lost : ℕ) × (valuesOf q ≡ checking e lost) × (1 ≤ e) × (lost ≤ 2))
+    ⊎ (((low : ℕ) × (high : ℕ) × (lost : ℕ) × (valuesOf q ≡ halving low high lost) × (1 ≤ low) × (low < high) × (high ≤ e) × (lost ≤ 2))
+    ⊎ (IsAllUp q ⊎ ((k : ℕ) × IsDown k q × (1 ≤ k) × (k ≤ e))))
 
 pub record ConditionsAre : Type 0 where
   -- 1: "a part's map byte is missing"
@@ -37,11 +46,10 @@ pub record ConditionsAre : Type 0 where
   pub twelve-hops : (w lent : List ℕ) → (hopsDiffer w lent ≡ true) ↔ ((spare : List ℕ) × (lent ≡ w ++ spare) → ⊥)
   -- 13: there are fewer state bytes than e, the links of the listing or in the round run its labels
   pub thirteen : (e : ℕ) (states : List ℕ) → (statesShort e states ≡ true) ↔ (length states < e)
-  -- 14: "a Checking count or Down place is not in 1 to 256, or Halving lacks 1 ≤ low < high ≤ 256; in a call with a listing, also a count
-  -- that is not E, or a high or place above E", and the sendings lost are not "0 to 2" (order 4): `Good e` is the contrary, case by case,
-  -- for e links; in a call without a listing, for no number of links that a plant can have
-  pub fourteen : (e : ℕ) (q : Search) → e ≤ maxLinks → (searchUnsound e q ≡ true) ↔ (Good e q → ⊥)
-  pub fourteen-alone : (q : Search) → (sound q ≡ false) ↔ ((e : ℕ) × (e ≤ maxLinks) × Good e q → ⊥)
+  -- 14: the state is not sound over the e links that a search is over; in a call without a listing, over no number of links that a plant
+  -- can have
+  pub fourteen : (e : ℕ) (q : Search) → e ≤ maxLinks → (searchUnsound e q ≡ true) ↔ (SoundOver e q → ⊥)
+  pub fourteen-alone : (q : Search) → (sound q ≡ false) ↔ ((e : ℕ) × (e ≤ maxLinks) × SoundOver e q → ⊥)
   -- 15: "a fate is given to, or a probe is wanted of, All up or Down"
   pub fifteen : (q : Search) → (ended q ≡ true) ↔ (IsAllUp q ⊎ ((k : ℕ) × IsDown k q))
   -- 16: a lent buffer b is shorter than the listing s

@@ -16,9 +16,9 @@ ofHeld p set Nothing = (15, true) ∷ []
 ofHeld p set (From x q) =
     (11, switchOutOfRange p x) ∷ (21, outsideSet set x) ∷ (14, searchUnsound (linksWith p x) q) ∷ (15, ended q) ∷ []
 
--- A field for each call, as in docs/CALLS.md: the conditions that it tries, each with its number, in their order; of a reading and a writing
--- the numbers alone, since their conditions and order are `CheckingOrder`. Each is the call's definition read aloud, condition by condition;
--- of a call that tries nothing it says no more than that it gives a result.
+-- A field for each call, as in docs/CALLS.md: the conditions that it tries, each with its number, in their order; of a reading and a
+-- writing the numbers alone, since their conditions and order are `CheckingOrder`. Each is the call's definition read aloud, condition by
+-- condition; of a call that tries nothing it says no more than that it gives a result.
 pub record Demand1 : Type 0 where
   -- calls that are given a listing s or a plant p, and lent a buffer b
   pub read : (s : List ℕ) → RefusedBy (1 ∷ 2 ∷ 3 ∷ 4 ∷ 5 ∷ 6 ∷ 7 ∷ 8 ∷ []) (answer (reading s))

@@ -5,8 +5,9 @@ use Rattle.demands.specs.Vocabulary.{live, outOfService, linkAt, maxSwit
 use Rattle.demands.specs.Vocabulary.{writing, bufferAfter, tail, head, Arc, opposite, visitLinks, linksWith, rootOf, roots}
 use Rattle.demands.specs.Vocabulary.{componentOf, linkWith, used, To, Bridge, bridge, liveLinks, visitedFrom, enteredFrom}
 use Rattle.demands.specs.Vocabulary.{earlierFrom, usedFrom, roundFrom, Fewest, distanceFrom, trailFrom, TrailByRule, nth, run, upTo}
-use Rattle.demands.specs.Vocabulary.{back, FirstHop, inAll, allRules, upBy, upByLink, trailOf, roundOf, trailWith, trailBegin}
-use Rattle.demands.specs.Vocabulary.{inTable, roundWith, AreTrails, Span, rewriting, rereading, trailing, rewritten, laidOut, outSpan}
+use Rattle.demands.specs.Vocabulary.{back, FirstHop, upByLabel, inAll, allRules, upBy, upByLink, trailOf, roundOf, trailWith}
+use Rattle.demands.specs.Vocabulary.{trailBegin, inTable, roundWith, AreTrails, Span, rewriting, rereading, trailing, rewritten}
+use Rattle.demands.specs.Vocabulary.{laidOut, outSpan}
 use Rattle.demands.specs.Names.{ReadAs, ringAt, orderAt, placeAt, probeRunAt}
 
 -- the labels of link l, and whether it is in service
@@ -110,8 +111,9 @@ pub record StatesAre (states : List ℕ) : Type 0 where
   pub up : (l : ℕ) → l < length states → (upBy states l ≡ true) ↔ (1 ≤ getD states l 0)
   -- a link without a byte is down; with fewer bytes than links the calls refuse 13
   pub past : (l : ℕ) → length states ≤ l → upBy states l ≡ false
-  -- both labels of a link are up if it is (read aloud)
+  -- both labels of a link are up if it is; in the round run a label is up if its own byte says so (read aloud)
   pub by-link : (a : ℕ) → upByLink states a ≡ upBy states (a / 2)
+  pub by-label : (a : ℕ) → upByLabel states a ≡ upBy states a
 
 -- the rules that packets run under
 pub record RulesAre (p : Plant) : Type 0 where

@@ -1,8 +1,8 @@
 -- Document 02, order 3: the buying page.
 use Rattle.demands.specs.Vocabulary.{_≡_, List, [], _∷_, _++_, map, flatten, ℕ, _≤_, _<_, _+_, _*_, length, drop, replicate, at}
 use Rattle.demands.specs.Vocabulary.{range, sum, given, answer, Plant, liveLinks, bridges, linksAt, sentBy, rulesOf, orderQuantity}
-use Rattle.demands.specs.Vocabulary.{decimal, Sheet, lineColumns, readingPage, buyingPage, switchLine, totalLine, Shown, ThreeDigits}
-use Rattle.demands.specs.Vocabulary.{buying, boughtOut}
+use Rattle.demands.specs.Vocabulary.{decimal, Sheet, lineColumns, readingPage, buyingPage, switchLine, totalLine, Shown, buying}
+use Rattle.demands.specs.Vocabulary.{boughtOut}
 
 -- "right-aligned decimal" in so many columns, "all else spaces"; what `decimal` is says `AnsweredAlways`
 pub record RightAligned (columns n : ℕ) (field : List ℕ) : Type 0 where
@@ -19,6 +19,18 @@ pub record LineIs (first : List ℕ) (seven fifteen : ℕ) (line : List ℕ) : T
   pub third-number : RightAligned 8 fifteen third
   pub is : line ≡ first ++ (second ++ (third ++ (replicate 9 32 ++ (10 ∷ []))))
 
+-- the page of any counts that a page can hold
+pub record PageLines (c : Sheet) : Type 0 where
+  -- "one line a switch, rising": "columns 1 to 6 hold the switch, 7 to 14 its rules, 15 to 22 the links at it"; "a last line has `total`
+  -- left-aligned in the first field, then all rules and the order quantity"
+  pub page : buyingPage c ≡ flatten (map (switchLine c) (range 0 (c .switches))) ++ totalLine c
+  pub line : (x : ℕ) → x < c .switches
+      → (first : List ℕ) × RightAligned 6 x first × LineIs first (at (c .rules) x) (at (c .links) x) (switchLine c x)
+  pub total-columns : LineIs (116 ∷ 111 ∷ 116 ∷ 97 ∷ 108 ∷ 32 ∷ []) (c .total) (c .quantity) (totalLine c)
+  -- "each line is 32 bytes"
+  pub lines : (x : ℕ) → x < c .switches → length (switchLine c x) ≡ lineColumns
+  pub last-line : length (totalLine c) ≡ lineColumns
+
 -- for every listing s that is read as a plant p, and a spare that is not refused: what the page of the counts c is
 pub record PageWritten (s : List ℕ) (p : Plant) (spare : ℕ) (c : Sheet) : Type 0 where
   -- the rules of each switch are order 2's, and the links at it the plant's own; each link is at two switches
@@ -29,16 +41,8 @@ pub record PageWritten (s : List ℕ) (p : Plant) (spare : ℕ) (c : Sheet) : Ty
   -- "then all rules and the order quantity"
   pub total : c .total ≡ liveLinks p + bridges p
   pub quantity : answer (orderQuantity (liveLinks p + bridges p) spare) ≡ given (c .quantity)
-  -- "one line a switch, rising": "columns 1 to 6 hold the switch, 7 to 14 its rules, 15 to 22 the links at it"; "a last line has `total`
-  -- left-aligned in the first field, then all rules and the order quantity"
-  pub page : buyingPage c ≡ flatten (map (switchLine c) (range 0 (p .switches))) ++ totalLine c
-  pub line : (x : ℕ) → x < p .switches
-      → (first : List ℕ) × RightAligned 6 x first × LineIs first (at (c .rules) x) (at (c .links) x) (switchLine c x)
-  pub total-columns : LineIs (116 ∷ 111 ∷ 116 ∷ 97 ∷ 108 ∷ 32 ∷ []) (c .total) (c .quantity) (totalLine c)
-  -- three digits suffice for each number, so "each line is 32 bytes"
-  pub digits : ThreeDigits c
-  pub lines : (x : ℕ) → x < p .switches → length (switchLine c x) ≡ lineColumns
-  pub last-line : length (totalLine c) ≡ lineColumns
+  -- they are counts that a page can hold, of three digits each, so that its lines are those of `PageLines`
+  pub shown : Shown c
   -- "the page is S + 1 lines, and bytes after it stay untouched"; with fewer it is 18, by demand 1
   pub size : length (buyingPage c) ≡ lineColumns * (p .switches + 1)
   pub written : (b : List ℕ) → lineColumns * (p .switches + 1) ≤ length b

@@ -5,8 +5,8 @@
 -- switch at which each begins, `trailOf p` their trails one after another; of a named switch x, `trailWith p x` is the trail of its
 -- component, `linkWith p x l` says whether link l is one of it, and `linksWith p x` is E.
 use Rattle.demands.specs.Vocabulary.{_≡_, true, false, Bool, List, ℕ, _≤_, _<_, T, given, answer, Plant, outOfService, reading}
-use Rattle.demands.specs.Vocabulary.{linksWith, linkWith, End, run, Together, Connected, Outcome, Call, Sending, Sheet, NoneBroken}
-use Rattle.demands.specs.Vocabulary.{Desk, DeskCall}
+use Rattle.demands.specs.Vocabulary.{linksWith, linkWith, End, run, Together, Connected, Outcome, Call, Sending, Sheet, Shown}
+use Rattle.demands.specs.Vocabulary.{NoneBroken, Desk, DeskCall}
 use Rattle.demands.specs.Names.{ReadAs}
 use Rattle.demands.specs.Conditions.{ConditionsAre}
 use Rattle.demands.specs.CheckingOrder.{CheckingOrder}
@@ -19,7 +19,7 @@ use Rattle.demands.specs.Demand3.{Demand3}
 use Rattle.demands.specs.Answered.{Answered, AnsweredAlways}
 use Rattle.demands.specs.Order1.{GotTo, PacketsTell, TwoWay}
 use Rattle.demands.specs.Order2.{SameTotals, BySwitches, MoreBySwitch}
-use Rattle.demands.specs.Order3.{PageWritten, PageForm}
+use Rattle.demands.specs.Order3.{PageWritten, PageLines, PageForm}
 use Rattle.demands.specs.Order4.{Counted, TrueSendings, Premises, LostOverSound}
 use Rattle.demands.specs.Ceilings.{Ceilings}
 use Rattle.demands.specs.Order6.{RoundTrail, RoundRun, ShorterTrail, ByLabel}
@@ -54,6 +54,7 @@ pub record Promises : Type 0 where
   pub more-by-switch : MoreBySwitch
   -- order 3: for every spare of 0 to 100 there are counts c, whose page is written; and what a reader accepts
   pub page-written : (s : List ℕ) (p : Plant) → ReadAs s p → (spare : ℕ) → spare ≤ 100 → (c : Sheet) × PageWritten s p spare c
+  pub page-lines : (c : Sheet) → Shown c → PageLines c
   pub page-form : (b : List ℕ) → PageForm b
   -- order 4: what counts as a probe
   pub counted : Counted

@@ -75,7 +75,6 @@ pub use Rattle.search.specs.declared.Outcome.{Outcome}
 pub use Rattle.search.specs.declared.Search.{Search}
 pub use Rattle.search.specs.Calls.{Call, asks, gives, perform, begun, Sending, sent, countedIn, TrueSending, OneReturns}
 pub use Rattle.search.specs.Search.{sound, ended, ask, give, newSearch, wanted, soundFor}
-pub use Rattle.search.specs.Sound.{Good}
 pub use Rattle.search.specs.Values.{IsAllUp, IsDown, IsReturned, IsLost, Values, valuesOf, halving, allUp, down, outcomeNumber}
 pub use Rattle.packet.specs.Outcome.{outcomeOf}
 -- ---- the conditions on what is lent and on a search
@@ -92,7 +91,7 @@ pub use Rattle.sheet.specs.declared.Sheet.{Sheet}
 pub use Rattle.sheet.specs.Columns.{lineColumns}
 pub use Rattle.sheet.specs.Form.{formed, readingPage}
 pub use Rattle.sheet.specs.Page.{buyingPage, pageShort, switchLine, totalLine}
-pub use Rattle.sheet.specs.Shown.{Shown, ThreeDigits}
+pub use Rattle.sheet.specs.Shown.{Shown}
 pub use Rattle.printing.specs.Output.{triple, printed}
 -- ---- the calls
 pub use Rattle.planner.specs.Calls.{placesShort, rewriting, rereading, summing, bridging, parting, tabling, counting, trailing}
