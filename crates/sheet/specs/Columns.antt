@@ -1,28 +1,25 @@
 -- The columns of the buying page's lines (document 02, order 3), as numbers. The width of each field stands in one place: a constant in
 -- crates/columns/src/lib.rt. An `answer` is the value of that constant, as the contract of a function there asks for it.
 use Rattle.std.specs.Prelude.{List, ℕ, ◌+◌, ◌-◌, take, drop}
-use Rattle.columns.proofs.switch_columns.⟦SWITCH⟧-asked.Lts as switch
-use Rattle.columns.proofs.rules_columns.⟦RULES⟧-asked.Lts as rules
-use Rattle.columns.proofs.links_columns.⟦LINKS⟧-asked.Lts as links
-use Rattle.columns.proofs.line_columns.⟦LINE⟧-asked.Lts as line
+use Rattle.columns.specs.declared.TheConstants.{SWITCH, RULES, LINKS, LINE}
 
 -- ---- how many there are
 
 -- "Columns 1 to 6 hold the switch"
 abbrev pub switch_columns : ℕ
-switch_columns = switch.answer tt tt
+switch_columns = SWITCH
 
 -- "7 to 14 its rules"
 abbrev pub rules_columns : ℕ
-rules_columns = rules.answer tt tt
+rules_columns = RULES
 
 -- "15 to 22 the links at it"
 abbrev pub links_columns : ℕ
-links_columns = links.answer tt tt
+links_columns = LINKS
 
 -- "Each line is 32 bytes"
 abbrev pub line_columns : ℕ
-line_columns = line.answer tt tt
+line_columns = LINE
 
 -- ---- how many come before the end of each field, and before the last column
 
