@@ -7,11 +7,11 @@ use Rattle.lists.specs.Members.{In}
 use Rattle.walks.specs.Walk.{Walk, Reach, here, step}
 
 module _ {tl hd : ℕ → ℕ} where
-  pub trans : {ok : ℕ → Type 0} {x y z : ℕ} → Reach tl hd ok y x → Reach tl hd ok z y → Reach tl hd ok z x
+  pub trans : {ok : ℕ → Type 0} {y x z : ℕ} → Reach tl hd ok y x → Reach tl hd ok z y → Reach tl hd ok z x
   trans {ok} {z = z} (here e) r = subst (λ (k : ℕ). Reach tl hd ok z k) (sym e) r
   trans (step a h e p) r = step a h e (trans p r)
 
-  pub weaken : {ok ok' : ℕ → Type 0} {x y : ℕ} → ((a : ℕ) → ok a → ok' a) → Reach tl hd ok y x → Reach tl hd ok' y x
+  pub weaken : {ok ok' : ℕ → Type 0} {y x : ℕ} → ((a : ℕ) → ok a → ok' a) → Reach tl hd ok y x → Reach tl hd ok' y x
   weaken f (here e) = here e
   weaken f (step a h e p) = step a (f a h) e (weaken f p)
 
@@ -19,13 +19,13 @@ module _ {tl hd : ℕ → ℕ} where
   one a h e f = step a h e (here f)
 
   -- a relation that takes each arc back takes a walk back
-  pub back : {ok ok' : ℕ → Type 0} {x y : ℕ} → ((a : ℕ) → ok a → Reach tl hd ok' (tl a) (hd a)) → Reach tl hd ok y x → Reach tl hd ok' x y
+  pub back : {ok ok' : ℕ → Type 0} {y x : ℕ} → ((a : ℕ) → ok a → Reach tl hd ok' (tl a) (hd a)) → Reach tl hd ok y x → Reach tl hd ok' x y
   back f (here e) = here (sym e)
   back {ok' = ok'} {y = y} f (step a h e p) =
       subst (λ (k : ℕ). Reach tl hd ok' k y) e (trans (back f p) (f a h))
 
   -- a walk from inside P to outside P leaves P by one of its arcs
-  pub exits : {ok : ℕ → Type 0} {x y : ℕ} (P : ℕ → Type 0) → ((k : ℕ) → P k ⊎ (P k → ⊥)) → P x → (P y → ⊥) → Reach tl hd ok y x
+  pub exits : {ok : ℕ → Type 0} {y x : ℕ} (P : ℕ → Type 0) → ((k : ℕ) → P k ⊎ (P k → ⊥)) → P x → (P y → ⊥) → Reach tl hd ok y x
       → (a : ℕ) × ok a × P (tl a) × (P (hd a) → ⊥)
   exits P dec px ny (here e) = absurd (ny (subst P e px))
   exits {ok} {y = y} P dec px ny (step a h e p) = go (λ q. exits P dec q ny p) (dec (hd a))
@@ -35,7 +35,7 @@ module _ {tl hd : ℕ → ℕ} where
       go rec (inr n) = (a, h, subst P (sym e) px, n)
 
   -- what each arc keeps, a walk keeps
-  pub keeps : {ok : ℕ → Type 0} {x y : ℕ} (P : ℕ → Type 0) → ((a : ℕ) → ok a → P (tl a) → P (hd a)) → P x → Reach tl hd ok y x → P y
+  pub keeps : {ok : ℕ → Type 0} {y x : ℕ} (P : ℕ → Type 0) → ((a : ℕ) → ok a → P (tl a) → P (hd a)) → P x → Reach tl hd ok y x → P y
   keeps P k px (here e) = subst P e px
   keeps P k px (step a h e p) = keeps P k (k a h (subst P (sym e) px)) p
 
@@ -45,9 +45,9 @@ module _ {tl hd : ℕ → ℕ} where
   walk→reach [] x y e f = here e
   walk→reach (a ∷ w) x y p f = step a (f a (inl refl)) p.0 (walk→reach w (hd a) y p.1 (λ b h. f b (inr h)))
 
-  pub reach→walk : {ok : ℕ → Type 0} {x y : ℕ} → Reach tl hd ok y x → (w : List ℕ) × Walk tl hd w x y × ((a : ℕ) → In a w → ok a)
+  pub reach→walk : {ok : ℕ → Type 0} {y x : ℕ} → Reach tl hd ok y x → (w : List ℕ) × Walk tl hd w x y × ((a : ℕ) → In a w → ok a)
   reach→walk (here e) = ([], e, λ a h. absurd h)
-  reach→walk {ok} {x} {y} (step a h e p) = go (reach→walk p)
+  reach→walk {ok} {y} {x} (step a h e p) = go (reach→walk p)
     where
       all : (w : List ℕ) → ((b : ℕ) → In b w → ok b) → (b : ℕ) → (b ≡ a) ⊎ In b w → ok b
       all w f b (inl q) = subst ok (sym q) h
