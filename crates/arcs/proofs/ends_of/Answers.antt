@@ -1,0 +1,30 @@
+-- The ends are laid label by label, and are zero past the last.
+use Rattle.std.proofs.Common.{◌*◌, ◌<◌, arith}
+use Rattle.lists.proofs.Laid.{laid_none, laid_put, laid_all}
+use Rattle.limits.specs.Limits.{max_links}
+use Rattle.walks.specs.Arcs.{tail, head}
+use Rattle.arcs.proofs.Past.{tail-past, head-past}
+use Rattle.arcs.proofs.ends_of.Goals as goal
+
+pub loop-a-init : goal.loop-a-init
+loop-a-init c = (omega arith, laid_none 0 (2 * max_links) (tail c.args.p), laid_none 0 (2 * max_links) (head c.args.p))
+
+pub loop-a-preserved : goal.loop-a-preserved
+unfolding tail head
+loop-a-preserved c =
+    let k = c.loop-a in
+    let p = c.args.p in
+    let few : k.a < 2 * max_links = omega (arith, c.loop-a-test.true, c.requires.few_links) in (
+      omega arith,
+      laid_put 0 (2 * max_links) (tail p) k.a k.tails k.invariant.1 _ few c.tail_of.ensures,
+      laid_put 0 (2 * max_links) (head p) k.a k.heads k.invariant.2 _ few c.head_of.ensures,
+    )
+
+pub returns : goal.returns
+returns c =
+    let k = c.loop-a in
+    let p = c.args.p in
+    record {
+      tails_are = λ j b. laid_all 0 (2 * max_links) (tail p) k.a k.tails k.invariant.1 (λ d h. tail-past p d (omega (arith, c.loop-a-test.false)) c.requires) b j;
+      heads_are = λ j b. laid_all 0 (2 * max_links) (head p) k.a k.heads k.invariant.2 (λ d h. head-past p d (omega (arith, c.loop-a-test.false)) c.requires) b j;
+    }
