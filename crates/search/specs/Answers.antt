@@ -3,7 +3,6 @@ use Rattle.std.specs.Prelude.{[], ◌∷◌, List, ℕ, ◌≤◌, eqb}
 use Rattle.lists.specs.Tests.{choose}
 use Rattle.answers.specs.Answers.{number_of, Answer, given, refused}
 use Rattle.search.specs.declared.Search.{Search}
-use Rattle.search.specs.declared.Search.TheVariants.{AllUp, Down}
 use Rattle.search.specs.declared.Said.{Said}
 use Rattle.search.specs.declared.Said.TheVariants as said
 use Rattle.search.specs.declared.Outcome.{Outcome}

@@ -63,6 +63,7 @@ pub struct Progress {
 
 impl Search {
     // A new search over so many links.
+    #[tactic(auto, unfolding(crate::specs::Search::new_search))]
     pub fn new(links: u16) -> Search
         ensures { result ≡ new_search links }
     {
@@ -216,6 +217,7 @@ impl Search {
     }
 
     // The call for a probe.
+    #[tactic(auto, unfolding(crate::specs::Search::ask))]
     pub fn ask(self) -> Asked
         ensures { asked_of result ≡ answer (ask self) }
     {
@@ -226,6 +228,7 @@ impl Search {
     }
 
     // The call that gives an outcome.
+    #[tactic(auto, unfolding(crate::specs::Search::give))]
     pub fn give(self, o: Outcome) -> Told
         ensures { told_of result ≡ answer (give self o) }
     {
