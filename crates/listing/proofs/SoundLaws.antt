@@ -12,7 +12,7 @@ use Rattle.lists.specs.Members.{Each}
 use Rattle.lists.proofs.Members.{each_at, at_each, get_d_same}
 use Rattle.plant.specs.declared.Link.{Link}
 use Rattle.plant.specs.declared.Plant.{Plant}
-use Rattle.plant.specs.Links.{zero_link, link_at, first, second}
+use Rattle.plant.specs.Links.{zero_link, link_at}
 use Rattle.answers.specs.Answers.{given, refuse}
 use Rattle.answers.specs.Checks.{answer}
 use Rattle.answers.proofs.Checks.{refuse-given}
