@@ -1,10 +1,11 @@
-use Rattle.std.proofs.Common.{rules, ◌≡◌, true, ◌+◌, ◌≤◌, ◌<◌, length, ℕ, ◌-◌, ◌*◌, ◌/◌, ◌%◌, Bool, false, nat_eq, nat_lt, List, [], ◌∷◌, ◌++◌, slice_index_or, slice_set, bit_and, bit_or, Fits, w8, w32, w64, Bor, MutBor}
-use Rattle.lists.specs.Members.{all}
-use Rattle.text.specs.Decimal.{decimal, read_decimal, is_digit, leads}
-use Rattle.text.specs.Laid.{Room, Laid}
-use Rattle.columns.specs.Fields.{most_digits, spaces, right_in, left_in, spaces_before, is_short, is_number, number_in}
+-- Where each of the first i bytes is a digit and i is not below the length, all are.
+use Rattle.std.proofs.Common.{length, sym, arith}
+use Rattle.std.proofs.Math.Seq.{take-length}
+use Rattle.lists.proofs.Parts.{all_take}
+use Rattle.text.specs.Decimal.{is_digit}
 use Rattle.columns.proofs.all_digits.Goals as goal
 
--- src/lib.rt:129:1
 pub returns : goal.returns
-returns c = ?
+returns c =
+    let bs = c.args.bytes.now in
+    sym (rw (take-length bs) at ((all_take is_digit bs (length bs) (omega arith)).1 (λ j h. c.loop-i.invariant.1 j (omega (arith, c.loop-i-test.false)))))

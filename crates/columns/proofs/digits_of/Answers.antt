@@ -1,18 +1,13 @@
-use Rattle.std.proofs.Common.{rules, ◌≡◌, true, ◌+◌, ◌≤◌, ◌<◌, length, ℕ, ◌-◌, ◌*◌, ◌/◌, ◌%◌, Bool, false, nat_eq, nat_lt, List, [], ◌∷◌, ◌++◌, slice_index_or, slice_set, bit_and, bit_or, Fits, w8, w32, w64, Bor, MutBor}
-use Rattle.lists.specs.Members.{all}
-use Rattle.text.specs.Decimal.{decimal, read_decimal, is_digit, leads}
-use Rattle.text.specs.Laid.{Room, Laid}
-use Rattle.columns.specs.Fields.{most_digits, spaces, right_in, left_in, spaces_before, is_short, is_number, number_in}
+-- By cases one, two or three.
+use Rattle.std.proofs.Common.{length, sym, ap}
+use Rattle.text.proofs.DecimalLaws.{decimal-last, decimal-two, decimal-three}
 use Rattle.columns.proofs.digits_of.Goals as goal
 
--- src/lib.rt:73:9
 pub returns-then-n-lt10 : goal.returns-then-n-lt10
-returns-then-n-lt10 c = ?
+returns-then-n-lt10 c = sym (ap length (decimal-last c.args.n c.if-n-lt10.true))
 
--- src/lib.rt:76:9
 pub returns-then-n-lt100 : goal.returns-then-n-lt100
-returns-then-n-lt100 c = ?
+returns-then-n-lt100 c = sym (ap length (decimal-two c.args.n c.if-n-lt10.false c.if-n-lt100.true))
 
--- src/lib.rt:68:1
 pub returns : goal.returns
-returns c = ?
+returns c = sym (ap length (decimal-three c.args.n c.if-n-lt100.false c.requires))

@@ -1,14 +1,14 @@
-use Rattle.std.proofs.Common.{rules, ◌≡◌, true, ◌+◌, ◌≤◌, ◌<◌, length, ℕ, ◌-◌, ◌*◌, ◌/◌, ◌%◌, Bool, false, nat_eq, nat_lt, List, [], ◌∷◌, ◌++◌, slice_index_or, slice_set, bit_and, bit_or, Fits, w8, w32, w64, Bor, MutBor}
-use Rattle.lists.specs.Members.{all}
-use Rattle.text.specs.Decimal.{decimal, read_decimal, is_digit, leads}
-use Rattle.text.specs.Laid.{Room, Laid}
-use Rattle.columns.specs.Fields.{most_digits, spaces, right_in, left_in, spaces_before, is_short, is_number, number_in}
+-- What comes after the spaces makes the number.
+use Rattle.std.proofs.Common.{ap, ◌∙◌}
+use Rattle.text.specs.Decimal.{read_decimal}
+use Rattle.columns.specs.Fields.{is_short, is_number, number_in}
+use Rattle.columns.proofs.Fields.{part-is}
 use Rattle.columns.proofs.number_in.Goals as goal
 
--- src/lib.rt:199:5
 pub short_of-requires : goal.short_of-requires
-short_of-requires c = ?
+unfolding is_number
+short_of-requires c = ap is_short (part-is c.args.field.now c.spaces_before-from.result c.spaces_before-from.ensures.value) ∙ c.requires
 
--- src/lib.rt:193:1
 pub returns-clause-value : goal.returns-clause-value
-returns-clause-value c = ?
+unfolding number_in
+returns-clause-value c = c.short_of.ensures.value ∙ ap read_decimal (part-is c.args.field.now c.spaces_before-from.result c.spaces_before-from.ensures.value)

@@ -1,14 +1,14 @@
-use Rattle.std.proofs.Common.{rules, ◌≡◌, true, ◌+◌, ◌≤◌, ◌<◌, length, ℕ, ◌-◌, ◌*◌, ◌/◌, ◌%◌, Bool, false, nat_eq, nat_lt, List, [], ◌∷◌, ◌++◌, slice_index_or, slice_set, bit_and, bit_or, Fits, w8, w32, w64, Bor, MutBor}
-use Rattle.lists.specs.Members.{all}
-use Rattle.text.specs.Decimal.{decimal, read_decimal, is_digit, leads}
-use Rattle.text.specs.Laid.{Room, Laid}
-use Rattle.columns.specs.Fields.{most_digits, spaces, right_in, left_in, spaces_before, is_short, is_number, number_in}
+-- The digits have room in the columns, and are laid over the last of the spaces.
+use Rattle.std.proofs.Common.{arith}
+use Rattle.text.specs.Decimal.{decimal}
+use Rattle.columns.proofs.Fields.{short-decimal, spaces-size}
+use Rattle.columns.proofs.Right.{right-laid}
 use Rattle.columns.proofs.put_right.Goals as goal
 
--- src/lib.rt:90:26
 pub overflow_sub-end : goal.overflow_sub-end
-overflow_sub-end c = ?
+overflow_sub-end c =
+    omega (arith, c.digits_of-digits.ensures, short-decimal c.args.n c.requires.n_bound, c.put_spaces-end.ensures.place, spaces-size c.args.columns)
 
--- src/lib.rt:82:1
 pub returns : goal.returns
-returns c = ?
+returns c =
+    right-laid c.args.buf.now c.args.at c.args.columns (decimal c.args.n) (omega (arith, short-decimal c.args.n c.requires.n_bound)) c.put_spaces-end.ensures _ c.digits_of-digits.ensures c.put_short.ensures

@@ -1,10 +1,16 @@
-use Rattle.std.proofs.Common.{rules, ◌≡◌, true, ◌+◌, ◌≤◌, ◌<◌, length, ℕ, ◌-◌, ◌*◌, ◌/◌, ◌%◌, Bool, false, nat_eq, nat_lt, List, [], ◌∷◌, ◌++◌, slice_index_or, slice_set, bit_and, bit_or, Fits, w8, w32, w64, Bor, MutBor}
-use Rattle.lists.specs.Members.{all}
-use Rattle.text.specs.Decimal.{decimal, read_decimal, is_digit, leads}
-use Rattle.text.specs.Laid.{Room, Laid}
-use Rattle.columns.specs.Fields.{most_digits, spaces, right_in, left_in, spaces_before, is_short, is_number, number_in}
+-- The spaces that were laid and one more are the spaces up to the next place.
+use Rattle.std.proofs.Common.{ℕ, arith}
+use Rattle.std.proofs.Math.ListN.{get_or-replicate}
+use Rattle.text.specs.Lines.{space}
+use Rattle.text.proofs.PutLaws.{word_next}
+use Rattle.columns.specs.Fields.{spaces}
+use Rattle.columns.proofs.Fields.{spaces-size}
 use Rattle.columns.proofs.put_spaces.Goals as goal
 
--- src/lib.rt:59:5
 pub loop-i-preserved : goal.loop-i-preserved
-loop-i-preserved c = ?
+loop-i-preserved c =
+    let n = c.args.n in (
+      omega arith,
+      rw (get_or-replicate {A = ℕ} n c.loop-i.i space 0 c.loop-i-test.true)
+          at (word_next (spaces n) c.loop-i.i (omega (arith, spaces-size n)) c.loop-i.invariant.1 c.requires),
+    )

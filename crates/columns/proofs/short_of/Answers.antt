@@ -1,26 +1,25 @@
-use Rattle.std.proofs.Common.{rules, ◌≡◌, true, ◌+◌, ◌≤◌, ◌<◌, length, ℕ, ◌-◌, ◌*◌, ◌/◌, ◌%◌, Bool, false, nat_eq, nat_lt, List, [], ◌∷◌, ◌++◌, slice_index_or, slice_set, bit_and, bit_or, Fits, w8, w32, w64, Bor, MutBor}
-use Rattle.lists.specs.Members.{all}
-use Rattle.text.specs.Decimal.{decimal, read_decimal, is_digit, leads}
-use Rattle.text.specs.Laid.{Room, Laid}
-use Rattle.columns.specs.Fields.{most_digits, spaces, right_in, left_in, spaces_before, is_short, is_number, number_in}
+-- The number so far has at most two digits, and the next byte is one.
+use Rattle.std.proofs.Common.{◌≡◌, ap, ◌∙◌, arith}
+use Rattle.std.proofs.Math.Seq.{take_all}
+use Rattle.text.specs.Decimal.{read_decimal}
+use Rattle.columns.proofs.Fields.{front_below, digit_at, read_next, short-below}
 use Rattle.columns.proofs.short_of.Goals as goal
 
--- src/lib.rt:178:13
 pub overflow_mul-n : goal.overflow_mul-n
-overflow_mul-n c = ?
+overflow_mul-n c = omega (arith, front_below c.args.bytes.now c.requires c.loop-i.i c.loop-i-test.true)
 
--- src/lib.rt:178:23
 pub overflow_sub-n : goal.overflow_sub-n
-overflow_sub-n c = ?
+overflow_sub-n c = (digit_at c.args.bytes.now c.requires c.loop-i.i c.loop-i-test.true).0
 
--- src/lib.rt:178:13
 pub overflow_add-n : goal.overflow_add-n
-overflow_add-n c = ?
+overflow_add-n c =
+    omega (arith, front_below c.args.bytes.now c.requires c.loop-i.i c.loop-i-test.true, (digit_at c.args.bytes.now c.requires c.loop-i.i c.loop-i-test.true).1)
 
--- src/lib.rt:177:5
 pub loop-i-preserved : goal.loop-i-preserved
-loop-i-preserved c = ?
+loop-i-preserved c = (omega arith, omega (arith, c.loop-i.invariant.1, read_next c.args.bytes.now c.loop-i.i c.loop-i-test.true))
 
--- src/lib.rt:170:1
 pub returns-clause-upper_bound : goal.returns-clause-upper_bound
-returns-clause-upper_bound c = ?
+returns-clause-upper_bound c =
+    let bs = c.args.bytes.now in
+    let e : c.loop-i.n ≡ read_decimal bs = c.loop-i.invariant.1 ∙ ap read_decimal (take_all c.loop-i.i bs c.loop-i-test.false) in
+    omega (arith, e, short-below bs c.requires)

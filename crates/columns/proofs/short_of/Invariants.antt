@@ -1,5 +1,5 @@
 -- Before each turn n is the number that the first i digits make.
-use Rattle.std.proofs.Common.{◌≡◌, ℕ, ◌-◌, ◌<◌, ◌≤◌, length, take}
+use Rattle.std.proofs.Common.{◌≡◌, ◌-◌, ◌≤◌, length, take}
 use Rattle.text.specs.Decimal.{read_decimal}
 use Rattle.columns.proofs.short_of.Given as goal
 

@@ -1,14 +1,10 @@
-use Rattle.std.proofs.Common.{rules, ◌≡◌, true, ◌+◌, ◌≤◌, ◌<◌, length, ℕ, ◌-◌, ◌*◌, ◌/◌, ◌%◌, Bool, false, nat_eq, nat_lt, List, [], ◌∷◌, ◌++◌, slice_index_or, slice_set, bit_and, bit_or, Fits, w8, w32, w64, Bor, MutBor}
-use Rattle.lists.specs.Members.{all}
-use Rattle.text.specs.Decimal.{decimal, read_decimal, is_digit, leads}
-use Rattle.text.specs.Laid.{Room, Laid}
-use Rattle.columns.specs.Fields.{most_digits, spaces, right_in, left_in, spaces_before, is_short, is_number, number_in}
+-- The first i bytes are spaces, and there the spaces end.
+use Rattle.std.proofs.Common.{sym, arith}
+use Rattle.columns.proofs.Fields.{spaces-are}
 use Rattle.columns.proofs.spaces_before.Goals as goal
 
--- src/lib.rt:112:13
 pub returns-then-field-i-ne32-clause-value : goal.returns-then-field-i-ne32-clause-value
-returns-then-field-i-ne32-clause-value c = ?
+returns-then-field-i-ne32-clause-value c = sym (spaces-are c.args.field.now c.loop-i.i c.loop-i.invariant.0 c.loop-i.invariant.1 (λ h. c.if-field-i-ne32.true))
 
--- src/lib.rt:105:1
 pub returns-clause-value : goal.returns-clause-value
-returns-clause-value c = ?
+returns-clause-value c = sym (spaces-are c.args.field.now c.loop-i.i c.loop-i.invariant.0 c.loop-i.invariant.1 (λ h. absurd (omega arith)))
