@@ -23,8 +23,8 @@ fn step(p: Progress, b: u8) -> Progress
     requires probes_bound { p.probes < usize.MAX }
     requires packets_bound { p.packets < usize.MAX }
     ensures value { result ≡ step p (call_in b) }
-    ensures probes_bound_2 { result.probes ≤ p.probes + 1 }
-    ensures packets_bound_2 { result.packets ≤ p.packets + 1 }
+    ensures probes_after { result.probes ≤ p.probes + 1 }
+    ensures packets_after { result.packets ≤ p.packets + 1 }
 {
     let s = p.state;
     let before = p.probes;
