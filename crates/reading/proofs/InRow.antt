@@ -1,4 +1,4 @@
--- What each function promises of its parameters and its result, as its contract says it, and that the promises in a row are `read`'s. Assumes nothing.
+-- The promises of the steps in a row are `read`'s. Assumes nothing.
 use mathlib.Core.Path.{◌≡◌, ap, subst, ◌∙◌}
 use mathlib.Core.List.{List}
 use Prim.Native.Nat.{ℕ}
@@ -13,31 +13,6 @@ use Rattle.listing.specs.declared.Decoded.{Decoded}
 use Rattle.listing.proofs.Steps.{reads_whole}
 use Rattle.reading.specs.declared.Reading.{Reading}
 use Rattle.reading.specs.Carried.{reading_at, bytes}
-use Rattle.reading.proofs.Promised.{Promise}
-use Rattle.reading.specs.contracts.begin as begin
-use Rattle.reading.specs.contracts.moved as moved
-use Rattle.reading.specs.contracts.header as header
-use Rattle.reading.specs.contracts.links as links
-use Rattle.reading.specs.contracts.end as end
-use Rattle.reading.specs.contracts.read as read
-
-abbrev pub Begins : Promise begin.ended
-Begins κs a r = r ≡ reading_at a.0 0
-
-abbrev pub Moves : Promise moved.ended
-Moves κs a r = r ≡ reading_at a.0.listing a.1.0
-
-abbrev pub Heads : Promise header.ended
-Heads κs a h = ReadsHeader (bytes a.0) a.0.at h
-
-abbrev pub Follows : Promise links.ended
-Follows κs a l = ReadsLinks (bytes a.0) a.0.at a.1.0 l
-
-abbrev pub Closes : Promise end.ended
-Closes κs a d = ReadsEnd (bytes a.0) a.0.at a.1.0 d
-
-abbrev pub Whole : Promise read.ended
-Whole κs a d = Reads (answer (reading a.0.now)) d
 
 pub in_row : (s : Bor (List ℕ)) (r : Reading) → r ≡ reading_at s 0 → (h : Header) → ReadsHeader (bytes r) r.at h → (q : Reading) → q ≡ reading_at r.listing h.next → (l : Linked) → ReadsLinks (bytes q) q.at h l
     → (p : Reading) → p ≡ reading_at q.listing l.next → (d : Decoded) → ReadsEnd (bytes p) p.at l d → Reads (answer (reading s.now)) d
