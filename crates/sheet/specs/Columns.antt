@@ -1,5 +1,5 @@
 -- The columns of the buying page's lines (document 02, order 3), as numbers. The width of each field stands in one place: a constant in
--- crates/columns/src/lib.rt. An `answer` is the value of that constant, as the contract of a function there asks for it.
+-- crates/columns/src/lib.rt.
 use Rattle.std.specs.Prelude.{List, ℕ, ◌+◌, ◌-◌, take, drop}
 use Rattle.columns.specs.declared.TheConstants.{SWITCH, RULES, LINKS, LINE}
 

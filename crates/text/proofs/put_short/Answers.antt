@@ -16,31 +16,31 @@ three-in : (b : List ℕ) (at n : ℕ) → 100 ≤ n → n < 1000 → Room b at 
 three-in b at n h k r = omega (arith, ap length (decimal-three n h k))
 
 pub bounds-buf-at : goal.bounds-buf-at
-bounds-buf-at c = one-in _ _ _ c.if-n-lt10.true c.requires.1
+bounds-buf-at c = one-in _ _ _ (omega arith) c.requires.1
 
 pub returns-then-n-lt10 : goal.returns-then-n-lt10
 returns-then-n-lt10 c =
-    rw (decimal-last c.args.n c.if-n-lt10.true) (laid-byte c.args.buf.now c.args.at (digit c.args.n) (one-in _ _ _ c.if-n-lt10.true c.requires.1))
+    rw (decimal-last c.args.n (omega arith)) (laid-byte c.args.buf.now c.args.at (digit c.args.n) (one-in _ _ _ (omega arith) c.requires.1))
 
 pub bounds-buf-at-then-n-lt100 : goal.bounds-buf-at-then-n-lt100
-bounds-buf-at-then-n-lt100 c = omega (arith, two-in _ _ _ c.if-n-lt10.false c.if-n-lt100.true c.requires.1)
+bounds-buf-at-then-n-lt100 c = omega (arith, two-in _ _ _ (omega arith) (omega arith) c.requires.1)
 
 pub bounds-buf-at-then-n-lt100-2 : goal.bounds-buf-at-then-n-lt100-2
-bounds-buf-at-then-n-lt100-2 c = simp length-set (two-in _ _ _ c.if-n-lt10.false c.if-n-lt100.true c.requires.1)
+bounds-buf-at-then-n-lt100-2 c = simp length-set (two-in _ _ _ (omega arith) (omega arith) c.requires.1)
 
 pub returns-then-n-lt100 : goal.returns-then-n-lt100
 returns-then-n-lt100 c =
-    rw (decimal-two c.args.n c.if-n-lt10.false c.if-n-lt100.true) (laid-two c.args.buf.now c.args.at (digit (c.args.n / 10)) (digit (c.args.n % 10)) (two-in _ _ _ c.if-n-lt10.false c.if-n-lt100.true c.requires.1))
+    rw (decimal-two c.args.n (omega arith) (omega arith)) (laid-two c.args.buf.now c.args.at (digit (c.args.n / 10)) (digit (c.args.n % 10)) (two-in _ _ _ (omega arith) (omega arith) c.requires.1))
 
 pub bounds-buf-at-2 : goal.bounds-buf-at-2
-bounds-buf-at-2 c = omega (arith, three-in _ _ _ c.if-n-lt100.false c.requires.0 c.requires.1)
+bounds-buf-at-2 c = omega (arith, three-in _ _ _ (omega arith) c.requires.0 c.requires.1)
 
 pub bounds-buf-at-3 : goal.bounds-buf-at-3
-bounds-buf-at-3 c = simp length-set (omega (arith, three-in _ _ _ c.if-n-lt100.false c.requires.0 c.requires.1))
+bounds-buf-at-3 c = simp length-set (omega (arith, three-in _ _ _ (omega arith) c.requires.0 c.requires.1))
 
 pub bounds-buf-at-4 : goal.bounds-buf-at-4
-bounds-buf-at-4 c = simp length-set (three-in _ _ _ c.if-n-lt100.false c.requires.0 c.requires.1)
+bounds-buf-at-4 c = simp length-set (three-in _ _ _ (omega arith) c.requires.0 c.requires.1)
 
 pub returns : goal.returns
 returns c =
-    rw (decimal-three c.args.n c.if-n-lt100.false c.requires.0) (laid-three c.args.buf.now c.args.at (digit (c.args.n / 100)) (digit (c.args.n / 10 % 10)) (digit (c.args.n % 10)) (three-in _ _ _ c.if-n-lt100.false c.requires.0 c.requires.1))
+    rw (decimal-three c.args.n (omega arith) c.requires.0) (laid-three c.args.buf.now c.args.at (digit (c.args.n / 100)) (digit (c.args.n / 10 % 10)) (digit (c.args.n % 10)) (three-in _ _ _ (omega arith) c.requires.0 c.requires.1))
