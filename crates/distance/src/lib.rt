@@ -138,7 +138,8 @@ pub fn distances(
     let m = net.switches as usize;
     let mut k: usize = 0;
     while k < m {
-        if left[k] {
+        let way = left[k];
+        if way {
             through(&mut t, net.switches, k);
         }
         k += 1;
