@@ -51,7 +51,8 @@ pub fn table_of(
     let end = n as usize;
     let mut a: usize = 0;
     while a < end {
-        if used[a] {
+        let in_use = used[a];
+        if in_use {
             let k = t.count as usize;
             t.rules[k] = Rule {
                 from: tails[a],

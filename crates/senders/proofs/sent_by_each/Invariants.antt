@@ -1,5 +1,5 @@
 -- The counts are those of the rules before place k.
-use Rattle.std.proofs.Common.{ℕ, ◌-◌, ◌≤◌, take}
+use Rattle.std.proofs.Common.{◌-◌, ◌≤◌, take}
 use Rattle.senders.proofs.Senders.{CountsOf}
 use Rattle.senders.proofs.sent_by_each.Given as goal
 

@@ -1,5 +1,5 @@
 -- The total is the sum of the places before x.
-use Rattle.std.proofs.Common.{◌≡◌, ℕ, ◌-◌, ◌≤◌}
+use Rattle.std.proofs.Common.{◌≡◌, ◌-◌, ◌≤◌}
 use Rattle.lists.specs.Arrays.{at}
 use Rattle.lists.specs.Sum.{sum}
 use Rattle.limits.specs.Limits.{max_switches}
