@@ -10,7 +10,6 @@ use lib.Dec.{eqb}
 use lib.ListN.{length, take, drop, length-drop}
 use lib.Seq.{length-take-le}
 use Rattle.lists.specs.Members.{all}
-use Rattle.lists.specs.Arrays.{at}
 use Rattle.lists.proofs.Tests.{eq?}
 use Rattle.text.specs.Lines.{space}
 use Rattle.columns.specs.Fields.{spaces_before}
