@@ -12,6 +12,7 @@ pub enum Choice {
 }
 
 // Of a trail that begins at place i of a lent one and a round trail that begins at place j of another, with so many hops, the one with fewer; the trail if they have as many.
+#[tactic(auto, unfolding(crate::specs::Choice::choice_of))]
 pub fn fewer(i: usize, trail: usize, j: usize, round: usize) -> Choice
     ensures { result ≡ choice_of i trail j round }
 {

@@ -18,7 +18,8 @@ pub fn links_at_each(p: Plant) -> [u16; Plant::PLACES]
     let mut counts = [0u16; Plant::PLACES];
     let mut l: usize = 0;
     while l < n {
-        if in_service(p.links[l]) {
+        let live = in_service(p.links[l]);
+        if live {
             let first = p.links[l].first as usize;
             let second = p.links[l].second as usize;
             counts[first] += 1;
