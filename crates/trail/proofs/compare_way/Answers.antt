@@ -1,0 +1,44 @@
+-- A way compared, hop by hop.
+use Rattle.std.proofs.Common.{refl, arith}
+use Rattle.trail.proofs.Filled.{met-short, met_differs, met-one, met_all}
+use Rattle.trail.proofs.Ways.{way_of, over, way_none}
+use Rattle.trail.proofs.compare_way.Goals as goal
+
+pub returns-then-lent-i : goal.returns-then-lent-i
+returns-then-lent-i c w =
+    let k = c.loop-x in
+    met-short (k.invariant w).1 (over w.parts k.x _ _ (k.invariant w).0 c.loop-x-test.true refl).goes c.if-lent-i.true
+
+pub hop-a-requires : goal.hop-a-requires
+hop-a-requires c =
+    let k = c.loop-x in
+    let w = c.requires in
+    way_of w.parts (k.invariant w).0
+
+pub returns-then-lent-i-2 : goal.returns-then-lent-i-2
+returns-then-lent-i-2 c w =
+    let k = c.loop-x in
+    met_differs (k.invariant w).1 (over w.parts k.x _ _ (k.invariant w).0 c.loop-x-test.true (c.hop-a.ensures (way_of w.parts (k.invariant w).0))).goes c.if-lent-i.false c.if-lent-i-2.true
+
+pub bounds-heads-a : goal.bounds-heads-a
+bounds-heads-a c =
+    let k = c.loop-x in
+    let w = c.requires in
+    omega (arith, (over w.parts k.x _ _ (k.invariant w).0 c.loop-x-test.true (c.hop-a.ensures (way_of w.parts (k.invariant w).0))).label_low)
+
+pub loop-x-smaller : goal.loop-x-smaller
+loop-x-smaller c =
+    let k = c.loop-x in
+    let w = c.requires in
+    omega (arith, (over w.parts k.x _ _ (k.invariant w).0 c.loop-x-test.true (c.hop-a.ensures (way_of w.parts (k.invariant w).0))).shorter)
+
+pub loop-x-preserved : goal.loop-x-preserved
+loop-x-preserved c w =
+    let k = c.loop-x in
+    let o = over w.parts k.x _ _ (k.invariant w).0 c.loop-x-test.true (c.hop-a.ensures (way_of w.parts (k.invariant w).0)) in
+    (o.joined, met-one (k.invariant w).1 o.goes c.if-lent-i.false c.if-lent-i-2.false)
+
+pub returns : goal.returns
+returns c w =
+    let k = c.loop-x in
+    met_all (k.invariant w).1 (way_none w.parts k.x _ c.loop-x-test.false)
