@@ -12,7 +12,7 @@ most_digits = 3
 abbrev pub spaces : ℕ → List ℕ
 spaces n = replicate n space
 
--- "right_aligned": the text ends with the columns
+-- "right-aligned": the text ends with the columns
 abbrev pub right_in : ℕ → List ℕ → List ℕ
 right_in columns text = spaces (columns - length text) ++ text
 

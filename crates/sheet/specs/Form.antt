@@ -25,7 +25,7 @@ module _ (line : List ℕ) where
   abbrev pub links_field : List ℕ
   links_field = columns_of rules_end links_end line
 
-  -- "numbers of one to three digits with no leading zero", right_aligned in their columns
+  -- "numbers of one to three digits with no leading zero", right-aligned in their columns
   unfoldable pub numbers_held : Bool
   numbers_held = is_number rules_field && is_number links_field
 

@@ -14,7 +14,7 @@ use Rattle.sheet.specs.declared.Sheet.{Sheet}
 abbrev pub total_word : List ℕ
 total_word = ascii "total"
 
--- a line: its first field, and two numbers, "right_aligned decimal, all else spaces", "the last a newline"
+-- a line: its first field, and two numbers, "right-aligned decimal, all else spaces", "the last a newline"
 unfoldable pub line_of : List ℕ → ℕ → ℕ → List ℕ
 line_of field rules links =
     left_in last_column (field ++ right_in rules_columns (decimal rules) ++ right_in links_columns (decimal links)) ++ (newline ∷ [])
