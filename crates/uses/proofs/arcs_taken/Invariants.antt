@@ -7,7 +7,7 @@ use Rattle.uses.specs.Inner.{taken_by}
 use Rattle.uses.proofs.arcs_taken.Given as goal
 
 abbrev pub invariant-loop-l : goal.invariant-loop-l
-invariant-loop-l l = (l.l ≤ l.n) × Laid false (2 * max_links) (taken_by l.p l.v (flag l.two)) (2 * l.l) l.u
+invariant-loop-l l = (l.l ≤ l.n) × Laid false (2 * max_links) (taken_by l.fn.p l.fn.v (flag l.fn.two)) (2 * l.l) l.u
 
 abbrev pub decreases-loop-l : goal.decreases-loop-l
 decreases-loop-l l = l.n - l.l
