@@ -10,7 +10,7 @@ use lib.Dec.{T, eqb, ltb}
 use lib.ListN.{length}
 use Rattle.lists.specs.Tests.{choose}
 use Rattle.lists.specs.Arrays.{flag, at}
-use Rattle.lists.specs.Count.{bit, count}
+use Rattle.lists.specs.Count.{bit}
 use Rattle.lists.specs.Least.{least_from}
 use Rattle.lists.proofs.Tests.{T-or, T_true, true_T, not_true_false, and_left, and_right, and_both}
 use Rattle.lists.proofs.Count.{bit_true, bit_false, count-all, count_none, pairs, counts_le}

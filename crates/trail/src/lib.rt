@@ -125,7 +125,8 @@ fn compare_way(
             return Compared::Other;
         }
         let a = hop(net, heads, first, after, t, x, to);
-        if lent[i] != a {
+        let label = lent[i];
+        if label != a {
             return Compared::Other;
         }
         i += 1;

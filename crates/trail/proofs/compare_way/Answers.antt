@@ -15,10 +15,10 @@ hop-a-requires c =
     let w = c.requires in
     way_of w.parts (k.invariant w).0
 
-pub returns-then-lent-i-2 : goal.returns-then-lent-i-2
-returns-then-lent-i-2 c w =
+pub returns-then-label-a : goal.returns-then-label-a
+returns-then-label-a c w =
     let k = c.loop-x in
-    met_differs (k.invariant w).1 (over w.parts k.x _ _ (k.invariant w).0 c.loop-x-test.true (c.hop-a.ensures (way_of w.parts (k.invariant w).0))).goes c.if-lent-i.false c.if-lent-i-2.true
+    met_differs (k.invariant w).1 (over w.parts k.x _ _ (k.invariant w).0 c.loop-x-test.true (c.hop-a.ensures (way_of w.parts (k.invariant w).0))).goes c.if-lent-i.false c.if-label-a.true
 
 pub bounds-heads-a : goal.bounds-heads-a
 bounds-heads-a c =
@@ -36,7 +36,7 @@ pub loop-x-preserved : goal.loop-x-preserved
 loop-x-preserved c w =
     let k = c.loop-x in
     let o = over w.parts k.x _ _ (k.invariant w).0 c.loop-x-test.true (c.hop-a.ensures (way_of w.parts (k.invariant w).0)) in
-    (o.joined, met-one (k.invariant w).1 o.goes c.if-lent-i.false c.if-lent-i-2.false)
+    (o.joined, met-one (k.invariant w).1 o.goes c.if-lent-i.false c.if-label-a.false)
 
 pub returns : goal.returns
 returns c w =

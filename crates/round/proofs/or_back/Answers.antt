@@ -1,0 +1,13 @@
+-- The test tells which of the two labels it is.
+use Rattle.std.proofs.Common.{refl}
+use borrow.Author.Tests.{lt-ltb, le-ltb}
+use Rattle.round.specs.Inner.{or_back}
+use Rattle.round.proofs.or_back.Goals as goal
+
+pub returns-then-next-n : goal.returns-then-next-n
+unfolding or_back
+returns-then-next-n c = rw (lt-ltb _ _ c.if-next-n.true) refl
+
+pub returns : goal.returns
+unfolding or_back
+returns c = rw (le-ltb _ _ c.if-next-n.false) refl
