@@ -73,8 +73,8 @@ fn climb(
     requires entry_links { EntryLinks p max_links up.now }
     requires k_lt_max_links { k < max_links }
     requires covered { Covered p k c.old }
-    requires k_value { live p k ≡ true }
-    requires k_value_2 { flag v.entered k ≡ false }
+    requires in_service { live p k ≡ true }
+    requires not_entered { flag v.entered k ≡ false }
     ensures { Covered p (k + 1) c.new }
 {
     let mut x = tails[2 * k];

@@ -10,7 +10,7 @@ loop-x-init c =
     let h = c.requires in
     let p = c.args.p in
     rw (first_end p c.args.tails.now h.ends.tails_are c.args.k, second_end p c.args.heads.now h.ends.heads_are c.args.k)
-    (climb_begin h.sound h.tells_all h.covered h.k_value h.k_value_2)
+    (climb_begin h.sound h.tells_all h.covered h.in_service h.not_entered)
 
 pub bounds-v-i : goal.bounds-v-i
 bounds-v-i c = (climb_places c.requires.sound c.loop-x.invariant).0

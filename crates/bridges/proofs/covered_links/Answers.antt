@@ -8,8 +8,8 @@ use Rattle.bridges.proofs.covered_links.Goals.{then-in_service+then-not-v-k, the
 pub loop-k-init : goal.loop-k-init
 loop-k-init c = (omega arith, covered_none c.requires.sound)
 
-pub climb-requires-clause-k_value : goal.climb-requires-clause-k_value
-climb-requires-clause-k_value c = live-listed c.args.p c.loop-k.k c.loop-k-test.true ∙ sym c.in_service.ensures ∙ c.if-in_service.true
+pub climb-requires-clause-in_service : goal.climb-requires-clause-in_service
+climb-requires-clause-in_service c = live-listed c.args.p c.loop-k.k c.loop-k-test.true ∙ sym c.in_service.ensures ∙ c.if-in_service.true
 
 pub loop-k-preserved : goal.loop-k-preserved
 loop-k-preserved c =
