@@ -1,36 +1,57 @@
 // The program `buying` (document 02, order 3): reads a listing from standard input and prints its buying page, or its refusal. Its one argument is the spare in percent.
 #![tactic(auto)]
 
-ghost use Rattle.std.specs.Prelude.{◌≡◌, true, min};
+ghost use Rattle.std.specs.Prelude.{◌≡◌, true, min, IfSome, OnOk, OnErr};
+ghost use Rattle.std.specs.Io.KnownBytes.{Appends};
 ghost use Rattle.answers.specs.Answers.{number_of};
 ghost use Rattle.text.specs.Decimal.{read_decimal};
 ghost use Rattle.text.specs.Lines.{refusal_of};
 ghost use Rattle.columns.specs.Fields.{is_short};
+ghost use Rattle.streams.specs.Streams.{AppendsFront, IsPrefixLen, Shrinks};
 ghost use Rattle.buying.specs.Output.{printed};
 
 use answers::Refusal;
 use columns::LINE;
-use libc::{STDERR_FILENO, STDIN_FILENO, STDOUT_FILENO};
 use listing::Written;
 use plant::Plant;
+use std::env::{Env, FillError};
+use std::io;
+use std::io::{Read, Write};
 
 // The length of the longest page: a line for each switch that a plant can have, and the last.
 const PAGE: usize = LINE * (Plant::PLACES + 1);
 
-// Writes the output for an argument and a listing to standard output. These two are handed over for the contract alone, which says what the bytes are.
-fn write_output(bytes: &[u8], argument: &[u8], listing: &[u8])
+// The most bytes of an input that are read.
+const INPUT: usize = 4096;
+
+// Writes the output for an argument and a listing. These two are handed over for the contract alone, which says what the bytes are. After an error a front of them is written.
+fn write_output<W: Write>(
+    out: &mut W,
+    bytes: &[u8],
+    argument: &[u8],
+    listing: &[u8],
+) -> io::Result<()>
     requires { bytes.now ≡ printed argument.now listing.now }
+    ensures ok { OnOk result (Appends (W.contents out.old) (W.contents out.new) (printed argument.now listing.now)) }
+    ensures err { OnErr result (AppendsFront (W.contents out.old) (W.contents out.new) (printed argument.now listing.now)) }
 {
-    io::write_all(STDOUT_FILENO, bytes);
+    streams::put(out, bytes)
 }
 
 // The line of a refusal.
-fn print_refusal(k: Refusal, argument: &[u8], listing: &[u8])
+fn print_refusal<W: Write>(
+    out: &mut W,
+    k: Refusal,
+    argument: &[u8],
+    listing: &[u8],
+) -> io::Result<()>
     requires { refusal_of (number_of k) ≡ printed argument.now listing.now }
+    ensures ok { OnOk result (Appends (W.contents out.old) (W.contents out.new) (printed argument.now listing.now)) }
+    ensures err { OnErr result (AppendsFront (W.contents out.old) (W.contents out.new) (printed argument.now listing.now)) }
 {
     let mut line = [0u8; text::REFUSAL];
     let n = text::put_refusal(&mut line, k.number());
-    write_output(&line[..n], argument, listing);
+    write_output(out, &line[..n], argument, listing)
 }
 
 // The spare that an argument says, as a byte: one that a byte can't hold is too large in any case.
@@ -46,36 +67,59 @@ fn spare_of(argument: &[u8]) -> u8
 }
 
 // The buying page of a listing, or its refusal.
-fn print_page(argument: &[u8], listing: &[u8])
+fn print_page<W: Write>(out: &mut W, argument: &[u8], listing: &[u8]) -> io::Result<()>
     requires { is_short argument.now ≡ true }
+    ensures ok { OnOk result (Appends (W.contents out.old) (W.contents out.new) (printed argument.now listing.now)) }
+    ensures err { OnErr result (AppendsFront (W.contents out.old) (W.contents out.new) (printed argument.now listing.now)) }
 {
     let mut page = [0u8; PAGE];
     match planner::write_buying_page(listing, spare_of(argument), &mut page) {
-        Written::Length(n) => write_output(&page[..n], argument, listing),
-        Written::Refused(k) => print_refusal(k, argument, listing),
+        Written::Length(n) => write_output(out, &page[..n], argument, listing),
+        Written::Refused(k) => print_refusal(out, k, argument, listing),
     }
 }
 
-// A line on how to call the program, on standard error.
-fn tell_usage() {
-    io::write_all(
-        STDERR_FILENO,
+// The output for the listing that a reader gives. The buffer has more places than the longest sound listing has bytes, so that of a longer input what it holds decides:
+// `printed-buffer` of proofs/Output.antt. After an error, of the reader or of the writer, a front of the output is written.
+fn print_file<R: Read, W: Write>(argument: &[u8], file: &mut R, out: &mut W) -> io::Result<()>
+    requires { is_short argument.now ≡ true }
+    ensures ok { OnOk result (IfSome (R.remaining file.old) (λ s. Appends (W.contents out.old) (W.contents out.new) (printed argument.now s))) }
+    ensures err { OnErr result (IfSome (R.remaining file.old) (λ s. AppendsFront (W.contents out.old) (W.contents out.new) (printed argument.now s))) }
+    ensures taken { Shrinks (R.remaining file.old) (R.remaining file.new) }
+{
+    let mut input = [0u8; INPUT];
+    let n = streams::fill(file, &mut input)?;
+    print_page(out, argument, &input[..n])
+}
+
+// A line on how to call the program.
+fn tell_usage<W: Write>(out: &mut W) -> io::Result<()> {
+    streams::put(
+        out,
         b"usage: buying SPARE < LISTING, with SPARE in percent: one to three digits, no leading zero\n",
-    );
+    )
 }
 
-fn main() {
+// The one argument of a program, to the front of the buffer, and its length; 0 if there is none, if there are more, or if the buffer is too short for it.
+fn only_argument(env: &impl Env, buffer: &mut [u8]) -> usize
+    ensures { IsPrefixLen result buffer.new }
+{
+    let mut second = [0u8; 1];
+    match env.arg(2, &mut second) {
+        Err(FillError::NotPresent) => {}
+        _ => return 0,
+    }
+    match env.arg(1, buffer) {
+        Ok(n) => n,
+        Err(_) => 0,
+    }
+}
+
+fn main(rt: HostRuntime) -> io::Result<()> {
     let mut argument = [0u8; text::DIGITS_SHORT];
-    let n = os::arg(1, &mut argument);
-    if os::arg_count() != 2 {
-        tell_usage();
-        return;
-    }
+    let n = only_argument(&rt, &mut argument);
     if !columns::is_short(&argument[..n]) {
-        tell_usage();
-        return;
+        return tell_usage(&mut rt.stderr());
     }
-    let mut input = io::buffer();
-    let m = io::read_full(STDIN_FILENO, &mut input);
-    print_page(&argument[..n], &input[..m]);
+    print_file(&argument[..n], &mut rt.stdin(), &mut rt.stdout())
 }

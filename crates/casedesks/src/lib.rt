@@ -5,10 +5,13 @@
 ghost use Rattle.answers.specs.Checks.{answer};
 ghost use Rattle.desk.specs.Answers.{Serves};
 ghost use Rattle.consoles.specs.Calls.{new_set, start, outcome, serving};
+ghost use Rattle.streams.specs.Streams.{Grows};
 
 use caseform::{checksum, input, show};
 use desk::{Console, Desk, Held, Served, Shown};
 use search::{Outcome, Search};
+use std::io;
+use std::io::Write;
 
 // ---- the calls, each lent a desk that is handed over by value and back
 
@@ -131,34 +134,46 @@ fn of_desk(d: Desk) -> u32 {
     )
 }
 
-fn show_console(c: Console) {
-    show::number(c.set);
+fn show_console<W: Write>(out: &mut W, c: Console) -> io::Result<()>
+    ensures { Grows (W.contents out.old) (W.contents out.new) }
+{
+    show::number(out, c.set)?;
     let search = c.search;
     match search {
-        Held::Nothing => show::word(b" none"),
+        Held::Nothing => show::word(out, b" none"),
         Held::From(x, q) => {
-            show::word(b" from");
-            show::next(x as u64);
-            show::word(b" ");
-            show::search(q);
+            show::word(out, b" from")?;
+            show::next(out, x as u64)?;
+            show::word(out, b" ")?;
+            show::search(out, q)
         }
     }
 }
 
-// The answer, and the desk after the call.
-fn show_served(r: Served) {
-    let shown = r.shown;
+fn show_shown<W: Write>(out: &mut W, shown: Shown) -> io::Result<()>
+    ensures { Grows (W.contents out.old) (W.contents out.new) }
+{
     match shown {
-        Shown::Now(c) => show_console(c),
-        Shown::Refused(k) => show::refusal(k),
+        Shown::Now(c) => show_console(out, c),
+        Shown::Refused(k) => show::refusal(out, k),
     }
-    let desk = r.desk;
-    show::word(b" ");
-    show::list(4 * NUMBERS, of_desk(desk));
 }
 
-// Prints the answer of one of these calls with its arguments at a place; the place after them.
-pub fn answer(call: u8, s: &[u8], at: usize) -> usize {
+// The answer, and the desk after the call.
+fn show_served<W: Write>(out: &mut W, r: Served) -> io::Result<()>
+    ensures { Grows (W.contents out.old) (W.contents out.new) }
+{
+    let shown = r.shown;
+    show_shown(out, shown)?;
+    let desk = r.desk;
+    show::word(out, b" ")?;
+    show::list(out, 4 * NUMBERS, of_desk(desk))
+}
+
+// Writes the answer of one of these calls with its arguments at a place; the place after them. What was written before stays, also after an error.
+pub fn answer<W: Write>(out: &mut W, call: u8, s: &[u8], at: usize) -> io::Result<usize>
+    ensures { Grows (W.contents out.old) (W.contents out.new) }
+{
     let listing = input::string(s, at);
     let second = input::past_string(s, at);
     let d = desk(s, second);
@@ -167,17 +182,20 @@ pub fn answer(call: u8, s: &[u8], at: usize) -> usize {
     let from = input::past(s, third, 1);
     match call {
         30 => {
-            show_served(replace_set(d, listing, console, set(s, from)));
-            input::past(s, from, 8)
+            show_served(out, replace_set(d, listing, console, set(s, from)))?;
+            Ok(input::past(s, from, 8))
         }
         31 => {
-            show_served(start_search(d, listing, console, input::byte(s, from)));
-            input::past(s, from, 1)
+            show_served(out, start_search(d, listing, console, input::byte(s, from)))?;
+            Ok(input::past(s, from, 1))
         }
         32 => {
-            show_served(give_outcome(d, listing, console, input::outcome(s, from)));
-            input::past(s, from, 1)
+            show_served(
+                out,
+                give_outcome(d, listing, console, input::outcome(s, from)),
+            )?;
+            Ok(input::past(s, from, 1))
         }
-        _ => s.len(),
+        _ => Ok(s.len()),
     }
 }

@@ -1,6 +1,6 @@
 // The arguments of a case, at a place of the input. What lies past the end of the input counts as zeros, and a place past it as its end.
 ghost use Rattle.std.specs.Prelude.{◌≡◌, ◌+◌, ◌≤◌, length};
-ghost use Rattle.io.specs.Counts.{IsPrefixLen};
+ghost use Rattle.streams.specs.Streams.{IsPrefixLen};
 
 use plant::{Link, Plant};
 use search::{Outcome, Search};

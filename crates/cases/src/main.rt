@@ -54,30 +54,34 @@
 mod searches;
 
 ghost use Rattle.std.specs.Prelude.{◌≡◌, ◌≤◌, length};
+ghost use Rattle.streams.specs.Streams.{Grows};
 
 use caseform::{input, show};
-use libc::STDIN_FILENO;
+use std::io;
+use std::io::{BufWriter, Write};
 
 // The most bytes of input that are read.
 const INPUT: usize = 2450000;
 
-// Prints the answer of the case at a place; the place after it. A byte that is no call ends the input.
-fn answer(s: &[u8], at: usize) -> usize {
+// Writes the answer of the case at a place; the place after it. A byte that is no call ends the input.
+fn answer<W: Write>(out: &mut W, s: &[u8], at: usize) -> io::Result<usize>
+    ensures { Grows (W.contents out.old) (W.contents out.new) }
+{
     let call = input::byte(s, at);
     let from = input::past(s, at, 1);
     if call < 7 {
-        return caseplans::answer(call, s, from);
+        return caseplans::answer(out, call, s, from);
     }
     if call < 13 || call == 21 || call == 26 || call == 27 {
-        return casepackets::answer(call, s, from);
+        return casepackets::answer(out, call, s, from);
     }
     if 30 <= call && call < 33 {
-        return casedesks::answer(call, s, from);
+        return casedesks::answer(out, call, s, from);
     }
     if call == 18 || call == 19 || 22 <= call {
-        return caseplans::answer(call, s, from);
+        return caseplans::answer(out, call, s, from);
     }
-    searches::answer(call, s, from)
+    searches::answer(out, call, s, from)
 }
 
 // The later of two places.
@@ -90,14 +94,17 @@ fn later(a: usize, b: usize) -> usize
     a
 }
 
-// Prints the answers of all cases. Each has one byte at least.
-fn answer_all(s: &[u8]) {
+// Writes the answers of all cases. Each has one byte at least. What was written before stays, also after an error.
+fn answer_all<W: Write>(out: &mut W, s: &[u8]) -> io::Result<()>
+    ensures { Grows (W.contents out.old) (W.contents out.new) }
+{
     let mut at: usize = 0;
     while at < s.len() {
-        let next = answer(s, at);
+        let next = answer(out, s, at)?;
         at = later(at + 1, next);
-        show::word(b"\n");
+        show::word(out, b"\n")?;
     }
+    Ok(())
 }
 
 // Places for the input.
@@ -107,8 +114,10 @@ fn space() -> [u8; INPUT]
     [0; INPUT]
 }
 
-fn main() {
+fn main(rt: HostRuntime) -> io::Result<()> {
     let mut input = space();
-    let n = io::read_full(STDIN_FILENO, &mut input);
-    answer_all(&input[..n]);
+    let n = streams::fill(&mut rt.stdin(), &mut input)?;
+    let mut out = BufWriter::new(rt.alloc(), rt.stdout())?;
+    answer_all(&mut out, &input[..n])?;
+    out.flush()
 }

@@ -1,78 +1,137 @@
 // Calls 13 to 17 and 20: the search, its allowance and the order quantity.
+ghost use Rattle.streams.specs.Streams.{Grows};
+
 use caseform::{input, show};
 use probing::{Begun, Performed};
 use quantity::Quantity;
 use search::{Asked, Progress, Told};
+use std::io;
+use std::io::Write;
 
-fn new_search(s: &[u8], at: usize) -> usize {
+fn show_begun<W: Write>(out: &mut W, r: Begun) -> io::Result<()>
+    ensures { Grows (W.contents out.old) (W.contents out.new) }
+{
+    match r {
+        Begun::State(state) => show::search(out, state),
+        Begun::Refused(k) => show::refusal(out, k),
+    }
+}
+
+fn new_search<W: Write>(out: &mut W, s: &[u8], at: usize) -> io::Result<usize>
+    ensures { Grows (W.contents out.old) (W.contents out.new) }
+{
     let listing = input::string(s, at);
     let from = input::past_string(s, at);
-    match probing::new_search(listing, input::byte(s, from)) {
-        Begun::State(state) => show::search(state),
-        Begun::Refused(k) => show::refusal(k),
-    }
-    input::past(s, from, 1)
+    show_begun(out, probing::new_search(listing, input::byte(s, from)))?;
+    Ok(input::past(s, from, 1))
 }
 
-fn ask(s: &[u8], at: usize) -> usize {
-    match probing::ask(input::search(s, at)) {
-        Asked::Probe(m) => show::number(m as u64),
-        Asked::Refused(k) => show::refusal(k),
+fn show_asked<W: Write>(out: &mut W, r: Asked) -> io::Result<()>
+    ensures { Grows (W.contents out.old) (W.contents out.new) }
+{
+    match r {
+        Asked::Probe(m) => show::number(out, m as u64),
+        Asked::Refused(k) => show::refusal(out, k),
     }
-    input::past_search(s, at)
 }
 
-fn give(s: &[u8], at: usize) -> usize {
+fn ask<W: Write>(out: &mut W, s: &[u8], at: usize) -> io::Result<usize>
+    ensures { Grows (W.contents out.old) (W.contents out.new) }
+{
+    show_asked(out, probing::ask(input::search(s, at)))?;
+    Ok(input::past_search(s, at))
+}
+
+fn show_told<W: Write>(out: &mut W, r: Told) -> io::Result<()>
+    ensures { Grows (W.contents out.old) (W.contents out.new) }
+{
+    match r {
+        Told::State(state) => show::search(out, state),
+        Told::Refused(k) => show::refusal(out, k),
+    }
+}
+
+fn give<W: Write>(out: &mut W, s: &[u8], at: usize) -> io::Result<usize>
+    ensures { Grows (W.contents out.old) (W.contents out.new) }
+{
     let from = input::past_search(s, at);
-    match probing::give(input::search(s, at), input::outcome(s, from)) {
-        Told::State(state) => show::search(state),
-        Told::Refused(k) => show::refusal(k),
-    }
-    input::past(s, from, 1)
+    show_told(
+        out,
+        probing::give(input::search(s, at), input::outcome(s, from)),
+    )?;
+    Ok(input::past(s, from, 1))
 }
 
-fn show_progress(p: Progress) {
+fn show_progress<W: Write>(out: &mut W, p: Progress) -> io::Result<()>
+    ensures { Grows (W.contents out.old) (W.contents out.new) }
+{
     let state = p.state;
-    show::search(state);
-    show::next(p.probes as u64);
-    show::next(p.packets as u64);
+    show::search(out, state)?;
+    show::next(out, p.probes as u64)?;
+    show::next(out, p.packets as u64)
 }
 
-fn perform(s: &[u8], at: usize) -> usize {
+fn show_performed<W: Write>(out: &mut W, r: Performed) -> io::Result<()>
+    ensures { Grows (W.contents out.old) (W.contents out.new) }
+{
+    match r {
+        Performed::Done(p) => show_progress(out, p),
+        Performed::Refused(k) => show::refusal(out, k),
+    }
+}
+
+fn perform<W: Write>(out: &mut W, s: &[u8], at: usize) -> io::Result<usize>
+    ensures { Grows (W.contents out.old) (W.contents out.new) }
+{
     let listing = input::string(s, at);
     let second = input::past_string(s, at);
     let switch = input::byte(s, second);
     let third = input::past(s, second, 1);
-    match probing::perform(listing, switch, input::string(s, third)) {
-        Performed::Done(p) => show_progress(p),
-        Performed::Refused(k) => show::refusal(k),
-    }
-    input::past_string(s, third)
+    show_performed(
+        out,
+        probing::perform(listing, switch, input::string(s, third)),
+    )?;
+    Ok(input::past_string(s, third))
 }
 
-fn order_quantity(s: &[u8], at: usize) -> usize {
+fn show_quantity<W: Write>(out: &mut W, r: Quantity) -> io::Result<()>
+    ensures { Grows (W.contents out.old) (W.contents out.new) }
+{
+    match r {
+        Quantity::Rules(n) => show::number(out, n as u64),
+        Quantity::Refused(k) => show::refusal(out, k),
+    }
+}
+
+fn order_quantity<W: Write>(out: &mut W, s: &[u8], at: usize) -> io::Result<usize>
+    ensures { Grows (W.contents out.old) (W.contents out.new) }
+{
     let from = input::past(s, at, 2);
-    match planner::order_quantity(input::number(s, at), input::byte(s, from)) {
-        Quantity::Rules(n) => show::number(n as u64),
-        Quantity::Refused(k) => show::refusal(k),
-    }
-    input::past(s, from, 1)
+    show_quantity(
+        out,
+        planner::order_quantity(input::number(s, at), input::byte(s, from)),
+    )?;
+    Ok(input::past(s, from, 1))
 }
 
-fn allowance(s: &[u8], at: usize) -> usize {
-    show::number(planner::allowance(input::number(s, at)) as u64);
-    input::past(s, at, 2)
+fn allowance<W: Write>(out: &mut W, s: &[u8], at: usize) -> io::Result<usize>
+    ensures { Grows (W.contents out.old) (W.contents out.new) }
+{
+    show::number(out, planner::allowance(input::number(s, at)) as u64)?;
+    Ok(input::past(s, at, 2))
 }
 
-// Prints the answer of one of these calls with its arguments at a place; the place after them.
-pub fn answer(call: u8, s: &[u8], at: usize) -> usize {
+// Writes the answer of one of these calls with its arguments at a place; the place after them. What was written before stays, also after an error.
+pub fn answer<W: Write>(out: &mut W, call: u8, s: &[u8], at: usize) -> io::Result<usize>
+    ensures { Grows (W.contents out.old) (W.contents out.new) }
+{
     match call {
-        13 => new_search(s, at),
-        14 => ask(s, at),
-        15 => give(s, at),
-        16 => perform(s, at),
-        17 => order_quantity(s, at),
-        20 => allowance(s, at),
-        _ => s.len(),
+        13 => new_search(out, s, at),
+        14 => ask(out, s, at),
+        15 => give(out, s, at),
+        16 => perform(out, s, at),
+        17 => order_quantity(out, s, at),
+        20 => allowance(out, s, at),
+        _ => Ok(s.len()),
     }
 }

@@ -1,8 +1,9 @@
 // The plan of a listing as text: a line of numbers, the forwarding table and a trail line for each component; or its refusal. The whole text is made as bytes in a lent buffer,
-// and one function writes it to standard output. Inner: what the programs `rules` and `samples` share.
+// and one function writes it. Inner: what the programs `rules` and `samples` share.
 #![tactic(auto)]
 
-ghost use Rattle.std.specs.Prelude.{◌≡◌, map, ◌+◌, ◌*◌, ◌≤◌, length, take};
+ghost use Rattle.std.specs.Prelude.{◌≡◌, map, ◌+◌, ◌*◌, ◌≤◌, length, take, IfSome, OnOk, OnErr};
+ghost use Rattle.std.specs.Io.KnownBytes.{Appends};
 ghost use Rattle.answers.specs.Answers.{number_of};
 ghost use Rattle.limits.specs.Limits.{max_links, max_rules};
 ghost use Rattle.plan.specs.Plan.{trail_of};
@@ -10,14 +11,16 @@ ghost use Rattle.planning.specs.Plans.{Plan};
 ghost use Rattle.text.specs.Lines.{summary_line, rule_line, rule_lines, trail_line, trail_lines, refusal_of};
 ghost use Rattle.text.specs.Sizes.{summary_most};
 ghost use Rattle.text.specs.Laid.{Room, Laid};
+ghost use Rattle.streams.specs.Streams.{AppendsFront, Shrinks};
 ghost use Rattle.printing.specs.Output.{triple, plant_output, printed};
 ghost use Rattle.printing.specs.Room.{page_room};
 ghost use Rattle.printing.specs.Stretches.{stretch_of, Stretches};
 
 use answers::{Refusal, Verdict};
-use libc::STDOUT_FILENO;
 use planning::{Component, Components, Numbers, Parts};
 use plant::Plant;
+use std::io;
+use std::io::{Read, Write};
 use table::{Rule, Table};
 
 // The most bytes of a page: `pageRoom maxHops` of specs/Output.antt.
@@ -33,6 +36,9 @@ const SHORT_PAGE: usize = text::SUMMARY
     + Plant::MAX_RULES * text::RULE
     + Plant::PLACES * text::TRAIL
     + SHORT * text::LABEL;
+
+// The most bytes of an input that are read.
+const INPUT: usize = 4096;
 
 // The line of numbers, at the front of the buffer.
 fn put_numbers(n: Numbers, buf: &mut [u8]) -> usize
@@ -117,47 +123,68 @@ fn put_plan(
     put_trails(x.components, labels, buf, end)
 }
 
-// Writes the output for a listing to standard output. The listing is handed over for the contract alone, which says what the bytes are.
-fn write_output(bytes: &[u8], listing: &[u8])
+// Writes the output for a listing. The listing is handed over for the contract alone, which says what the bytes are. After an error a front of them is written.
+fn write_output<W: Write>(out: &mut W, bytes: &[u8], listing: &[u8]) -> io::Result<()>
     requires { bytes.now ≡ printed listing.now }
+    ensures ok { OnOk result (Appends (W.contents out.old) (W.contents out.new) (printed listing.now)) }
+    ensures err { OnErr result (AppendsFront (W.contents out.old) (W.contents out.new) (printed listing.now)) }
 {
-    io::write_all(STDOUT_FILENO, bytes);
+    streams::put(out, bytes)
 }
 
 // The page of a plan with short trails, so that a short buffer does.
-fn print_short(x: Parts, t: &[[u8; Plant::PLACES]; Plant::PLACES], listing: &[u8])
+fn print_short<W: Write>(
+    out: &mut W,
+    x: Parts,
+    t: &[[u8; Plant::PLACES]; Plant::PLACES],
+    listing: &[u8],
+) -> io::Result<()>
     requires plan { Plan x t.now }
     requires plant_len_bound { length (trail_of x.plant) ≤ 2 * max_links }
     requires plant_value { plant_output x.plant ≡ printed listing.now }
+    ensures ok { OnOk result (Appends (W.contents out.old) (W.contents out.new) (printed listing.now)) }
+    ensures err { OnErr result (AppendsFront (W.contents out.old) (W.contents out.new) (printed listing.now)) }
 {
     let mut labels = [0u16; SHORT];
     let mut bytes = [0u8; SHORT_PAGE];
     let n = put_plan(x, t, &mut labels, &mut bytes);
-    write_output(&bytes[..n], listing);
+    write_output(out, &bytes[..n], listing)
 }
 
 // The page of any plan.
-fn print_long(x: Parts, t: &[[u8; Plant::PLACES]; Plant::PLACES], listing: &[u8])
+fn print_long<W: Write>(
+    out: &mut W,
+    x: Parts,
+    t: &[[u8; Plant::PLACES]; Plant::PLACES],
+    listing: &[u8],
+) -> io::Result<()>
     requires plan { Plan x t.now }
     requires plant_value { plant_output x.plant ≡ printed listing.now }
+    ensures ok { OnOk result (Appends (W.contents out.old) (W.contents out.new) (printed listing.now)) }
+    ensures err { OnErr result (AppendsFront (W.contents out.old) (W.contents out.new) (printed listing.now)) }
 {
     let mut labels = [0u16; Plant::MAX_HOPS];
     let mut bytes = [0u8; PAGE];
     let n = put_plan(x, t, &mut labels, &mut bytes);
-    write_output(&bytes[..n], listing);
+    write_output(out, &bytes[..n], listing)
 }
 
 // The line of a refusal.
-fn print_refusal(k: Refusal, listing: &[u8])
+fn print_refusal<W: Write>(out: &mut W, k: Refusal, listing: &[u8]) -> io::Result<()>
     requires { refusal_of (number_of k) ≡ printed listing.now }
+    ensures ok { OnOk result (Appends (W.contents out.old) (W.contents out.new) (printed listing.now)) }
+    ensures err { OnErr result (AppendsFront (W.contents out.old) (W.contents out.new) (printed listing.now)) }
 {
     let mut line = [0u8; text::REFUSAL];
     let n = text::put_refusal(&mut line, k.number());
-    write_output(&line[..n], listing);
+    write_output(out, &line[..n], listing)
 }
 
-// Writes the output for a listing to standard output.
-pub fn print_listing(listing: &[u8]) {
+// Writes the output for a listing. After an error a front of it is written.
+pub fn print_listing<W: Write>(out: &mut W, listing: &[u8]) -> io::Result<()>
+    ensures ok { OnOk result (Appends (W.contents out.old) (W.contents out.new) (printed listing.now)) }
+    ensures err { OnErr result (AppendsFront (W.contents out.old) (W.contents out.new) (printed listing.now)) }
+{
     let mut t = planning::blank();
     let d = planning::plan(listing, &mut t);
     let v = d.verdict;
@@ -165,22 +192,24 @@ pub fn print_listing(listing: &[u8]) {
         Verdict::Accepted => {
             let hops = d.parts.hops as usize;
             if hops <= SHORT {
-                print_short(d.parts, &t, listing);
+                print_short(out, d.parts, &t, listing)
             } else {
-                print_long(d.parts, &t, listing);
+                print_long(out, d.parts, &t, listing)
             }
         }
-        Verdict::Refused(k) => {
-            print_refusal(k, listing);
-        }
+        Verdict::Refused(k) => print_refusal(out, k, listing),
     }
 }
 
-// The plan of the listing that a file holds.
+// Writes the output for the listing that a reader gives. After an error, of the reader or of the writer, a front of it is written.
 //
-// The buffer has more places than the longest sound listing has bytes, so that of a longer file what it holds decides: `printed-buffer` of proofs/Front.antt.
-pub fn print_file(file: i32) {
-    let mut input = io::buffer();
-    let n = io::read_full(file, &mut input);
-    print_listing(&input[..n]);
+// The buffer has more places than the longest sound listing has bytes, so that of a longer input what it holds decides: `printed-buffer` of proofs/Front.antt.
+pub fn print_file<R: Read, W: Write>(file: &mut R, out: &mut W) -> io::Result<()>
+    ensures ok { OnOk result (IfSome (R.remaining file.old) (λ s. Appends (W.contents out.old) (W.contents out.new) (printed s))) }
+    ensures err { OnErr result (IfSome (R.remaining file.old) (λ s. AppendsFront (W.contents out.old) (W.contents out.new) (printed s))) }
+    ensures taken { Shrinks (R.remaining file.old) (R.remaining file.new) }
+{
+    let mut input = [0u8; INPUT];
+    let n = streams::fill(file, &mut input)?;
+    print_listing(out, &input[..n])
 }

@@ -1,8 +1,8 @@
 // The program `rules` of document 01: reads a listing from standard input and prints its plan, or its refusal.
 #![tactic(auto)]
 
-use libc::STDIN_FILENO;
+use std::io;
 
-fn main() {
-    printing::print_file(STDIN_FILENO);
+fn main(rt: HostRuntime) -> io::Result<()> {
+    printing::print_file(&mut rt.stdin(), &mut rt.stdout())
 }
