@@ -1,5 +1,5 @@
 -- So many components are measured.
-use Rattle.std.proofs.Common.{ℕ, ◌-◌, ◌≤◌}
+use Rattle.std.proofs.Common.{◌-◌, ◌≤◌}
 use Rattle.planning.specs.Plans.{Charted}
 use Rattle.planning.proofs.Measuring.{Measuring}
 use Rattle.planning.proofs.measured.Given as goal
