@@ -67,7 +67,7 @@ module _ (rule : ℕ → ℕ → Bool) (up : ℕ → Bool) (hd : ℕ → ℕ) (a
         ended = (λ t. omega (arith, r.0 t), λ e. r.1 (omega arith));
       }
 
--- ---- the two_way outcome
+-- ---- the two-way outcome
 
 by_ended : (b : Bool) → (IsReturned (choose b Returned Lost) ↔ (b ≡ true)) × (IsLost (choose b Returned Lost) ↔ (b ≡ false))
 by_ended true = ((λ z. refl, λ z. refl), (λ z. absurd (omega (arith, z)), λ z. absurd (false≢true (sym z))))

@@ -47,7 +47,7 @@ pub record PageHanded (p : Plant) (t : Table) : Type 0 where
 abbrev pub ByRule : Plant → ℕ → List ℕ → Sending → Type 0
 ByRule p x states (sent m o) = IsReturned o ↔ ((probe_end p x states m).ended ≡ true)
 
--- what one more call does after a list of calls cs, from injection switch x; `sentOver p x cs` has the sendings of the list, which its
+-- what one more call does after a list of calls cs, from injection switch x; `sent_over p x cs` has the sendings of the list, which its
 -- packets and probes and the premises of its verdict are said of
 pub record CallByCall (p : Plant) (x : ℕ) (cs : List Call) : Type 0 where
   -- "each call is handed the state that the last accepted fate returned, at first the new search" (read aloud)

@@ -17,7 +17,7 @@ pub record GotTo (rule : ℕ → ℕ → Bool) (up : ℕ → Bool) (hd : ℕ →
   -- the packet has ended exactly if they are all its labels
   pub ended : (e.ended ≡ true) ↔ (e.hops ≡ length w)
 
--- what the answer e of probe m tells, from injection switch x and by one byte for each link; `outLabels p x m` is its way out, for the full
+-- what the answer e of probe m tells, from injection switch x and by one byte for each link; `out_labels p x m` is its way out, for the full
 -- check the whole ring
 pub record ProbeGotTo (p : Plant) (x : ℕ) (states : List ℕ) (m : ℕ) (e : End) : Type 0 where
   -- one that has returned is back at its switch, and "the way back counts on": as many hops as out; the full check has no way back
@@ -29,7 +29,7 @@ pub record ProbeGotTo (p : Plant) (x : ℕ) (states : List ℕ) (m : ℕ) (e : E
   pub lost_at : e.ended ≡ false
       → (k : ℕ) × FirstDown (up_by states) (order_at p x) k × (nth (order_at p x) k ≡ get_or (out_labels p x m) e.hops 0 / 2)
 
--- "who used the old two_way fate reads it out of the new one", of every answer e of a run: returned exactly if it has ended, else lost
+-- "who used the old two-way fate reads it out of the new one", of every answer e of a run: returned exactly if it has ended, else lost
 pub record TwoWay (e : End) : Type 0 where
   pub returned : IsReturned (outcome_of e) ↔ (e.ended ≡ true)
   pub lost : IsLost (outcome_of e) ↔ (e.ended ≡ false)
@@ -50,6 +50,6 @@ pub record PacketsTell (s : List ℕ) (p : Plant) (x : ℕ) : Type 0 where
   pub run_probe : (w states : List ℕ) (q : Search) (e : End) → answer (probing s x w states q) ≡ given e
       → GotTo (probe_rules p (used p) (links_with p x) (wanted q)) (up_by_link states) (head p) x (probe_at p x (wanted q)) e
       × ProbeGotTo p x states (wanted q) e
-  -- the two_way outcome of the answer is the one that demand 3 speaks of
+  -- the two-way outcome of the answer is the one that demand 3 speaks of
   pub outcome : (w states : List ℕ) (q : Search) (e : End) → answer (probing s x w states q) ≡ given e
       → outcome_of e ≡ actual_outcome p x states (wanted q)

@@ -3,7 +3,7 @@ use Rattle.demands.specs.Vocabulary.{◌≡◌, List, ℕ, ◌≤◌, ◌*◌, a
 use Rattle.demands.specs.Vocabulary.{by_switch, rules_of, table_of, Totals, max_spare, with_spare, counting}
 use Rattle.demands.specs.Names.{ReadAs}
 
--- for every plant value, sound or not: `tableOf p` is its forwarding table, and `bySwitch` what is answered of it
+-- for every plant value, sound or not: `table_of p` is its forwarding table, and `by_switch` what is answered of it
 pub record SameTotals (p : Plant) : Type 0 where
   -- the total is over switches, each with the number of rules in the table which have it as sending switch, up to the last that sends
   -- (read aloud)

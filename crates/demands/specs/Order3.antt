@@ -4,7 +4,7 @@ use Rattle.demands.specs.Vocabulary.{range, sum, given, answer, Plant, live_link
 use Rattle.demands.specs.Vocabulary.{decimal, Sheet, line_columns, reading_page, buying_page, switch_line, total_line, Shown, buying}
 use Rattle.demands.specs.Vocabulary.{bought_out}
 
--- "right_aligned decimal" in so many columns, "all else spaces"; what `decimal` is says `AnsweredAlways`
+-- "right-aligned decimal" in so many columns, "all else spaces"; what `decimal` is says `AnsweredAlways`
 pub record RightAligned (columns n : ℕ) (field : List ℕ) : Type 0 where
   pub wide : length field ≡ columns
   pub before : ℕ
@@ -51,7 +51,7 @@ pub record PageWritten (s : List ℕ) (p : Plant) (spare : ℕ) (c : Sheet) : Ty
   pub read_back : answer (reading_page (buying_page c)) ≡ given c
 
 -- for any bytes b: what the reader accepts, which are the pages of the counts that a page can hold and nothing else, by demand 1 and
--- `eighteen-read` of `Conditions`
+-- `eighteen_read` of `Conditions`
 pub record PageForm (b : List ℕ) : Type 0 where
   -- the counts that are read are such: of at most three digits each, with rules that add up
   pub counts_shown : (c : Sheet) → answer (reading_page b) ≡ given c → Shown c

@@ -38,7 +38,7 @@ pub record TrueSendings (actual : ℕ → Outcome) (l : List Sending) : Type 0 w
   -- "of three sendings in a row of one probe over sound links, one returns": no three in a row of a probe that comes home were lost
   pub one_returns : OneReturns (λ m. IsReturned (actual m)) l ↔ ((m : ℕ) → IsReturned (actual m) → LostInRow m l → ⊥)
 
--- so the premises of demand 3, of a list of calls after a new search from injection switch x, by the states of the links: `sentOver p x cs`
+-- so the premises of demand 3, of a list of calls after a new search from injection switch x, by the states of the links: `sent_over p x cs`
 -- has its accepted outcomes, each with its probe, and the packet rule brings probe m home if its run has ended
 pub record Premises (p : Plant) (x : ℕ) (states : List ℕ) (cs : List Call) : Type 0 where
   pub all_true : AllTrue p x states cs ↔ ((m : ℕ) → ReturnedIn m (sent_over p x cs) → (probe_end p x states m).ended ≡ true)

@@ -15,7 +15,7 @@ pub record Sets : Type 0 where
   pub no_search : (k : ℕ) → k ≤ 3 → (console_of fresh_desk k).search ≡ Nothing
 
 -- for a console k of the four, and a listing s that is read as a plant p: what a call does goes by S of p, and by E of the component of the
--- switch that it goes by, that of a start or of its search. `asks`, `keeps-search` and `replaces` are the definition of a call read aloud
+-- switch that it goes by, that of a start or of its search. `asks`, `keeps_search` and `replaces` are the definition of a call read aloud
 pub record ConsoleCalls (k : ℕ) (s : List ℕ) (p : Plant) : Type 0 where
   pub asks : (r : Request) (c : Console) → answer (calling k s r c) ≡ answer (asking p.switches (links_with p (switch_of r c)) r c)
   -- "a console replaces its set": its search stays as it is, whatever it is
@@ -52,7 +52,7 @@ abbrev pub Agreeing : Type 0
 Agreeing = (k : ℕ) → k ≤ 3 → (d e : Desk) (cs ds : List DeskCall) → console_of d k ≡ console_of e k → calls_of k cs ≡ calls_of k ds
     → Agreement k d e cs ds
 
--- `fedIn k d cs`, the calls of the list cs on a desk d that start and feed the search of console k: `since s x os`, the last start that was
+-- `fed_in k d cs`, the calls of the list cs on a desk d that start and feed the search of console k: `since s x os`, the last start that was
 -- not refused, at switch x with the listing s, and the outcomes os after it that were not refused, or `unknown` without such a start. What
 -- it is before every call, and after one more call c
 pub record FedCalls (k : ℕ) (d : Desk) (cs : List DeskCall) (c : DeskCall) : Type 0 where

@@ -1,9 +1,9 @@
 -- All that is promised, each as a statement that has its premises here: the three demands, and the promises of document 02's orders.
 -- `promises` of proofs/Promises has this type and no other, which the gate holds: so nothing of it can be left out or weakened in a proof.
--- Document 01's links are those in service (document 02, order 7): `live p l` says whether link l is, `liveLinks p` counts them, and `p
--- .count` all links of the listing. What document 01 says of a connected plant is said of each component (order 9): `roots p` has the
--- switch at which each begins, `trailOf p` their trails one after another; of a named switch x, `trailWith p x` is the trail of its
--- component, `linkWith p x l` says whether link l is one of it, and `linksWith p x` is E.
+-- Document 01's links are those in service (document 02, order 7): `live p l` says whether link l is, `live_links p` counts them, and
+-- `p.count` all links of the listing. What document 01 says of a connected plant is said of each component (order 9): `roots p` has the
+-- switch at which each begins, `trail_of p` their trails one after another; of a named switch x, `trail_with p x` is the trail of its
+-- component, `link_with p x l` says whether link l is one of it, and `links_with p x` is E.
 use Rattle.demands.specs.Vocabulary.{◌≡◌, true, false, Bool, List, ℕ, ◌≤◌, ◌<◌, T, given, answer, Plant, is_out_of_service, reading}
 use Rattle.demands.specs.Vocabulary.{links_with, link_with, End, run, Together, Connected, Outcome, Call, Sending, Sheet, Shown}
 use Rattle.demands.specs.Vocabulary.{NoneBroken, Desk, DeskCall}

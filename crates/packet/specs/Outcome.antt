@@ -1,4 +1,4 @@
--- The two_way outcome (document 01: a fate, home or lost), read out of how a run comes out. No other place says what returned and lost are.
+-- The two-way outcome (document 01: a fate, home or lost), read out of how a run comes out. No other place says what returned and lost are.
 -- Assumes nothing.
 use Rattle.lists.specs.Tests.{choose}
 use Rattle.rings.specs.Packet.{End}

@@ -1,5 +1,5 @@
 -- Theorem D for every component of a sound plant, within the limits: the trail of each is a closed walk from its root that crosses exactly its arcs in use; together they
--- cross exactly the arcs in use of the plant and have at most `maxHops` hops; and where each stands among them. Assumes a sound plant, and of a root that it is a switch of it.
+-- cross exactly the arcs in use of the plant and have at most `max_hops` hops; and where each stands among them. Assumes a sound plant, and of a root that it is a switch of it.
 use mathlib.Core.Path.{◌≡◌, refl, ap, ◌∙◌, subst}
 use mathlib.Core.Logic.{inl, inr, ⊎_elim, ◌↔◌}
 use mathlib.Core.List.{List, [], ◌∷◌, map, flatten}

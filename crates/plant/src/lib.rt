@@ -1,11 +1,11 @@
-// The plant: switches joined by two_way links, as a value. The limits are constants of its type, and are written here and nowhere else; so are the array
+// The plant: switches joined by two-way links, as a value. The limits are constants of its type, and are written here and nowhere else; so are the array
 // lengths that follow from them, a place for each switch and one for each label. With it: a plant without links, the two ends of an arc by its label, and whether a link is in service.
 #![tactic(auto)]
 
 ghost use Rattle.std.specs.Prelude.{◌≡◌, not, ◌+◌, ◌-◌, ◌*◌, ◌%◌};
 ghost use Rattle.plant.specs.Links.{zero_link, plant_with, side};
 
-// A two_way link between two switches, with its cable tag. Label 2 * l crosses link l from its first end to its second, and 2 * l + 1 crosses it back. A link can be
+// A two-way link between two switches, with its cable tag. Label 2 * l crosses link l from its first end to its second, and 2 * l + 1 crosses it back. A link can be
 // out of service (document 02, order 7: laid up): it keeps its number and its labels, and joins nothing.
 #[derive(Clone, Copy)]
 pub struct Link {

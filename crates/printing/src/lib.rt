@@ -23,7 +23,7 @@ use std::io;
 use std::io::{Read, Write};
 use table::{Rule, Table};
 
-// The most bytes of a page: `pageRoom maxHops` of specs/Output.antt.
+// The most bytes of a page: `page_room max_hops` of specs/Output.antt.
 const PAGE: usize = text::SUMMARY
     + Plant::MAX_RULES * text::RULE
     + Plant::PLACES * text::TRAIL

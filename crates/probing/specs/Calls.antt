@@ -1,6 +1,6 @@
 -- What each call on packets, probes and searches comes to that is given a listing: in the plant of the listing, after 1 to 8 and 11. Ring,
--- order, probes and E belong to the component of the named switch x (document 02, order 9): its trail is `trailWith p x`, and E, the number
--- of links that a search is over, `linksWith p x`. State bytes are counted against the listing's link count, `p.count`.
+-- order, probes and E belong to the component of the named switch x (document 02, order 9): its trail is `trail_with p x`, and E, the number
+-- of links that a search is over, `links_with p x`. State bytes are counted against the listing's link count, `p.count`.
 use Rattle.std.specs.Prelude.{List, [], ◌∷◌, ℕ, eqb, length}
 use Rattle.lists.specs.Tests.{choose}
 use Rattle.plant.specs.declared.Plant.{Plant}

@@ -37,7 +37,7 @@ pub record MostProbes (e n : ℕ) : Type 0 where
 -- ---- the sendings, and what is assumed of them
 
 -- the accepted outcomes of a list of calls after a new search from injection switch x, each with the m of its probe; E, the links in
--- service of the component of x, is `linksWith p x`
+-- service of the component of x, is `links_with p x`
 abbrev pub sent_over : Plant → ℕ → List Call → List Sending
 sent_over p x cs = sendings (begun (links_with p x)) cs
 

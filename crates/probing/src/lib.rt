@@ -90,7 +90,7 @@ pub enum Performed {
 
 // ---- the outcome of a run
 
-// The two_way outcome of a run, as it is given to a search. No refusal.
+// The two-way outcome of a run, as it is given to a search. No refusal.
 pub fn outcome_of(end: End) -> Outcome
     ensures { result ≡ outcome_of (end_of end) }
 {

@@ -1,6 +1,6 @@
 -- The components of a plant (document 02, order 9): to be joined goes both ways and on; every component has one root, the roots are listed once each, and they are as order 9
 -- says; theorem B over the whole plant, and that the components together have its switches, its links, its bridges and its arcs in use. At the end, the same for a plant
--- whose switches are all reached from the start. Assumes a valid plant whose start is a switch of it; `used-arc` and `used-reached` assume nothing.
+-- whose switches are all reached from the start. Assumes a valid plant whose start is a switch of it; `used_arc` and `used-reached` assume nothing.
 use mathlib.Core.Path.{◌≡◌, refl, sym, ap, ◌∙◌, subst}
 use mathlib.Core.Logic.{◌⊎◌, inl, inr, ⊎_elim, ◌↔◌}
 use mathlib.Core.Bool.{Bool, true, not, ◌&&◌}

@@ -25,7 +25,7 @@ module _ (p : Plant) (r : ℕ) where
   abbrev pub place : ℕ → ℕ
   place x = rank x (visited_from p r).ord
 
-  -- arc a leads to a later visited switch, or to an earlier one; and what `takenFrom` asks of it where no link is taken both ways
+  -- arc a leads to a later visited switch, or to an earlier one; and what `taken_from` asks of it where no link is taken both ways
   abbrev onward : ℕ → Bool
   onward a = earlier_from p r (tail p a) (head p a)
 

@@ -1,4 +1,4 @@
--- Theorem B within the limits: a sound plant has at most `maxRules` arcs in use, over all its components and from any root. Assumes of a root that it is a switch of it.
+-- Theorem B within the limits: a sound plant has at most `max_rules` arcs in use, over all its components and from any root. Assumes of a root that it is a switch of it.
 use mathlib.Core.Bool.{◌&&◌}
 use Prim.Native.Nat.{ℕ, ◌+◌, ◌≤◌, ◌<◌}
 use native.Mathlib.Omega.{arith}
