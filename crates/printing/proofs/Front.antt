@@ -11,6 +11,6 @@ use Rattle.printing.specs.Output.{output_of, printed}
 pub printed-front : (n : ℕ) (s : List ℕ) → longest_listing < n → printed (take n s) ≡ printed s
 printed-front n s h = ap output_of (decode_front n s h)
 
--- so does as much of it as fills the buffer of `io`
+-- so does as much of it as fills the buffer of `print_file`
 pub printed-buffer : (s : List ℕ) → printed (take 4096 s) ≡ printed s
 printed-buffer s = printed-front 4096 s (omega arith)
