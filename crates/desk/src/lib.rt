@@ -98,6 +98,7 @@ fn judge_start(set: u64, switches: u8, x: u8) -> Verdict
 // ---- what a call does to a console
 
 // Its set is replaced, and its search stays: refusal 20 of the new set.
+#[tactic(auto, unfolding(crate::specs::Console::replacing))]
 pub fn replaced(c: Console, switches: u8, set: u64) -> Shown
     ensures { shown_answer result ≡ answer (replacing switches set c) }
 {
@@ -117,6 +118,7 @@ fn searching(c: Console, x: u8, q: Search) -> Console
 }
 
 // A new search from a switch, over so many links in service of the switch's component, replaces its own: refusals 20, 11 and 21.
+#[tactic(auto, unfolding(crate::specs::Console::starting))]
 pub fn started(c: Console, switches: u8, links: u16, x: u8) -> Shown
     ensures { shown_answer result ≡ answer (starting switches links x c) }
 {
@@ -130,6 +132,7 @@ pub fn started(c: Console, switches: u8, links: u16, x: u8) -> Shown
 }
 
 // Refusal 14 of a search over so many links in service of its switch's component, then the call that gives an outcome to it, with refusal 15.
+#[tactic(auto, unfolding(crate::specs::Inner::giving_to, search::specs::Search::give, judging::specs::Conditions::search_unsound))]
 fn give_to(q: Search, links: u16, o: Outcome) -> Told
     ensures { told_of result ≡ answer (giving_to links q o) }
 {
@@ -140,6 +143,7 @@ fn give_to(q: Search, links: u16, o: Outcome) -> Told
 }
 
 // An outcome is given to a search q of its own from switch x: refusals 11, 21, 14 and 15.
+#[tactic(auto, unfolding(crate::specs::Inner::feeding, crate::specs::Inner::giving_to))]
 fn fed(c: Console, switches: u8, links: u16, x: u8, q: Search, o: Outcome) -> Shown
     ensures { shown_answer result ≡ answer (feeding switches links o c.set x q) }
 {
@@ -164,6 +168,7 @@ pub fn switch_of(c: Console) -> u8
 }
 
 // An outcome is given to its search: refusal 20, then 15 if it has none, else 11, 21, 14 and 15.
+#[tactic(auto, unfolding(crate::specs::Console::telling, crate::specs::Inner::feeding))]
 pub fn told(c: Console, switches: u8, links: u16, o: Outcome) -> Shown
     ensures { shown_answer result ≡ answer (telling switches links o c) }
 {
@@ -180,6 +185,7 @@ pub fn told(c: Console, switches: u8, links: u16, o: Outcome) -> Shown
 // ---- the desk
 
 // A desk whose consoles have empty sets and no search.
+#[tactic(auto, unfolding(crate::specs::Desk::fresh_desk))]
 pub fn fresh() -> Desk
     ensures { result ≡ fresh_desk }
 {
@@ -196,6 +202,7 @@ pub fn fresh() -> Desk
 }
 
 // Console k.
+#[tactic(auto, unfolding(crate::specs::Desk::console_of))]
 pub fn console_of(d: Desk, k: u8) -> Console
     ensures { result ≡ console_of d k }
 {
@@ -208,6 +215,7 @@ pub fn console_of(d: Desk, k: u8) -> Console
 }
 
 // The desk with another console k, and the other three as they are.
+#[tactic(auto, unfolding(crate::specs::Desk::with_console))]
 fn with_console(d: Desk, k: u8, c: Console) -> Desk
     ensures { result ≡ with_console d k c }
 {
@@ -224,6 +232,7 @@ fn with_console(d: Desk, k: u8, c: Console) -> Desk
 }
 
 // The desk after a call of console k that came to this, and the answer: the console as it then stands. A refusal leaves the desk as it is.
+#[tactic(auto, using(crate::proofs::Consoles::put_there))]
 pub fn kept(d: Desk, k: u8, shown: Shown) -> Served
     ensures { Serves d k (shown_answer shown) result }
 {
