@@ -1,5 +1,5 @@
 -- What each answer of the calls stands for: values, or the number of a refusal.
-use Rattle.std.specs.Prelude.{[], List, ◌++◌, ◌≡◌, ℕ, ◌+◌}
+use Rattle.std.specs.Prelude.{[], List, ◌++◌, ◌≡◌, ℕ}
 use Rattle.answers.specs.Answers.{Answer, given, refused, number_of}
 use Rattle.answers.specs.Verdicts.{Beside}
 use Rattle.rings.specs.Packet.{End}
