@@ -64,6 +64,13 @@ module _ (p : Plant) (k : ℕ) where
     pub less : get_or v.rank z 0 < get_or v.rank x 0
     pub step : Climbing (set flags (get_or up x 0) true) z y
 
+-- what is known of the arrays that a climb reads, and of whose plant they are
+pub record Given (p : Plant) (tails heads : List ℕ) (v : Visited) (up : List ℕ) : Type 0 where
+  pub sound : Sound p
+  pub arrays : Ends p tails heads
+  pub visits : TellsAll p v
+  pub entries : EntryLinks p max_links up
+
 module _ {p : Plant} (sound : Sound p) where
   ok : Valid p
   ok = sound_valid p sound

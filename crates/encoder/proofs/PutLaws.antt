@@ -1,10 +1,10 @@
 -- Bytes laid into a buffer one after the other: what is left to lay gives what the whole gives. Assumes nothing.
 use mathlib.Core.Path.{◌≡◌, refl, sym, ap, ap₂, ◌∙◌}
 use mathlib.Core.List.{List, [], ◌++◌}
-use Prim.Native.Nat.{ℕ, suc, ◌+◌, ◌≤◌, ◌<◌}
+use Prim.Native.Nat.{ℕ, suc, ◌+◌, ◌-◌, ◌/◌, ◌%◌, ◌≤◌, ◌<◌}
 use native.Mathlib.Omega.{arith}
-use borrow.Author.Tests.{ne_eqb}
-use lib.ListN.{length, get_or, drop, set, length-append}
+use borrow.Author.Tests.{eq-eqb, ne_eqb}
+use lib.ListN.{length, get_or, drop, set, length-append, length-set}
 use lib.Seq.{sets}
 use Rattle.lists.proofs.Arrays.{sets-append, laid}
 use Rattle.codec.specs.Field.{bytes_of}
@@ -14,9 +14,22 @@ use Rattle.codec.specs.Part.{field_bytes, map_of, body_of, part_bytes}
 use Rattle.codec.specs.Layout.{fields_of, Proper}
 use Rattle.codec.proofs.Taken.{drop-next}
 use Rattle.codec.proofs.FieldLaws.{length-bytes_of}
-use Rattle.codec.proofs.LayoutLaws.{field_at, fields-next}
+use Rattle.codec.proofs.LayoutLaws.{field_at, fields-next, fields_end}
+
+-- ---- the last `left` bytes of a number
+
+module _ (b : List ℕ) (at width left v : ℕ) where
+  pub bytes_next : 0 < left → left ≤ width
+      → sets (set b (at + (width - left)) (v % 256)) (at + (width - (left - 1))) (bytes_of (left - 1) (v / 256)) ≡ sets b (at + (width - left)) (bytes_of left v)
+  bytes_next h few =
+      let k : left ≡ suc (left - 1) = omega arith in
+      let j : suc (at + (width - left)) ≡ at + (width - (left - 1)) = omega arith in
+      sym (ap (λ (w : ℕ). sets b (at + (width - left)) (bytes_of w v)) k ∙ ap (λ (n : ℕ). sets (set b (at + (width - left)) (v % 256)) n (bytes_of (left - 1) (v / 256))) j)
 
 -- ---- the bytes of a field
+
+pub field-none : (f : Field) (v : ℕ) → v ≡ f.absent → field_bytes f v ≡ []
+field-none f v e = rw (eq-eqb v f.absent e) refl
 
 pub field-some : (f : Field) (v : ℕ) → (v ≡ f.absent → ⊥) → field_bytes f v ≡ bytes_of f.width v
 field-some f v n = rw (ne_eqb v f.absent n) refl
@@ -64,6 +77,9 @@ module _ {most : ℕ} {l : Layout} (q : Proper most l) (vs : List ℕ) (i : ℕ)
   pub body_next : length vs ≡ most → i < l.count → body_from l vs i ≡ bytes_at l vs i ++ body_from l vs (i + 1)
   body_next long h = ap₂ body_of (fields-next q i h) (drop-next vs i 0 (omega (arith, q.few)))
 
+  pub body_end : l.count ≤ i → body_from l vs i ≡ []
+  body_end h = rw (fields_end q i h) refl
+
 -- ---- the map, then the fields
 
 module _ (b : List ℕ) (at : ℕ) (fs : List Field) (vs : List ℕ) where
@@ -74,6 +90,9 @@ module _ (b : List ℕ) (at : ℕ) (fs : List Field) (vs : List ℕ) where
   pub part_end : at + 1 + length (body_of fs vs) ≡ at + length (part_bytes fs vs)
   unfolding part_bytes
   part_end = omega arith
+
+  pub part_same : (m : ℕ) (b' : List ℕ) → b' ≡ sets (set b at m) (at + 1) (body_of fs vs) → length b' ≡ length b
+  part_same m b' e = laid (set b at m) b' (at + 1) (body_of fs vs) e ∙ length-set b at m
 
   pub part-laid : (m : ℕ) → m ≡ map_of fs vs → sets (set b at m) (at + 1) (body_of fs vs) ≡ sets b at (part_bytes fs vs)
   unfolding part_bytes

@@ -39,6 +39,18 @@ module _ {most : ℕ} {l : Layout} {vs : List ℕ} where
   unfolding link_bytes
   link_by before k y e = rw (y.fields, e) refl
 
+-- ---- the places from i on are zero
+
+module _ (p : Plant) (long : length p.links ≡ max_links) (i : ℕ) where
+  pub zeros_on : i < max_links → is_zero (get_or p.links i zero_link) ≡ true → all is_zero (drop (i + 1) p.links) ≡ all is_zero (drop i p.links)
+  zeros_on h e = sym (rw (drop-next p.links i zero_link (omega arith), e) refl)
+
+  pub zeros-not : i < max_links → is_zero (get_or p.links i zero_link) ≡ false → false ≡ all is_zero (drop i p.links)
+  zeros-not h e = rw (drop-next p.links i zero_link (omega arith), e) refl
+
+  pub zeros_end : max_links ≤ i → true ≡ all is_zero (drop i p.links)
+  zeros_end h = rw (drop_of_length-le p.links {i = i} (omega arith)) refl
+
 -- ---- the links of a plant, from link i on
 
 -- a plant value holds as many links as it counts, and no more than it has places for
@@ -61,6 +73,9 @@ module _ (p : Plant) (i : ℕ) where
 
     pub judge_refused : (k : Refusal) → v ≡ verdict.Refused k → refused (number_of k) ≡ answer (sound_links p.switches (drop i (links_of p)))
     judge_refused k f = rw (links-next h) (sym (stops (sound_link p.switches (get_or p.links i zero_link)) (λ _. sound_links p.switches (drop (i + 1) (links_of p))) (number_of k) (sym e ∙ ap verdict_answer f)))
+
+  pub judge_all : length (links_of p) ≤ i → given tt ≡ answer (sound_links p.switches (drop i (links_of p)))
+  judge_all h = rw (links-done h) refl
 
   -- the bytes of the links
   pub left-next : (before : Link) → i < length (links_of p) → links_bytes before (drop i (links_of p)) ≡ link_bytes before (get_or p.links i zero_link) ++ links_bytes (get_or p.links i zero_link) (drop (i + 1) (links_of p))

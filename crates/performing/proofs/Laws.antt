@@ -1,9 +1,13 @@
 -- Laws of the definitions in the form in which the code's proofs cite them. Assumes nothing.
 use mathlib.Core.Path.{◌≡◌, refl, sym}
 use mathlib.Core.Bool.{Bool, true, false}
-use Prim.Native.Nat.{ℕ, ◌+◌, ◌≤◌}
+use mathlib.Core.List.{List}
+use Prim.Native.Nat.{ℕ, ◌+◌, ◌≤◌, ◌<◌}
+use native.Mathlib.Numerals.{add-one}
 use native.Mathlib.Omega.{arith}
 use mir.Val.{bool_byte}
+use lib.ListN.{length, get_or, drop, drop_of_length-le}
+use lib.Seq.{drop-cons}
 use borrow.Author.Tests.{eq-eqb, ne_eqb}
 use Rattle.lists.specs.Count.{bit}
 use Rattle.answers.specs.Answers.{given, refused}
@@ -12,8 +16,8 @@ use Rattle.search.specs.declared.Search.{Search}
 use Rattle.search.specs.declared.Outcome.{Outcome}
 use Rattle.search.specs.declared.Progress.{Progress}
 use Rattle.search.specs.Search.{settles, give}
-use Rattle.search.specs.Calls.{step}
-use Rattle.search.specs.Answers.{outcome_in, call_in}
+use Rattle.search.specs.Calls.{step, perform}
+use Rattle.search.specs.Answers.{outcome_in, call_in, calls_in}
 
 -- ---- one call
 
@@ -35,3 +39,12 @@ pub step-refused : (p : Progress) (b : ℕ) (o : Outcome) (k : ℕ) → (b ≡ 0
     → p ≡ step p (call_in b)
 unfolding call_in
 step-refused p b o k n e g = rw (ne_eqb b 0 n, sym e, g)
+
+-- ---- a list of calls: one is done and the rest are left; none is left
+
+pub perform_on : (p q : Progress) (bs : List ℕ) (i : ℕ) → i < length bs → q ≡ step p (call_in (get_or bs i 0))
+    → perform p (calls_in (drop i bs)) ≡ perform q (calls_in (drop (i + 1) bs))
+perform_on p q bs i h e = rw (add-one, drop-cons bs i 0 h, e)
+
+pub perform-all : (p : Progress) (bs : List ℕ) (i : ℕ) → length bs ≤ i → p ≡ perform p (calls_in (drop i bs))
+perform-all p bs i h = rw (drop_of_length-le bs h)
