@@ -86,6 +86,7 @@ pub fn fresh_desk() -> Desk
 }
 
 // A console replaces its set: refusals 19, 1 to 8, and 20 of the new set.
+#[tactic(auto, unfolding(crate::specs::Calls::served))]
 pub fn replace_set(desk: &mut Desk, listing: &[u8], console: u8, set: u64) -> Shown
     ensures result_value { shown_answer result ≡ answer (serving desk.old console listing.now (new_set set)) }
     ensures desk_after { desk.new ≡ served desk.old console listing.now (new_set set) }
@@ -96,6 +97,7 @@ pub fn replace_set(desk: &mut Desk, listing: &[u8], console: u8, set: u64) -> Sh
 }
 
 // A console starts a search at a switch, which replaces its own: refusals 19, 1 to 8, 20 of its set, 11 and 21.
+#[tactic(auto, unfolding(crate::specs::Calls::served))]
 pub fn start_search(desk: &mut Desk, listing: &[u8], console: u8, switch: u8) -> Shown
     ensures result_value { shown_answer result ≡ answer (serving desk.old console listing.now (start switch)) }
     ensures desk_after { desk.new ≡ served desk.old console listing.now (start switch) }
@@ -107,6 +109,7 @@ pub fn start_search(desk: &mut Desk, listing: &[u8], console: u8, switch: u8) ->
 
 // The outcome of a sending is given to a console's search: refusals 19, 1 to 8 and 20 of its set, then 15 if it has no search, else 11 and 21 of the search's switch, 14
 // and 15.
+#[tactic(auto, unfolding(crate::specs::Calls::served))]
 pub fn give_outcome(desk: &mut Desk, listing: &[u8], console: u8, o: Outcome) -> Shown
     ensures result_value { shown_answer result ≡ answer (serving desk.old console listing.now (outcome o)) }
     ensures desk_after { desk.new ≡ served desk.old console listing.now (outcome o) }
