@@ -1,7 +1,7 @@
 -- What `rules` prints of a connected plant: the numbers, the rules and the one trail line that document 01 has, from the start. Assumes a sound connected plant.
 use mathlib.Core.Path.{◌≡◌, refl}
-use mathlib.Core.List.{List, ◌++◌, append-nil, map}
-use Prim.Native.Nat.{ℕ, ◌*◌}
+use mathlib.Core.List.{◌++◌, append-nil, map}
+use Prim.Native.Nat.{◌*◌}
 use lib.ListN.{length}
 use Rattle.plant.specs.declared.Plant.{Plant}
 use Rattle.limits.specs.Sound.{Sound}
