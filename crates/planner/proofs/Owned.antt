@@ -1,17 +1,18 @@
 -- What owning an array tells of each element. Assumes nothing.
-use mathlib.Core.Path.{◌≡◌, sym, ◌∙◌, subst}
+use mathlib.Core.Path.{◌≡◌}
 use mathlib.Core.List.{List, [], ◌∷◌}
 use Prim.Native.Nat.{ℕ, zero, suc, ◌^◌, ◌<◌}
 use native.Mathlib.Nat.{not-suc-le-zero, le_of_suc-le-suc}
 use native.Mathlib.Omega.{arith}
-use lib.ListN.{length, get_or, length-map, get_or-map}
+use lib.ListN.{length, get_or}
 use mir.Val.{Val}
 use base.Fml.{Fml}
 use denote.Shadow.{shadow}
 use denote.Array.{each}
-use denote.Struct.Field.{array_field}
+use denote.Builtin.{Array}
+use denote.Struct.Field.{row_field}
 use Rattle.plant.specs.contracts.Link
-use Rattle.plant.specs.contracts.Plant
+use Rattle.plant.specs.declared.Link.{Link}
 use Rattle.plant.specs.declared.Plant.{Plant}
 use Rattle.plant.specs.Links.{zero_link}
 use Rattle.limits.specs.Limits.{max_links}
@@ -25,17 +26,14 @@ each_good f P one (x ∷ xs) (u ∷ us) s zero z h = one x (u ∷ []) s.0
 each_good f P one (x ∷ xs) (u ∷ us) s (suc i) z h = each_good f P one xs us s.1 i z (le_of_suc-le-suc h)
 
 -- the tag of a link that is owned is a number of 16 bits
-tag_owned : (x : (Link.the_field).row.Denot) (vs : List Val) → shadow ((Link.the_field).row.own_val x vs) → x.1.1.0 < 2 ^ 16
+tag_owned : (x : Link) (vs : List Val) → shadow ((Link.the_row).own_val x vs) → x.tag < 2 ^ 16
 tag_owned x vs s = s.1.1.1.1.0.1
 
 -- a plant that is owned has a place for each link, and tags of 16 bits
-pub typed_owned : (p : Plant) (vs : List Val) → shadow ((array_field Link.the_field max_links).row.own_val ((Plant.the_type).to p).1.1.1.0 vs) → Typed p
-typed_owned p vs s = record {
-  places = long;
-  tags = λ l h.
-      subst (λ x. x.1.1.0 < 2 ^ 16) (get_or-map (Link.the_type).to p.links l zero_link)
-      (each_good (Link.the_field).row.own_val (λ x. x.1.1.0 < 2 ^ 16) tag_owned ((Plant.the_type).to p).1.1.1.0 s.0 s.1.1 l ((Link.the_type).to zero_link) (omega (arith, s.1.0.1)));
-}
-  where
-    long : length p.links ≡ max_links
-    long = sym (length-map p.links (Link.the_type).to) ∙ s.1.0.1
+pub typed_owned : (p : Plant) (vs : List Val) → shadow ((row_field (Array Link.the_row tt 256)).row.own_val p.links vs) → Typed p
+typed_owned p vs s =
+    let places : length p.links ≡ max_links = s.1.0.1 in
+    record {
+      places = places;
+      tags = λ l h. each_good (Link.the_row).own_val (λ x. x.tag < 2 ^ 16) tag_owned p.links s.0 s.1.1 l zero_link (omega arith);
+    }

@@ -1,7 +1,7 @@
 -- Cases beside the starred ones, which are in `Starred`: each row has what the definitions answer, and what documents 01 and 02 say. One
 -- computed test over all rows. Bytes are in decimal but for the most switches, which are document 01's hexadecimal 40, and the byte above it.
 -- Assumes nothing.
-use Rattle.std.specs.Prelude.{◌≡◌, refl, false, ℕ, ◌+◌, take, replicate}
+use Rattle.std.specs.Prelude.{◌≡◌, refl, false, ℕ, take, replicate}
 use mathlib.Core.List.{List, [], ◌∷◌, ◌++◌, map, flatten}
 use Rattle.plant.specs.declared.Link.{Link}
 use Rattle.plant.specs.Links.{plant_with, live}
