@@ -16,6 +16,8 @@ use Rattle.answers.proofs.Beside.{accepted, beside_judges}
 use Rattle.listing.specs.Answers.{empty_plant}
 use Rattle.listing.specs.Listing.{reading}
 use Rattle.walks.specs.Components.{links_with}
+use Rattle.planning.specs.declared.Parts.{Parts}
+use Rattle.planning.specs.Plans.{OfPlant, Plan}
 use Rattle.consoles.specs.Calls.{console_out_of_range, sizing}
 
 -- a verdict is accepted where the first of another and of it is
@@ -44,3 +46,7 @@ module _ (k : ℕ) (s : List ℕ) (x : ℕ) (v : Verdict) (p : Plant) (q : Besid
   pub sized_off : (m : Refusal) → r ≡ verdict.Refused m → refused (number_of m) ≡ answer (sizing k s x)
   unfolding sizing
   sized_off m f = sym (turned_down tried r judged (given ((reading s).result.switches, links_with (reading s).result x)) m f)
+
+-- the parts of a plan that is not refused are those of its plant
+pub sized_plan : (u v : Verdict) (y : Parts) (t : List (List ℕ)) → (v ≡ verdict.Accepted → Plan y t) → (r : Verdict) → r ≡ first_of u v → r ≡ verdict.Accepted → OfPlant y
+sized_plan u v y t ready r e f = let plan = ready (second-accepts u v (sym e ∙ f)) in record { charted = plan.laying.charted; measured = plan.measured }
