@@ -47,7 +47,6 @@ use Rattle.choosing.specs.Choice.{shorter_of, hops_in}
 use Rattle.judging.specs.Conditions.{states_short}
 use Rattle.judging.proofs.Lent.{hops-own}
 use Rattle.packet.specs.Outcome.{outcome_of}
-use Rattle.search.specs.Search.{ended}
 use Rattle.search.specs.Values.{IsReturned}
 use Rattle.search.specs.Calls.{TrueSending, OneReturns}
 use Rattle.planning.specs.Planning.{planning_at}
