@@ -15,7 +15,6 @@ use std::io::Write;
 
 // ---- the calls, each lent a desk that is handed over by value and back
 
-#[tactic(auto, unfolding(consoles::specs::Calls::served))]
 fn replace_set(d: Desk, listing: &[u8], console: u8, set: u64) -> Served
     ensures { Serves d console (answer (serving d console listing.now (new_set set))) result }
 {
@@ -24,7 +23,6 @@ fn replace_set(d: Desk, listing: &[u8], console: u8, set: u64) -> Served
     Served { desk, shown }
 }
 
-#[tactic(auto, unfolding(consoles::specs::Calls::served))]
 fn start_search(d: Desk, listing: &[u8], console: u8, switch: u8) -> Served
     ensures { Serves d console (answer (serving d console listing.now (start switch))) result }
 {
@@ -33,7 +31,6 @@ fn start_search(d: Desk, listing: &[u8], console: u8, switch: u8) -> Served
     Served { desk, shown }
 }
 
-#[tactic(auto, unfolding(consoles::specs::Calls::served))]
 fn give_outcome(d: Desk, listing: &[u8], console: u8, o: Outcome) -> Served
     ensures { Serves d console (answer (serving d console listing.now (outcome o))) result }
 {
@@ -174,7 +171,6 @@ fn show_served<W: Write>(out: &mut W, r: Served) -> io::Result<()>
 }
 
 // Writes the answer of one of these calls with its arguments at a place; the place after them. What was written before stays, also after an error.
-#[tactic(auto, using(streams::proofs::Growing::grows_none))]
 pub fn answer<W: Write>(out: &mut W, call: u8, s: &[u8], at: usize) -> io::Result<usize>
     ensures { Grows (W.contents out.old) (W.contents out.new) }
 {
