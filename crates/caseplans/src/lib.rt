@@ -159,13 +159,20 @@ fn rules<W: Write>(out: &mut W, listing: &[u8]) -> io::Result<()>
     }
 }
 
+// A list of numbers after a space, by its checksum.
+fn show_counts<W: Write>(out: &mut W, counts: &[u16]) -> io::Result<()>
+    ensures { Grows (W.contents out.old) (W.contents out.new) }
+{
+    show::word(out, b" ")?;
+    show::list(out, counts.len() as u64, checksum::with_labels(0, counts))
+}
+
 fn show_by_switch<W: Write>(out: &mut W, b: BySwitch) -> io::Result<()>
     ensures { Grows (W.contents out.old) (W.contents out.new) }
 {
     show::number(out, b.total as u64)?;
-    show::word(out, b" ")?;
     let counts = b.counts;
-    show::list(out, counts.len() as u64, checksum::with_labels(0, &counts))
+    show_counts(out, &counts)
 }
 
 fn by_switch<W: Write>(out: &mut W, listing: &[u8]) -> io::Result<()>
@@ -273,11 +280,9 @@ fn show_sheet<W: Write>(out: &mut W, t: Sheet) -> io::Result<()>
     show::next(out, t.total as u64)?;
     show::next(out, t.quantity as u64)?;
     let rules = t.rules;
-    show::word(out, b" ")?;
-    show::list(out, rules.len() as u64, checksum::with_labels(0, &rules))?;
+    show_counts(out, &rules)?;
     let links = t.links;
-    show::word(out, b" ")?;
-    show::list(out, links.len() as u64, checksum::with_labels(0, &links))
+    show_counts(out, &links)
 }
 
 fn page_read<W: Write>(out: &mut W, page: &[u8]) -> io::Result<()>
