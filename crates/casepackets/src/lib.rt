@@ -135,6 +135,15 @@ fn round_run<W: Write>(
     Ok(input::past_string(s, at))
 }
 
+fn show_kind<W: Write>(out: &mut W, choice: Choice) -> io::Result<()>
+    ensures { Grows (W.contents out.old) (W.contents out.new) }
+{
+    match choice {
+        Choice::Trail(_, _) => show::word(out, b"trail "),
+        Choice::Round(_, _) => show::word(out, b"round "),
+    }
+}
+
 // Which of the two lent trails was chosen, and its hops.
 fn show_choice<'a, W: Write>(
     out: &mut W,
@@ -144,10 +153,7 @@ fn show_choice<'a, W: Write>(
 ) -> io::Result<()>
     ensures { Grows (W.contents out.old) (W.contents out.new) }
 {
-    match choice {
-        Choice::Trail(_, _) => show::word(out, b"trail ")?,
-        Choice::Round(_, _) => show::word(out, b"round ")?,
-    }
+    show_kind(out, choice)?;
     let hops = probing::chosen(trail, round, choice);
     show::list(out, hops.len() as u64, checksum::with_labels(0, hops))
 }
