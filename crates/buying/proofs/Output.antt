@@ -81,6 +81,6 @@ printed-front n argument s h =
     let f : Plant → Checked Sheet = λ p. pricing p (read_decimal argument) in
     ap output_of (then_is (reading (take n s)) f ∙ ap (λ (a : Answer Plant). a >>= λ p. answer (f p)) (decode_front n s h) ∙ sym (then_is (reading s) f))
 
--- as much of it as fills the buffer of `io` decides
+-- as much of it as fills the buffer of `print_file` decides
 pub printed-buffer : (argument s : List ℕ) → printed argument (take 4096 s) ≡ printed argument s
 printed-buffer argument s = printed-front 4096 argument s (omega arith)
