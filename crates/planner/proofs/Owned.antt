@@ -30,7 +30,7 @@ tag_owned : (x : Link) (vs : List Val) → shadow ((Link.the_row).own_val x vs) 
 tag_owned x vs s = s.1.1.1.1.0.1
 
 -- a plant that is owned has a place for each link, and tags of 16 bits
-pub typed_owned : (p : Plant) (vs : List Val) → shadow ((row_field (Array Link.the_row tt 256)).row.own_val p.links vs) → Typed p
+pub typed_owned : (p : Plant) (vs : List Val) → shadow ((row_field (Array Link.the_row tt max_links)).row.own_val p.links vs) → Typed p
 typed_owned p vs s =
     let places : length p.links ≡ max_links = s.1.0.1 in
     record {
