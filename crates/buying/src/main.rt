@@ -80,7 +80,7 @@ fn print_page<W: Write>(out: &mut W, argument: &[u8], listing: &[u8]) -> io::Res
 }
 
 // The output for the listing that a reader gives. The buffer has more places than the longest sound listing has bytes, so that of a longer input what it holds decides:
-// `printed-buffer` of proofs/Output.antt. After an error, of the reader or of the writer, a front of the output is written.
+// `printed-front` of proofs/Output.antt. After an error, of the reader or of the writer, a front of the output is written.
 fn print_file<R: Read, W: Write>(argument: &[u8], file: &mut R, out: &mut W) -> io::Result<()>
     requires { is_short argument.now ≡ true }
     ensures ok { OnOk result (IfSome (R.remaining file.old) (λ s. Appends (W.contents out.old) (W.contents out.new) (printed argument.now s))) }

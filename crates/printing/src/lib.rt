@@ -23,7 +23,7 @@ use std::io;
 use std::io::{Read, Write};
 use table::{Rule, Table};
 
-// The most bytes of a page: `page_room max_hops` of specs/Output.antt.
+// The most bytes of a page: `page_room max_hops` of specs/Room.antt.
 const PAGE: usize = text::SUMMARY
     + Plant::MAX_RULES * text::RULE
     + Plant::PLACES * text::TRAIL
@@ -113,8 +113,8 @@ fn put_plan(
     buf: &mut [u8],
 ) -> usize
     requires plan { Plan x t.now }
-    requires plant_in_bounds { length (trail_of x.plant) ≤ length labels.old }
-    requires plant_in_bounds_2 { page_room (length (trail_of x.plant)) ≤ length buf.old }
+    requires labels_room { length (trail_of x.plant) ≤ length labels.old }
+    requires page_room { page_room (length (trail_of x.plant)) ≤ length buf.old }
     ensures { Laid buf.old 0 (plant_output x.plant) buf.new result }
 {
     planning::lay(x, t, labels);
@@ -140,8 +140,8 @@ fn print_short<W: Write>(
     listing: &[u8],
 ) -> io::Result<()>
     requires plan { Plan x t.now }
-    requires plant_len_bound { length (trail_of x.plant) ≤ 2 * max_links }
-    requires plant_value { plant_output x.plant ≡ printed listing.now }
+    requires short { length (trail_of x.plant) ≤ 2 * max_links }
+    requires output { plant_output x.plant ≡ printed listing.now }
     ensures ok { OnOk result (Appends (W.contents out.old) (W.contents out.new) (printed listing.now)) }
     ensures err { OnErr result (AppendsFront (W.contents out.old) (W.contents out.new) (printed listing.now)) }
 {
@@ -159,7 +159,7 @@ fn print_long<W: Write>(
     listing: &[u8],
 ) -> io::Result<()>
     requires plan { Plan x t.now }
-    requires plant_value { plant_output x.plant ≡ printed listing.now }
+    requires output { plant_output x.plant ≡ printed listing.now }
     ensures ok { OnOk result (Appends (W.contents out.old) (W.contents out.new) (printed listing.now)) }
     ensures err { OnErr result (AppendsFront (W.contents out.old) (W.contents out.new) (printed listing.now)) }
 {
@@ -203,7 +203,7 @@ pub fn print_listing<W: Write>(out: &mut W, listing: &[u8]) -> io::Result<()>
 
 // Writes the output for the listing that a reader gives. After an error, of the reader or of the writer, a front of it is written.
 //
-// The buffer has more places than the longest sound listing has bytes, so that of a longer input what it holds decides: `printed-buffer` of proofs/Front.antt.
+// The buffer has more places than the longest sound listing has bytes, so that of a longer input what it holds decides: `printed-front` of proofs/Front.antt.
 pub fn print_file<R: Read, W: Write>(file: &mut R, out: &mut W) -> io::Result<()>
     ensures ok { OnOk result (IfSome (R.remaining file.old) (λ s. Appends (W.contents out.old) (W.contents out.new) (printed s))) }
     ensures err { OnErr result (IfSome (R.remaining file.old) (λ s. AppendsFront (W.contents out.old) (W.contents out.new) (printed s))) }

@@ -4,4 +4,4 @@ use Rattle.text.proofs.LaidLaws.{laid-front}
 use Rattle.printing.proofs.print_short.Goals as goal
 
 pub write_output-requires : goal.write_output-requires
-write_output-requires g c = laid-front _ _ _ _ c.put_plan-n.ensures ∙ c.requires.plant_value
+write_output-requires g c = laid-front _ _ _ _ c.put_plan-n.ensures ∙ c.requires.output

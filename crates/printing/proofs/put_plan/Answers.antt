@@ -9,7 +9,7 @@ put_table-end-requires c =
     let p = c.args.x.plant in
     let sound = c.requires.plan.laying.charted.sound in
     let most = table-most p _ c.table_of.ensures sound in
-    (table-few p _ c.table_of.ensures sound, omega (arith, most, c.put_numbers-rules.ensures.upper_bound, laid_same c.put_numbers-rules.ensures.laid, c.requires.plant_in_bounds_2))
+    (table-few p _ c.table_of.ensures sound, omega (arith, most, c.put_numbers-rules.ensures.upper_bound, laid_same c.put_numbers-rules.ensures.laid, c.requires.page_room))
 
 pub put_trails-requires-clause-stretches : goal.put_trails-requires-clause-stretches
 put_trails-requires-clause-stretches c =
@@ -21,7 +21,7 @@ put_trails-requires-clause-room c =
     let sound = c.requires.plan.laying.charted.sound in
     let most = table-most p _ c.table_of.ensures sound in
     let fit = lines_fit p sound c.args.labels.now c.lay.ensures c.requires.plan.measured.components_are in
-    omega (arith, fit, most, c.put_numbers-rules.ensures.upper_bound, c.put_table-end.ensures.place, laid_same c.put_numbers-rules.ensures.laid, laid_same c.put_table-end.ensures, c.requires.plant_in_bounds_2)
+    omega (arith, fit, most, c.put_numbers-rules.ensures.upper_bound, c.put_table-end.ensures.place, laid_same c.put_numbers-rules.ensures.laid, laid_same c.put_table-end.ensures, c.requires.page_room)
 
 pub returns : goal.returns
 returns c =
