@@ -58,7 +58,7 @@ ghost use Rattle.streams.specs.Streams.{Grows};
 
 use caseform::{input, show};
 use std::io;
-use std::io::{BufWriter, Write};
+use std::io::Write;
 
 // The most bytes of input that are read.
 const INPUT: usize = 2450000;
@@ -117,7 +117,5 @@ fn space() -> [u8; INPUT]
 fn main(rt: HostRuntime) -> io::Result<()> {
     let mut input = space();
     let n = streams::fill(&mut rt.stdin(), &mut input)?;
-    let mut out = BufWriter::new(rt.alloc(), rt.stdout())?;
-    answer_all(&mut out, &input[..n])?;
-    out.flush()
+    answer_all(&mut rt.stdout(), &input[..n])
 }
