@@ -184,7 +184,8 @@ pub fn read_part(s: &[u8], at: usize, layout: Layout) -> Part
     }
     let map = wide(s[at]) as usize;
     let e = measure(layout, map);
-    if 0 < e.rest {
+    let undefined = 0 < e.rest;
+    if undefined {
         return refused_part(Refusal::MapUndefined, at);
     }
     let fields = read_fields(s, at, map, layout);

@@ -69,7 +69,8 @@ fn has(set: u64, x: u8) -> bool
 fn out_of_range(set: u64, switches: u8) -> bool
     ensures { result ≡ set_out_of_range switches set }
 {
-    if Plant::MAX_SWITCHES <= switches {
+    let all = Plant::MAX_SWITCHES <= switches;
+    if all {
         return false;
     }
     (set >> switches) != 0

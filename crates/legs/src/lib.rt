@@ -94,7 +94,8 @@ fn legs_from(
 {
     let none = net.labels;
     let root = net.root as usize;
-    if none <= first[root] {
+    let alone = none <= first[root];
+    if alone {
         return Legs {
             from,
             to: from,

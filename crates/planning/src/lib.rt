@@ -280,7 +280,8 @@ pub fn plan_at(listing: &[u8], switch: u8, t: &mut [[u8; Plant::PLACES]; Plant::
     let v = d.verdict;
     match v {
         Verdict::Accepted => {
-            if switch < d.parts.net.switches {
+            let inside = switch < d.parts.net.switches;
+            if inside {
                 return d;
             }
             refused_plan(Refusal::SwitchOutOfRange)

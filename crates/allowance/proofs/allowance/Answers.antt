@@ -13,6 +13,11 @@ few links k h i = omega (arith, allowance-least links 16 (omega arith))
 power : (links k : ℕ) → links < 65536 → k ≤ allowance links → (1 ≤ 2 ^ k) × (2 ^ k ≤ 65536)
 power links k h i = (pow_pos k, pow_mono (few links k h i))
 
+pub loop-k-preserved : goal.loop-k-preserved
+loop-k-preserved c =
+    let e = power c.args.links c.loop-k.k (omega arith) c.loop-k.invariant in
+    omega (arith, allowance-above c.args.links c.loop-k.k (omega arith))
+
 pub overflow_shl-k : goal.overflow_shl-k
 overflow_shl-k c = omega (arith, few c.args.links c.loop-k.k (omega arith) c.loop-k.invariant)
 
@@ -21,11 +26,6 @@ overflow_add-k c = record { fits = omega (arith, few c.args.links c.loop-k.k (om
 
 pub loop-k-smaller : goal.loop-k-smaller
 loop-k-smaller c =
-    let e = power c.args.links c.loop-k.k (omega arith) c.loop-k.invariant in
-    omega (arith, allowance-above c.args.links c.loop-k.k (omega arith))
-
-pub loop-k-preserved : goal.loop-k-preserved
-loop-k-preserved c =
     let e = power c.args.links c.loop-k.k (omega arith) c.loop-k.invariant in
     omega (arith, allowance-above c.args.links c.loop-k.k (omega arith))
 

@@ -24,6 +24,10 @@ module _ (s argument : List ℕ) (k : ℕ) (bytes : Bytes s) (e : k ≡ min (rea
   refusal_is : (b : List ℕ) (m : ℕ) → answer (buying s k b) ≡ refused m → line_columns * (max_switches + 1) ≤ length b → refusal_of m ≡ printed argument s
   refusal_is b m g room = output_refusal s k b bytes room m g ∙ same
 
+pub print_refusal-requires : goal.print_refusal-requires
+print_refusal-requires g c =
+    refusal_is c.args.listing.now c.args.argument.now c.spare_of.result (bytes_known c.args.listing.now (λ i. (c.type_inv.listing i).fits)) c.spare_of.ensures _ _ (sym c.in-Refused.ensures.result_value) (omega arith)
+
 pub slice_bounds-page-end : goal.slice_bounds-page-end
 slice_bounds-page-end g c =
     (page-is c.args.listing.now c.args.argument.now c.spare_of.result (bytes_known c.args.listing.now (λ i. (c.type_inv.listing i).fits)) c.spare_of.ensures _ c.in-Length.n (sym c.in-Length.ensures.result_value) c.in-Length.ensures.buffer_now (omega arith)).0
@@ -36,7 +40,3 @@ slice_bounds-write_output-end g c =
 pub write_output-requires : goal.write_output-requires
 write_output-requires g c =
     (page-is c.args.listing.now c.args.argument.now c.spare_of.result (bytes_known c.args.listing.now (λ i. (c.type_inv.listing i).fits)) c.spare_of.ensures _ c.in-Length.n (sym c.in-Length.ensures.result_value) c.in-Length.ensures.buffer_now (omega arith)).1
-
-pub print_refusal-requires : goal.print_refusal-requires
-print_refusal-requires g c =
-    refusal_is c.args.listing.now c.args.argument.now c.spare_of.result (bytes_known c.args.listing.now (λ i. (c.type_inv.listing i).fits)) c.spare_of.ensures _ _ (sym c.in-Refused.ensures.result_value) (omega arith)

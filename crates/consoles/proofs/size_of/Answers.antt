@@ -6,14 +6,14 @@ use Rattle.consoles.specs.Calls.{console_out_of_range}
 use Rattle.consoles.proofs.Sizing.{sized_on, sized_off}
 use Rattle.consoles.proofs.size_of.Goals as goal
 
-pub returns-in-Accepted : goal.returns-in-Accepted
-unfolding console_out_of_range
-returns-in-Accepted c =
-    let known : Judges ((19, ltb 3 c.args.console) ∷ []) c.judge-known.result = c.judge-known.ensures in
-    sized_on c.args.console _ _ _ _ c.plan-d.ensures.plots _ known _ c.in-Accepted.ensures refl _ c.links_with-links.ensures
-
 pub returns-in-Refused : goal.returns-in-Refused
 unfolding console_out_of_range
 returns-in-Refused c =
     let known : Judges ((19, ltb 3 c.args.console) ∷ []) c.judge-known.result = c.judge-known.ensures in
     sized_off c.args.console _ _ _ _ c.plan-d.ensures.plots _ known _ c.in-Refused.ensures _ refl
+
+pub returns-in-Accepted : goal.returns-in-Accepted
+unfolding console_out_of_range
+returns-in-Accepted c =
+    let known : Judges ((19, ltb 3 c.args.console) ∷ []) c.judge-known.result = c.judge-known.ensures in
+    sized_on c.args.console _ _ _ _ c.plan-d.ensures.plots _ known _ c.in-Accepted.ensures refl _ c.links_with-links.ensures

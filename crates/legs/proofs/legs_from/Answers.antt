@@ -3,8 +3,13 @@ use Rattle.std.proofs.Common.{arith}
 use Rattle.legs.proofs.Aims.{no_legs_is, asks_first, found_none, turn, ends}
 use Rattle.legs.proofs.legs_from.Goals as goal
 
-pub returns-then-none-first : goal.returns-then-none-first
-returns-then-none-first c w = no_legs_is w _ c.requires.aims_len c.if-none-first.true
+pub returns : goal.returns
+returns c w =
+    let k = c.loop-a in
+    (ends w _ k.low k.aims k.k k.hops k.u k.a (k.invariant w) c.loop-a-test.false).added
+
+pub returns-then-alone : goal.returns-then-alone
+returns-then-alone c w = no_legs_is w _ c.requires.aims_len c.if-alone.true
 
 pub nearest-a-requires : goal.nearest-a-requires
 nearest-a-requires c = asks_first c.requires.some_parts c.args.aims.now _ c.firsts_reached-low.ensures
@@ -76,8 +81,3 @@ pub overflow_add-result : goal.overflow_add-result
 overflow_add-result c =
     let k = c.loop-a in
     omega (arith, (ends c.requires.some_parts _ k.low k.aims k.k k.hops k.u k.a (k.invariant c.requires.some_parts) c.loop-a-test.false).short)
-
-pub returns : goal.returns
-returns c w =
-    let k = c.loop-a in
-    (ends w _ k.low k.aims k.k k.hops k.u k.a (k.invariant w) c.loop-a-test.false).added

@@ -21,6 +21,9 @@ returns-then-unsound c =
 pub own_trail-own-requires-clause-trail_value : goal.own_trail-own-requires-clause-trail_value
 own_trail-own-requires-clause-trail_value c = trail-same _ _ (sym c.differs.ensures ∙ c.if-differs.false)
 
+pub name_of-requires-clause-own_value : goal.name_of-requires-clause-own_value
+name_of-requires-clause-own_value c = c.own_trail-own.ensures
+
 pub name_of-requires-clause-over_arcs : goal.name_of-requires-clause-over_arcs
 name_of-requires-clause-over_arcs c =
     own-arcs c.args.x.plant c.requires.plan.laying.charted.sound c.args.switch c.requires.switch_lt_switches _ c.own_trail-own.ensures

@@ -3,6 +3,10 @@ use Rattle.quoting.proofs.Counts.{priced_shown}
 use Rattle.quoting.proofs.Quotes.{priced, room-enough, quote_given, quote_left, quote_refused, quote_kept}
 use Rattle.quoting.proofs.put_page.Goals as goal
 
+pub returns-in-Refused-clause-result_value : goal.returns-in-Refused-clause-result_value
+returns-in-Refused-clause-result_value c =
+    quote_refused c.args.x.plant c.args.spare c.args.buffer.now _ _ _ _ _ c.price-priced.ensures c.page_length-n.ensures c.judge_room-room.ensures c.in-Refused.ensures _ refl
+
 pub put_page-requires-clause-three_digits : goal.put_page-requires-clause-three_digits
 put_page-requires-clause-three_digits c =
     let e = priced c.args.x.plant c.args.spare c.args.buffer.now _ _ _ _ _ c.price-priced.ensures c.page_length-n.ensures c.judge_room-room.ensures c.in-Accepted.ensures refl in
@@ -24,10 +28,6 @@ returns-in-Accepted-clause-result_value c =
 pub returns-in-Accepted-clause-buffer_now : goal.returns-in-Accepted-clause-buffer_now
 returns-in-Accepted-clause-buffer_now c =
     c.put_page.ensures ∙ quote_left c.args.x.plant c.args.spare c.args.buffer.now _ _ _ _ _ c.price-priced.ensures c.page_length-n.ensures c.judge_room-room.ensures c.in-Accepted.ensures refl
-
-pub returns-in-Refused-clause-result_value : goal.returns-in-Refused-clause-result_value
-returns-in-Refused-clause-result_value c =
-    quote_refused c.args.x.plant c.args.spare c.args.buffer.now _ _ _ _ _ c.price-priced.ensures c.page_length-n.ensures c.judge_room-room.ensures c.in-Refused.ensures _ refl
 
 pub returns-in-Refused-clause-buffer_now : goal.returns-in-Refused-clause-buffer_now
 returns-in-Refused-clause-buffer_now c =

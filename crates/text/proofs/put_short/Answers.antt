@@ -15,6 +15,10 @@ two-in b at n h k r = omega (arith, ap length (decimal-two n h k))
 three-in : (b : List ℕ) (at n : ℕ) → 100 ≤ n → n < 1000 → Room b at (decimal n) → at + 2 < length b
 three-in b at n h k r = omega (arith, ap length (decimal-three n h k))
 
+pub returns-then-n-lt100 : goal.returns-then-n-lt100
+returns-then-n-lt100 c =
+    rw (decimal-two c.args.n (omega arith) (omega arith)) (laid-two c.args.buf.now c.args.at (digit (c.args.n / 10)) (digit (c.args.n % 10)) (two-in _ _ _ (omega arith) (omega arith) c.requires.1))
+
 pub bounds-buf-at : goal.bounds-buf-at
 bounds-buf-at c = one-in _ _ _ (omega arith) c.requires.1
 
@@ -27,10 +31,6 @@ bounds-buf-at-then-n-lt100 c = omega (arith, two-in _ _ _ (omega arith) (omega a
 
 pub bounds-buf-at-then-n-lt100-2 : goal.bounds-buf-at-then-n-lt100-2
 bounds-buf-at-then-n-lt100-2 c = simp length-set (two-in _ _ _ (omega arith) (omega arith) c.requires.1)
-
-pub returns-then-n-lt100 : goal.returns-then-n-lt100
-returns-then-n-lt100 c =
-    rw (decimal-two c.args.n (omega arith) (omega arith)) (laid-two c.args.buf.now c.args.at (digit (c.args.n / 10)) (digit (c.args.n % 10)) (two-in _ _ _ (omega arith) (omega arith) c.requires.1))
 
 pub bounds-buf-at-2 : goal.bounds-buf-at-2
 bounds-buf-at-2 c = omega (arith, three-in _ _ _ (omega arith) c.requires.0 c.requires.1)

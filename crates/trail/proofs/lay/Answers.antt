@@ -6,6 +6,12 @@ use Rattle.trail.proofs.Along.{leg, back}
 use Rattle.trail.proofs.Ways.{way_of}
 use Rattle.trail.proofs.lay.Goals as goal
 
+pub returns : goal.returns
+returns c w =
+    let k = c.loop-k in
+    let b = back w.parts w.legs_are k.u k.k (k.invariant w).0 c.loop-k-test.false in
+    stored_all (stored_list (k.invariant w).1 b.goes (c.lay_way.ensures (way_of w.parts b.joined))) refl
+
 pub bounds-tails-x : goal.bounds-tails-x
 bounds-tails-x c =
     let k = c.loop-k in
@@ -76,9 +82,3 @@ lay_way-requires-clause-to_in_bounds c =
     let w = c.requires.trailing in
     let b = back w.parts w.legs_are k.u k.k (k.invariant w).0 c.loop-k-test.false in
     omega (arith, stored_room (k.invariant w).1 b.goes c.requires.fits, way_size w.parts b.joined)
-
-pub returns : goal.returns
-returns c w =
-    let k = c.loop-k in
-    let b = back w.parts w.legs_are k.u k.k (k.invariant w).0 c.loop-k-test.false in
-    stored_all (stored_list (k.invariant w).1 b.goes (c.lay_way.ensures (way_of w.parts b.joined))) refl

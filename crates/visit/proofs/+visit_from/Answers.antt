@@ -7,6 +7,17 @@ use Rattle.visit.proofs.Goes.{goes_begin, goes_end, goes_next, goes_rises, flagg
 use Rattle.visit.proofs.+visit_from.Goals as goal
 use Rattle.visit.proofs.+visit_from.Goals.{then-not-v-j, else-not-v-j}
 
+pub loop-a-preserved : goal.loop-a-preserved
+loop-a-preserved t c w =
+    let k = c.loop-a in
+    let g = k.invariant w in
+    let below = c.loop-a-test.true in
+    let near : at c.args.heads.now k.a < max_switches = w.heads_in k.a below (flagged _ _ _ _ _ below g) in
+    elim c.if-not-v-j.branch [
+      | then-not-v-j z ↦ rw z.v-is (turn_new _ _ _ _ _ below g c.requires.n_bound near z.if-not-v-j.true (rw z.enter.ensures at (z.visit_from-v.ensures w)) _ (goes_next _ _ _ _ _ below g w.chained))
+      | else-not-v-j z ↦ rw z.v-is (turn_old _ _ _ _ _ below g z.if-not-v-j.false _ (goes_next _ _ _ _ _ below g w.chained))
+    ]
+
 pub loop-a-init : goal.loop-a-init
 loop-a-init t c w = goes_begin _ _ _ _ _ c.requires.at.room _ (w.chained.firsts _ c.requires.at.within)
 
@@ -33,17 +44,6 @@ loop-a-smaller t c =
     let w = c.requires.some_arcs in
     let g = c.loop-a.invariant w in
     omega (arith, goes_next _ _ _ _ _ c.loop-a-test.true g w.chained, goes_rises _ _ _ _ _ c.loop-a-test.true g, c.loop-a-test.true)
-
-pub loop-a-preserved : goal.loop-a-preserved
-loop-a-preserved t c w =
-    let k = c.loop-a in
-    let g = k.invariant w in
-    let below = c.loop-a-test.true in
-    let near : at c.args.heads.now k.a < max_switches = w.heads_in k.a below (flagged _ _ _ _ _ below g) in
-    elim c.if-not-v-j.branch [
-      | then-not-v-j z ↦ rw z.v-is (turn_new _ _ _ _ _ below g c.requires.n_bound near z.if-not-v-j.true (rw z.enter.ensures at (z.visit_from-v.ensures w)) _ (goes_next _ _ _ _ _ below g w.chained))
-      | else-not-v-j z ↦ rw z.v-is (turn_old _ _ _ _ _ below g z.if-not-v-j.false _ (goes_next _ _ _ _ _ below g w.chained))
-    ]
 
 pub returns : goal.returns
 returns t c w = goes_end _ _ _ _ _ c.loop-a-test.false (c.loop-a.invariant w)
