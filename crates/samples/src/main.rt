@@ -6,7 +6,7 @@ use std::rt::Files;
 use std::{fs, io, str};
 
 // As much of an error's text as is laid here.
-const TEXT: usize = 256;
+const TEXT: usize = 300;
 
 // The system's words in the text of an error, without the number that `io::Error` puts after them.
 fn words(text: &str) -> &str {
