@@ -1,6 +1,7 @@
 -- What these calls answer for every listing s that is read as a plant p, in the papers' words: the bridges, the numbers of a plant, the
 -- order of links, the outward labels and the link named; and what `rules` prints. A field that holds by the definition alone says so.
-use Rattle.demands.specs.Vocabulary.{◌≡◌, ◌⊎◌, ◌↔◌, false, Bool, List, [], ◌∷◌, ◌++◌, map, flatten, ℕ, ◌≤◌, ◌<◌, ◌+◌, ◌/◌, ◌%◌, T}
+use Rattle.std.specs.Prelude.{◌≡◌, ◌⊎◌, ◌↔◌, ◌∷◌, ◌++◌, ◌≤◌, ◌<◌, ◌+◌, ◌/◌, ◌%◌}
+use Rattle.demands.specs.Vocabulary.{false, Bool, List, [], map, flatten, ℕ, T}
 use Rattle.demands.specs.Vocabulary.{length, drop, get_or, take, at, given, refused, answer, Plant, live, max_links, reading, links_with}
 use Rattle.demands.specs.Vocabulary.{roots, Bridge, live_links, bridges, trail_from, nth, up_to, trail_of, rules_of, Span, stretch_of}
 use Rattle.demands.specs.Vocabulary.{front_of, Search, IsAllUp, IsDown, values_of, halving, Order, none, ascii, decimal, line, printed}

@@ -1,5 +1,6 @@
 -- The two numbers that document 01 rounds up: the allowance of a search (document 02's order 5 keeps its meaning) and the order quantity.
-use Rattle.demands.specs.Vocabulary.{◌≡◌, ℕ, ◌≤◌, ◌+◌, ◌*◌, given, answer, order_quantity, allowance, CeilLog}
+use Rattle.std.specs.Prelude.{◌≡◌, ◌≤◌, ◌+◌, ◌*◌}
+use Rattle.demands.specs.Vocabulary.{ℕ, given, answer, order_quantity, allowance, CeilLog}
 
 -- q is ⌈a × p ÷ 100⌉: the least number of which the hundredfold is a × p at least
 pub record CeilPercent (a p q : ℕ) : Type 0 where

@@ -1,7 +1,8 @@
 -- The order in which the reader and the writer try what they are given ("Refusals in checking order" of document 01): "Header, then records
 -- in order, each tried against those that concern it. A map is judged before its fields. … Within one part the lowest number goes first.
 -- The writer tries all of 5, then 6 and 7 record by record, then 16." What each condition says is in `ConditionsAre`.
-use Rattle.demands.specs.Vocabulary.{◌≡◌, ◌⊎◌, true, false, List, [], ◌∷◌, ◌++◌, ℕ, suc, ◌≤◌, ◌<◌, length, get_or, given, refused}
+use Rattle.std.specs.Prelude.{◌≡◌, ◌⊎◌, ◌∷◌, ◌++◌, ◌≤◌, ◌<◌}
+use Rattle.demands.specs.Vocabulary.{true, false, List, [], ℕ, suc, length, get_or, given, refused}
 use Rattle.demands.specs.Vocabulary.{refuse, ◌>>=◌, Conditions, Checked, answer, Link, Plant, zero_link, Field, map_missing}
 use Rattle.demands.specs.Vocabulary.{map_undefined, field_missing, field_redundant, field_values, header_fields, link_fields, link_from}
 use Rattle.demands.specs.Vocabulary.{end_out_of_range, self_link, bytes_remain, header, sound_link, links, with_links, links_of, reading}

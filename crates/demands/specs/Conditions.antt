@@ -1,7 +1,8 @@
 -- What the condition of each refusal says, in the papers' words ("Refusals in checking order" of document 01; document 02). Which of them a
 -- call tries, and in which order, is in its field of `Demand1`. A condition that is a plain test is the test read aloud: 1, 5 to 8, 10, 11,
 -- 13, 16, 17, 18 in writing, 19 and 21.
-use Rattle.demands.specs.Vocabulary.{◌≡◌, ◌⊎◌, ◌↔◌, true, false, List, [], ◌∷◌, ◌++◌, ℕ, ◌≤◌, ◌<◌, ◌+◌, ◌*◌, length, drop, Each, Link}
+use Rattle.std.specs.Prelude.{◌≡◌, ◌⊎◌, ◌↔◌, ◌∷◌, ◌++◌, ◌≤◌, ◌<◌, ◌+◌, ◌*◌}
+use Rattle.demands.specs.Vocabulary.{true, false, List, [], ℕ, length, drop, Each, Link}
 use Rattle.demands.specs.Vocabulary.{Plant, zero_link, max_switches, max_links, Field, bit_at, SomeGiven, EndsBefore, HoldsAbsent}
 use Rattle.demands.specs.Vocabulary.{map_missing, map_undefined, field_missing, field_redundant, map_byte, end_out_of_range, self_link}
 use Rattle.demands.specs.Vocabulary.{bytes_remain, value_out_of_range, plant_out_of_range, buffer_short, trail_of, switch_out_of_range}

@@ -1,6 +1,7 @@
 -- Demand 1: each call answers a result, or a refusal exactly under its condition. That a refusal leaves what is lent as it was is in
 -- `Untouched`, what each condition says in `Conditions`.
-use Rattle.demands.specs.Vocabulary.{true, not, List, [], ◌∷◌, ℕ, ◌*◌, given, Conditions, answer, Plant, reading, buffer_short}
+use Rattle.std.specs.Prelude.{◌∷◌, ◌*◌}
+use Rattle.demands.specs.Vocabulary.{true, not, List, [], ℕ, given, Conditions, answer, Plant, reading, buffer_short}
 use Rattle.demands.specs.Vocabulary.{writing, links_with, End, trail_of, round_of, switch_out_of_range, Span, stretch_of, front_of, Choice}
 use Rattle.demands.specs.Vocabulary.{hops_in, spare_above, order_quantity, allowance, Outcome, Search, Call, sound, ended, ask, give}
 use Rattle.demands.specs.Vocabulary.{outcome_of, trail_differs, hops_differ, states_short, search_unsound, formed, reading_page, page_short}

@@ -1,6 +1,7 @@
 -- Demand 2: the definitions are document 01's, the round trips and the trail.
-use Rattle.demands.specs.Vocabulary.{◌≡◌, ◌↔◌, true, false, Bool, List, [], ◌∷◌, ◌++◌, map, flatten, ℕ, suc, ◌≤◌, ◌<◌, ◌+◌, ◌*◌, ◌-◌}
-use Rattle.demands.specs.Vocabulary.{◌/◌, ◌^◌, T, length, drop, get_or, take, count, In, Distinct, range, keep, given, answer, Plant}
+use Rattle.std.specs.Prelude.{◌≡◌, ◌↔◌, ◌∷◌, ◌++◌, ◌≤◌, ◌<◌, ◌+◌, ◌*◌, ◌-◌, ◌/◌, ◌^◌}
+use Rattle.demands.specs.Vocabulary.{true, false, Bool, List, [], map, flatten, ℕ, suc}
+use Rattle.demands.specs.Vocabulary.{T, length, drop, get_or, take, count, In, Distinct, range, keep, given, answer, Plant}
 use Rattle.demands.specs.Vocabulary.{live, is_out_of_service, link_at, max_switches, max_links, max_rules, max_hops, Sound, reading, encode}
 use Rattle.demands.specs.Vocabulary.{writing, buffer_after, tail, head, Arc, opposite, visit_links, links_with, root_of, roots}
 use Rattle.demands.specs.Vocabulary.{component_of, link_with, used, To, Bridge, bridge, live_links, visited_from, entered_from}

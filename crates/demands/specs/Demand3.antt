@@ -1,5 +1,6 @@
 -- Demand 3: the rule page and the search.
-use Rattle.demands.specs.Vocabulary.{◌≡◌, ◌↔◌, true, List, [], ◌∷◌, ◌++◌, map, flatten, ℕ, ◌≤◌, ◌<◌, ◌+◌, ◌*◌, T, length, get_or, count}
+use Rattle.std.specs.Prelude.{◌≡◌, ◌↔◌, ◌∷◌, ◌++◌, ◌≤◌, ◌<◌, ◌+◌, ◌*◌}
+use Rattle.demands.specs.Vocabulary.{true, List, [], map, flatten, ℕ, T, length, get_or, count}
 use Rattle.demands.specs.Vocabulary.{Each, In, memb, given, refused, answer, Plant, live, max_rules, tail, head, links_with, roots}
 use Rattle.demands.specs.Vocabulary.{live_links, Crosses, ClosedWalk, ClosedWalks, bridges, trail_from, FirstDown, nth, up_by, Table}
 use Rattle.demands.specs.Vocabulary.{zero_rule, trail_of, rules_of, Outcome, Search, Call, asks, gives, perform, begun, Sending, sent}

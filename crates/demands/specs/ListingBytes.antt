@@ -1,6 +1,7 @@
 -- Document 01, "Listing bytes": what the bytes of a listing say, field by field, with document 02's order 7 for bit 3 of a link. A listing
 -- is read as a plant exactly if its bytes are laid out so.
-use Rattle.demands.specs.Vocabulary.{◌≡◌, ◌↔◌, true, List, [], ◌∷◌, ◌++◌, ℕ, ◌≤◌, ◌<◌, ◌+◌, ◌*◌, ◌/◌, ◌%◌, ◌^◌, length, take}
+use Rattle.std.specs.Prelude.{◌≡◌, ◌↔◌, ◌∷◌, ◌++◌, ◌≤◌, ◌<◌, ◌+◌, ◌*◌, ◌/◌, ◌%◌, ◌^◌}
+use Rattle.demands.specs.Vocabulary.{true, List, [], ℕ, length, take}
 use Rattle.demands.specs.Vocabulary.{replicate, given, answer, Link, Plant, zero_link, link_at, max_switches, max_links, number, bit_at}
 use Rattle.demands.specs.Vocabulary.{header, links, reading}
 use Rattle.listing.specs.Listing.{link}

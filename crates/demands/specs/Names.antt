@@ -1,6 +1,7 @@
 -- Names for what the promises say again and again, of a plant p and one of its switches x. E, the number of links of the component of x, is
 -- `links_with p x`.
-use Rattle.demands.specs.Vocabulary.{◌≡◌, Bool, List, ℕ, given, answer, Plant, Bytes, reading, links_with, used, place_of, ring_of}
+use Rattle.std.specs.Prelude.{◌≡◌}
+use Rattle.demands.specs.Vocabulary.{Bool, List, ℕ, given, answer, Plant, Bytes, reading, links_with, used, place_of, ring_of}
 use Rattle.demands.specs.Vocabulary.{order_of, probe_of, probe_run, End, trail_with, round_with}
 
 -- the bytes s are read as the plant p

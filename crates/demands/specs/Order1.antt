@@ -1,5 +1,6 @@
 -- Document 02, order 1: where the packet got to.
-use Rattle.demands.specs.Vocabulary.{◌≡◌, ◌⊎◌, ◌↔◌, true, false, Bool, List, ℕ, ◌≤◌, ◌<◌, ◌*◌, ◌/◌, length, get_or, take, given, answer}
+use Rattle.std.specs.Prelude.{◌≡◌, ◌⊎◌, ◌↔◌, ◌≤◌, ◌<◌, ◌*◌, ◌/◌}
+use Rattle.demands.specs.Vocabulary.{true, false, Bool, List, ℕ, length, get_or, take, given, answer}
 use Rattle.demands.specs.Vocabulary.{Plant, head, links_with, used, FirstDown, probe_rules, nth, End, run, leads_to, back, in_all, up_by}
 use Rattle.demands.specs.Vocabulary.{up_by_link, in_table, Search, wanted, IsReturned, IsLost, outcome_of, running, checking, probing}
 use Rattle.demands.specs.Vocabulary.{out_labels, actual_outcome}

@@ -1,5 +1,6 @@
 -- Document 02, order 2: rules for each switch.
-use Rattle.demands.specs.Vocabulary.{◌≡◌, List, ℕ, ◌≤◌, ◌*◌, at, count, sum, given, answer, Plant, used, sent_by, past_senders}
+use Rattle.std.specs.Prelude.{◌≡◌, ◌≤◌, ◌*◌}
+use Rattle.demands.specs.Vocabulary.{List, ℕ, at, count, sum, given, answer, Plant, used, sent_by, past_senders}
 use Rattle.demands.specs.Vocabulary.{by_switch, rules_of, table_of, Totals, max_spare, with_spare, counting}
 use Rattle.demands.specs.Names.{ReadAs}
 

@@ -1,5 +1,6 @@
 -- Document 02, order 3: the buying page.
-use Rattle.demands.specs.Vocabulary.{◌≡◌, List, [], ◌∷◌, ◌++◌, map, flatten, ℕ, ◌≤◌, ◌<◌, ◌+◌, ◌*◌, length, drop, replicate, at}
+use Rattle.std.specs.Prelude.{◌≡◌, ◌∷◌, ◌++◌, ◌≤◌, ◌<◌, ◌+◌, ◌*◌}
+use Rattle.demands.specs.Vocabulary.{List, [], map, flatten, ℕ, length, drop, replicate, at}
 use Rattle.demands.specs.Vocabulary.{range, sum, given, answer, Plant, live_links, bridges, links_at, sent_by, rules_of, order_quantity}
 use Rattle.demands.specs.Vocabulary.{decimal, Sheet, line_columns, reading_page, buying_page, switch_line, total_line, Shown, buying}
 use Rattle.demands.specs.Vocabulary.{bought_out}

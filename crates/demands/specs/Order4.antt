@@ -1,6 +1,7 @@
 -- Document 02, order 4: packets that vanish. What a search does with them is in `Searches` of probing/specs/Searches; here what counts as a
 -- probe, of any list of sendings, and what the two premises of its verdict say.
-use Rattle.demands.specs.Vocabulary.{◌≡◌, ◌⊎◌, ◌↔◌, true, List, ◌∷◌, ◌++◌, ℕ, T, Each, Plant, links_with, up_by_link, Outcome, Call}
+use Rattle.std.specs.Prelude.{◌≡◌, ◌⊎◌, ◌↔◌, ◌∷◌, ◌++◌}
+use Rattle.demands.specs.Vocabulary.{true, List, ℕ, T, Each, Plant, links_with, up_by_link, Outcome, Call}
 use Rattle.demands.specs.Vocabulary.{perform, begun, Sending, sent, counted_in, TrueSending, OneReturns, ended, IsReturned, IsLost}
 use Rattle.demands.specs.Vocabulary.{probe_end, AllTrue, OneOfThree, sent_over}
 use Rattle.demands.specs.Names.{probe_run_at}

@@ -1,5 +1,6 @@
 -- Document 02, order 6: links that fail one way.
-use Rattle.demands.specs.Vocabulary.{◌≡◌, ◌↔◌, true, List, ◌∷◌, ◌++◌, ℕ, ◌≤◌, ◌<◌, ◌+◌, ◌*◌, ◌/◌, T, length, drop, take, Each, In}
+use Rattle.std.specs.Prelude.{◌≡◌, ◌↔◌, ◌∷◌, ◌++◌, ◌≤◌, ◌<◌, ◌+◌, ◌*◌, ◌/◌}
+use Rattle.demands.specs.Vocabulary.{true, List, ℕ, T, length, drop, take, Each, In}
 use Rattle.demands.specs.Vocabulary.{given, answer, Plant, tail, head, opposite, links_with, root_of, roots, component_of, link_with}
 use Rattle.demands.specs.Vocabulary.{live_links, visited_from, entered_from, earlier_from, ClosedWalk, tour_from, round_from, ByRoundRule}
 use Rattle.demands.specs.Vocabulary.{End, FirstHop, up_by_label, EveryUp, Vouches, link_bytes, in_all, up_by, trail_of, round_of, trail_with}

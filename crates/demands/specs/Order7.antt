@@ -1,5 +1,6 @@
 -- Document 02, order 7: links laid up, here out of service.
-use Rattle.demands.specs.Vocabulary.{◌≡◌, ◌↔◌, true, false, Bool, List, [], ◌∷◌, ℕ, ◌≤◌, ◌<◌, ◌+◌, ◌*◌, ◌/◌, T, ltb, length, In}
+use Rattle.std.specs.Prelude.{◌≡◌, ◌↔◌, ◌∷◌, ◌≤◌, ◌<◌, ◌+◌, ◌*◌, ◌/◌}
+use Rattle.demands.specs.Vocabulary.{true, false, Bool, List, [], ℕ, T, ltb, length, In}
 use Rattle.demands.specs.Vocabulary.{given, refused, ◌>>=◌, answer, check, ◌then◌, Link, Plant, live, marked, part, part_bytes}
 use Rattle.demands.specs.Vocabulary.{link_with, bridge, live_links, Crosses, ClosedWalk, up_by_label, in_all, up_by, trail_of}
 use Rattle.demands.specs.Vocabulary.{round_of, in_table, Search, running, checking, round_running, probing, Says}

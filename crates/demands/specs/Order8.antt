@@ -1,5 +1,6 @@
 -- Document 02, order 8: four consoles, each with its own switches.
-use Rattle.demands.specs.Vocabulary.{◌≡◌, true, false, List, [], ◌∷◌, ◌++◌, ℕ, ◌≤◌, ◌<◌, ◌^◌, given, refused, ◌>>=◌, Answer, answer}
+use Rattle.std.specs.Prelude.{◌≡◌, ◌∷◌, ◌++◌, ◌≤◌, ◌<◌, ◌^◌}
+use Rattle.demands.specs.Vocabulary.{true, false, List, [], ℕ, given, refused, ◌>>=◌, Answer, answer}
 use Rattle.demands.specs.Vocabulary.{Plant, max_switches, Bytes, reading, links_with, Outcome, Search, Call, gives, perform, begun}
 use Rattle.demands.specs.Vocabulary.{give, new_search, sound_for, Searches, Console, Desk, Held, Nothing, From, set_out_of_range, has}
 use Rattle.demands.specs.Vocabulary.{console_with, idle, fresh_desk, console_of, new_set, start, outcome, Request, switch_of, asking}

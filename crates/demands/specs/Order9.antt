@@ -1,5 +1,6 @@
 -- Document 02, order 9: plants in several islands, here components.
-use Rattle.demands.specs.Vocabulary.{◌≡◌, true, List, [], ◌∷◌, ◌++◌, map, ℕ, suc, ◌≤◌, ◌<◌, ◌+◌, ◌*◌, length, get_or, In, sum_of}
+use Rattle.std.specs.Prelude.{◌≡◌, ◌∷◌, ◌++◌, ◌≤◌, ◌<◌, ◌+◌, ◌*◌}
+use Rattle.demands.specs.Vocabulary.{true, List, [], map, ℕ, suc, length, get_or, In, sum_of}
 use Rattle.demands.specs.Vocabulary.{Refusal, given, number_of, answer, Plant, live, tail, head, links_with, root_of, roots, component_of}
 use Rattle.demands.specs.Vocabulary.{link_with, used, arcs_used, live_links, used_from, Crosses, bridges, switches_from, links_from}
 use Rattle.demands.specs.Vocabulary.{bridges_from, arcs_used_from, round_from, trail_from, rules_in, table_in, trail_of, round_of, trail_with}

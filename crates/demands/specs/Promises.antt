@@ -4,7 +4,8 @@
 -- `p.count` all links of the listing. What document 01 says of a connected plant is said of each component (order 9): `roots p` has the
 -- switch at which each begins, `trail_of p` their trails one after another; of a named switch x, `trail_with p x` is the trail of its
 -- component, `link_with p x l` says whether link l is one of it, and `links_with p x` is E.
-use Rattle.demands.specs.Vocabulary.{◌≡◌, true, false, Bool, List, ℕ, ◌≤◌, ◌<◌, T, given, answer, Plant, is_out_of_service, reading}
+use Rattle.std.specs.Prelude.{◌≡◌, ◌≤◌, ◌<◌}
+use Rattle.demands.specs.Vocabulary.{true, false, Bool, List, ℕ, T, given, answer, Plant, is_out_of_service, reading}
 use Rattle.demands.specs.Vocabulary.{links_with, link_with, End, run, Together, Connected, Outcome, Call, Sending, Sheet, Shown}
 use Rattle.demands.specs.Vocabulary.{NoneBroken, Desk, DeskCall}
 use Rattle.demands.specs.Names.{ReadAs}

@@ -1,7 +1,8 @@
 -- Document 01's section "Search", with the sendings lost of document 02's order 4, in the values of states and outcomes
 -- (search/specs/Values): of what the calls answer on every sound state that has not ended. An ended one is refused (15 of `ConditionsAre`),
 -- and so is an unsound one (14). All but `between` and that values tell states apart is the definition of the calls read aloud.
-use Rattle.demands.specs.Vocabulary.{◌≡◌, ℕ, ◌≤◌, ◌<◌, ◌+◌, ◌/◌, given, ◌>>=◌, Answer, answer, max_links, Outcome, Search, ask, give}
+use Rattle.std.specs.Prelude.{◌≡◌, ◌≤◌, ◌<◌, ◌+◌, ◌/◌}
+use Rattle.demands.specs.Vocabulary.{ℕ, given, ◌>>=◌, Answer, answer, max_links, Outcome, Search, ask, give}
 use Rattle.demands.specs.Vocabulary.{new_search, IsReturned, IsLost, Values, values_of, halving, all_up, down, outcome_number}
 use Rattle.search.specs.Values.{checking}
 

@@ -1,6 +1,7 @@
 -- What demand 1 says of a call: which conditions it tries, each with its number and in which order, and that it is refused by the first
 -- that holds and by nothing else. What each condition says is in `Conditions`. Assumes nothing.
-use Rattle.demands.specs.Vocabulary.{◌≡◌, ◌↔◌, true, false, Bool, ◌&&◌, ◌||◌, List, ℕ, T, leb, In, given, refused, Answer, Conditions}
+use Rattle.std.specs.Prelude.{◌≡◌, ◌↔◌, ◌&&◌, ◌||◌}
+use Rattle.demands.specs.Vocabulary.{true, false, Bool, List, ℕ, T, leb, In, given, refused, Answer, Conditions}
 use Rattle.demands.specs.Vocabulary.{answer, NoneHolds, FirstHolds, Plant, reading, console_out_of_range}
 
 -- the numbers of refusals: 1 to 8, and 10 to 21

@@ -1,5 +1,6 @@
 -- Demand 1: a refusal changes no lent buffer, and no lent desk. Each field is the definition of what is left read aloud.
-use Rattle.demands.specs.Vocabulary.{◌≡◌, List, ℕ, refused, Answer, answer, Plant, writing, buffer_after, Outcome, rewriting}
+use Rattle.std.specs.Prelude.{◌≡◌}
+use Rattle.demands.specs.Vocabulary.{List, ℕ, refused, Answer, answer, Plant, writing, buffer_after, Outcome, rewriting}
 use Rattle.demands.specs.Vocabulary.{rereading, trailing, round_trailing, buying, rewritten, laid_out, bought_out, round_laid_out, Desk}
 use Rattle.demands.specs.Vocabulary.{new_set, start, outcome, serving, served}
 

@@ -1,4 +1,5 @@
--- The words that the promises are said in, each from the file that defines it, by subject. A file of promises takes its words from here.
+-- The words that the promises are said in, each from the file that defines it, by subject. A file of promises takes its words from here, and its operators
+-- from the library itself.
 
 -- ---- lists, numbers and logic
 pub use Rattle.std.specs.Prelude.{◌≡◌, ◌⊎◌, ◌↔◌, true, false, not, Bool, ◌&&◌, ◌||◌, ℕ, suc, ◌≤◌, ◌<◌, ◌+◌, ◌*◌, ◌-◌, ◌/◌, ◌%◌, ◌^◌, T, ltb, leb, length, drop, get_or, take, replicate}
