@@ -115,7 +115,8 @@ fn through(t: &mut [[u8; Plant::PLACES]; Plant::PLACES], s: u8, k: usize)
     let mut i: usize = 0;
     while i < m {
         let d = t[i][k];
-        if d < s {
+        let near = d < s;
+        if near {
             t[i] = by_way(t[i], on, d);
         }
         i += 1;
