@@ -174,23 +174,24 @@ def plain_clause(m):
 
 
 def respell(text, names, path):
-    """The text with each of the words of `names` in its new spelling. What stands behind `c.` in a proof that walks the code is a name of src/."""
+    """The text with each of the words of `names` in its new spelling. A word of GIVEN without a hump may be a name of src/ too: it stays there, and behind a dot in a proof that walks the code."""
     walk = path.endswith("/Proof.antt")
     source = path.endswith(".rt")
     skip = from_library(text)
-    paths = [m.span() for m in re.finditer(r"Rattle\.[^\s{]*", text)]
-    in_path = set()
-    for a, b in paths:
-        in_path.update(range(a, b))
+    in_path = {i for m in re.finditer(r"Rattle\.[^\s{]*", text) for i in range(*m.span())}
+
+    def in_comment(w):
+        return names.get(w[0], w[0]) if w[0] not in GIVEN or HUMP.search(w[0]) else w[0]
 
     def one(m):
         t = m[0]
         if m.start() in in_path or t.startswith('"') or t in skip:
             return t
         if t.startswith("--") or source and t.startswith("//"):
-            return re.sub(NAME, lambda w: names.get(w[0], w[0]) if w[0] not in GIVEN or HUMP.search(w[0]) else w[0], t)
-        if t in GIVEN and not HUMP.search(t) and (source or walk and m.start() and text[m.start() - 1] == "." and t != "buffer_after"):
-            return t if t != "buffer_after" else names[t]
+            return re.sub(NAME, in_comment, t)
+        behind_a_dot = m.start() and text[m.start() - 1] == "."
+        if t in GIVEN and t != "buffer_after" and not HUMP.search(t) and (source or walk and behind_a_dot):
+            return t
         return names.get(t, t)
 
     return (re.compile(r"//[^\n]*|" + TOKEN.pattern) if source else TOKEN).sub(one, text)
