@@ -35,6 +35,15 @@ pub struct Chains {
     pub after: [u16; Plant::LABELS],
 }
 
+// A network as the functions of the trail take it: its sizes, the ends of its arcs, the chains of its arcs in use, and the fewest hops over these from each switch to each.
+#[derive(Clone, Copy)]
+pub struct Network {
+    pub net: Net,
+    pub ends: ArcEnds,
+    pub chains: Chains,
+    pub hops: [[u8; Plant::PLACES]; Plant::PLACES],
+}
+
 // How far a visit from `root` has come: `next` switches are visited, `seen` tells which, `rank` numbers them from 0 in the order of the visit, and `entered` tells
 // by which links they were entered.
 #[derive(Clone, Copy)]
