@@ -7,7 +7,7 @@ ghost use Rattle.plant.specs.Links.{zero_link, plant_with, side};
 
 // A two-way link between two switches, with its cable tag. Label 2 * l crosses link l from its first end to its second, and 2 * l + 1 crosses it back. A link can be
 // out of service (document 02, order 7: laid up): it keeps its number and its labels, and joins nothing.
-#[derive(Clone, Copy)]
+#[derive(Clone, Copy, Debug, PartialEq, Eq)]
 pub struct Link {
     pub first: u8,
     pub second: u8,
@@ -16,7 +16,7 @@ pub struct Link {
 }
 
 // Switches are numbered from 0, and so are links. `count` places of `links` are in use; the others are zero.
-#[derive(Clone, Copy)]
+#[derive(Clone, Copy, Debug, PartialEq, Eq)]
 pub struct Plant {
     pub switches: u8,
     pub count: u16,
