@@ -69,7 +69,7 @@ impl Plant {
         }
     }
 
-    // One switch and no link: the plant of the listing `00`, and the plant part of a refused reading.
+    // One switch and no link: the plant of the listing `00`.
     pub fn empty() -> Plant
         ensures { result ≡ plant_with Plant.MAX_LINKS 1 0 0 }
     {
@@ -81,20 +81,14 @@ impl Plant {
 pub fn tail_of(l: Link, a: usize) -> u8
     ensures { result ≡ side (a % 2) l.first l.second }
 {
-    if a % 2 == 0 {
-        return l.first;
-    }
-    l.second
+    if a % 2 == 0 { l.first } else { l.second }
 }
 
 // The switch that it reaches.
 pub fn head_of(l: Link, a: usize) -> u8
     ensures { result ≡ side (a % 2) l.second l.first }
 {
-    if a % 2 == 0 {
-        return l.second;
-    }
-    l.first
+    if a % 2 == 0 { l.second } else { l.first }
 }
 
 // Is the link in service?
@@ -104,7 +98,7 @@ pub fn in_service(l: Link) -> bool
     !l.out_of_service
 }
 
-// The limits as numbers, for definitions of the crates above: their contracts ask each constant its value.
+// The limits as numbers, for definitions of the crates above. Each is a function of its own, since its contract asks the constant its value.
 pub fn most_switches() -> u8
     ensures { result ≡ Plant.MAX_SWITCHES }
 {
