@@ -77,7 +77,8 @@ fn through(t: &mut [[u8; Plant::PLACES]; Plant::PLACES], s: u8, k: usize)
     let on = t[k];
     for i in 0..s as usize {
         let d = t[i][k];
-        if d < s {
+        let near = d < s;
+        if near {
             t[i] = by_way(t[i], on, d);
         }
     }
@@ -96,7 +97,8 @@ pub fn distances(
     let mut t = diagonal(adjacent(net, ends, used));
     let left = left_by(net, ends, used);
     for k in 0..net.switches as usize {
-        if left[k] {
+        let way = left[k];
+        if way {
             through(&mut t, net.switches, k);
         }
     }

@@ -2,7 +2,6 @@
 use Rattle.std.proofs.Common.{◌≡◌, ◌+◌, ◌<◌, sym, subst, arith}
 use Rattle.lists.specs.Arrays.{flag, at}
 use Rattle.lists.proofs.Tests.{true_T}
-use Rattle.limits.specs.Limits.{max_switches}
 use Rattle.distance.specs.Ways.{Near}
 use Rattle.distance.proofs.Between.{near_none, near_pass, near_put}
 use Rattle.distance.proofs.adjacent.Goals as goal

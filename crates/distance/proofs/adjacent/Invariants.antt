@@ -1,7 +1,5 @@
 -- The arcs in use below a are laid into the table.
-use Rattle.std.proofs.Common.{◌≡◌, ℕ, ◌<◌, replicate}
 use Rattle.lists.specs.Arrays.{flag, at}
-use Rattle.limits.specs.Limits.{max_switches}
 use Rattle.distance.specs.Ways.{Near}
 use Rattle.distance.proofs.adjacent.Given as goal
 
