@@ -28,7 +28,8 @@ pub struct ArcEnds {
     pub heads: [u8; Plant::LABELS],
 }
 
-// The first arc of each switch, and after each arc the next of the same switch, by rising label. The number of labels stands for none.
+// The first arc of each switch, and after each arc the next of the same switch, by rising label. The number of labels stands for none, as in the chains' definition
+// (specs/Chains.antt): a label from there on ends a chain.
 #[derive(Clone, Copy)]
 pub struct Chains {
     pub first: [u16; Plant::PLACES],
@@ -75,11 +76,7 @@ pub struct AllLegs {
 pub fn net_from(net: Net, root: u8) -> Net
     ensures { result ≡ rooted net root }
 {
-    Net {
-        switches: net.switches,
-        labels: net.labels,
-        root,
-    }
+    Net { root, ..net }
 }
 
 // The switch that each arc leaves, and the one that it reaches.
@@ -89,32 +86,25 @@ pub fn ends_of(p: Plant) -> ArcEnds
 {
     let mut tails = [0u8; Plant::LABELS];
     let mut heads = [0u8; Plant::LABELS];
-    let n = 2 * p.count as usize;
-    let mut a: usize = 0;
-    while a < n {
+    for a in 0..2 * usize::from(p.count) {
         let l = p.links[a / 2];
         tails[a] = tail_of(l, a);
         heads[a] = head_of(l, a);
-        a += 1;
     }
     ArcEnds { tails, heads }
 }
 
-// E, the number of links in service. What is no place of a plant has no mark.
+// E, the number of links in service: all but the marked ones. What is no place of a plant has no mark.
 pub fn links_in_service(p: Plant) -> u16
     ensures { result ≡ live_links p }
 {
-    let n = p.count;
-    let mut e: u16 = 0;
-    let mut l: u16 = 0;
-    while l < n {
-        let i = l as usize;
-        if Plant::MAX_LINKS <= i || in_service(p.links[i]) {
-            e += 1;
-        }
-        l += 1;
-    }
-    e
+    let marked = p
+        .links
+        .iter()
+        .take(usize::from(p.count))
+        .filter(|l| !in_service(**l))
+        .count();
+    p.count - marked as u16
 }
 
 // A flag for each label: is its link in service?
@@ -122,12 +112,9 @@ pub fn all_arcs(p: Plant) -> [bool; Plant::LABELS]
     requires { Sound p }
     ensures { AllArcs p result }
 {
-    let n = 2 * p.count as usize;
     let mut r = [false; Plant::LABELS];
-    let mut a: usize = 0;
-    while a < n {
+    for a in 0..2 * usize::from(p.count) {
         r[a] = in_service(p.links[a / 2]);
-        a += 1;
     }
     r
 }
@@ -147,11 +134,9 @@ pub fn chains_of(tails: &[u8; Plant::LABELS], flags: &[bool; Plant::LABELS], n: 
 {
     let mut first = [n; Plant::PLACES];
     let mut after = [n; Plant::LABELS];
-    let mut a = n as usize;
-    while 0 < a {
-        a -= 1;
+    for a in (0..usize::from(n)).rev() {
         if flags[a] {
-            let x = tails[a] as usize;
+            let x = usize::from(tails[a]);
             after[a] = first[x];
             first[x] = a as u16;
         }
