@@ -6,6 +6,6 @@ pub returns-then-bit-eq0 : goal.returns-then-bit-eq0
 unfolding taken
 returns-then-bit-eq0 c = (simp (eq-eqb _ _ c.if-bit-eq0.true), omega arith)
 
-pub returns : goal.returns
+pub returns-else-bit-eq0 : goal.returns-else-bit-eq0
 unfolding taken
-returns c = (simp (ne_eqb _ _ c.if-bit-eq0.false), c.requires)
+returns-else-bit-eq0 c = (simp (ne_eqb _ _ c.if-bit-eq0.false), c.requires)
