@@ -14,18 +14,12 @@ pub fn links_at_each(p: Plant) -> [u16; Plant::PLACES]
     requires { Sound p }
     ensures { result ≡ map (links_at p) (range 0 max_switches) }
 {
-    let n = p.count as usize;
-    let mut counts = [0u16; Plant::PLACES];
-    let mut l: usize = 0;
-    while l < n {
-        let live = in_service(p.links[l]);
-        if live {
-            let first = p.links[l].first as usize;
-            let second = p.links[l].second as usize;
-            counts[first] += 1;
-            counts[second] += 1;
+    let mut counts = [0; Plant::PLACES];
+    for link in &p.links[..usize::from(p.count)] {
+        if in_service(*link) {
+            counts[usize::from(link.first)] += 1;
+            counts[usize::from(link.second)] += 1;
         }
-        l += 1;
     }
     counts
 }
