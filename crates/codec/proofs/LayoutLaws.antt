@@ -1,10 +1,10 @@
 -- The fields of a part from field i on, and the loops that only measure: what is left gives what the whole gives. Assumes nothing.
 use mathlib.Core.Path.{◌≡◌, refl}
 use mathlib.Core.List.{List}
-use Prim.Native.Nat.{ℕ, ◌+◌, ◌*◌, ◌/◌, ◌%◌, ◌^◌, ◌≤◌, ◌<◌}
+use Prim.Native.Nat.{ℕ, ◌+◌, ◌-◌, ◌*◌, ◌/◌, ◌%◌, ◌^◌, ◌≤◌, ◌<◌}
 use native.Mathlib.Nat.{pow-le-pow_right}
 use native.Mathlib.Omega.{arith}
-use lib.ListN.{length, get_or, drop, length-drop}
+use lib.ListN.{length, get_or, drop, length-drop, drop_of_length-le}
 use Rattle.std.proofs.lemmas.List.{drop_more, at_drop_more}
 use Rattle.lists.proofs.Members.{each_at}
 use Rattle.codec.specs.declared.Field.{Field}
@@ -35,15 +35,22 @@ module _ (fs : List Field) (i m : ℕ) (h : i < length fs) where
 abbrev pub MapFrom : List Field → List ℕ → ℕ → ℕ → Type 0
 MapFrom fs vs i m = m ≡ map_of (drop i fs) (drop i vs)
 
-module _ (fs : List Field) (vs : List ℕ) (i m : ℕ) (r : MapFrom fs vs (i + 1) m) where
+pub map_end : (fs : List Field) (vs : List ℕ) (i : ℕ) → length fs ≤ i → MapFrom fs vs i 0
+map_end fs vs i h = rw (drop_of_length-le fs {i = i} h) refl
+
+module _ (fs : List Field) (vs : List ℕ) (i m : ℕ) (r : MapFrom fs vs i m) (some : 0 < i) where
   -- before the last of at most eight bits there is room for one more in a byte
   pub map-room : length fs ≤ 8 → m < 2 ^ 7
   map-room few =
       omega (
         arith,
-        map_below (drop (i + 1) fs) (drop (i + 1) vs),
-        pow-le-pow_right {n = 2} (omega arith) {i = length (drop (i + 1) fs)} {j = 7} (simp length-drop (omega arith)),
+        r,
+        map_below (drop i fs) (drop i vs),
+        pow-le-pow_right {n = 2} (omega arith) {i = length (drop i fs)} {j = 7} (simp length-drop (omega arith)),
       )
 
-  pub map_next : (b : ℕ) → i < length fs → i < length vs → b ≡ is_given (field_at fs i) (get_or vs i 0) → MapFrom fs vs i (m * 2 + b)
-  map_next b h k e = let j : m * 2 + b ≡ b + 2 * m = omega arith in rw (drop_more fs i no_field h, drop_more vs i 0 k, j, e, r) refl
+  pub map_next : (b : ℕ) → i ≤ length fs → i ≤ length vs → b ≡ is_given (field_at fs (i - 1)) (get_or vs (i - 1) 0) → MapFrom fs vs (i - 1) (m * 2 + b)
+  map_next b h k e =
+      let n : i - 1 + 1 ≡ i = omega arith in
+      let j : m * 2 + b ≡ b + 2 * m = omega arith in
+      rw (drop_more fs (i - 1) no_field (omega arith), drop_more vs (i - 1) 0 (omega arith), n, j, e, r) refl
