@@ -8,11 +8,9 @@ ghost use Rattle.text.specs.Lines.{each};
 ghost use Rattle.text.specs.Laid.{Room, Laid};
 ghost use Rattle.sheet.specs.Columns.{line_columns};
 ghost use Rattle.sheet.specs.Page.{switch_line, total_line, buying_page, page_length};
-ghost use Rattle.sheet.specs.Answers.{no_counts};
 ghost use Rattle.sheet.specs.Shown.{ThreeDigits};
 ghost use Rattle.sheet.specs.Numbers.{numbers_of};
 
-use answers::Verdict;
 use columns::{LAST, LINE, LINKS, LINKS_END, RULES, SWITCH};
 use plant::Plant;
 
@@ -24,28 +22,6 @@ pub struct Sheet {
     pub links: [u16; Plant::PLACES],
     pub total: u16,
     pub quantity: u32,
-}
-
-// The counts that were read. At a refusal every number is zero.
-#[derive(Clone, Copy)]
-pub struct PageRead {
-    pub verdict: Verdict,
-    pub sheet: Sheet,
-}
-
-impl Sheet {
-    // No counts.
-    pub fn none() -> Sheet
-        ensures { result ≡ no_counts }
-    {
-        Sheet {
-            switches: 0,
-            rules: [0; Plant::PLACES],
-            links: [0; Plant::PLACES],
-            total: 0,
-            quantity: 0,
-        }
-    }
 }
 
 // What follows the first field of a line: two numbers, spaces and the line's end.
@@ -88,12 +64,9 @@ fn put_switches(s: Sheet, buf: &mut [u8]) -> usize
     requires s_in_bounds { page_length s ≤ length buf.old }
     ensures { Laid buf.old 0 (each (switch_line s) (range 0 s.switches)) buf.new result }
 {
-    let n = s.switches as usize;
     let mut next: usize = 0;
-    let mut x: usize = 0;
-    while x < n {
+    for x in 0..usize::from(s.switches) {
         next = put_switch(s, x, buf, next);
-        x += 1;
     }
     next
 }
