@@ -14,50 +14,39 @@ ghost use Rattle.arcs.specs.Shows.{Visits, TellsAll};
 ghost use Rattle.arcs.specs.Flags.{Flags, count_set};
 ghost use Rattle.uses.specs.Inner.{is_taken, taken_by};
 
-use arcs::Visited;
+use arcs::{ArcEnds, Visited};
 use plant::{Plant, in_service};
 
 // Is an arc taken whose tail and head the visit numbered so? Of a link with two both arcs are; of another entered link, the arc from earlier to later visited; of every
 // other link, the arc from later to earlier.
+#[tactic(auto, unfolding(crate::specs::Inner::is_taken))]
 fn taken(two: bool, entered: bool, tail: u8, head: u8) -> bool
     ensures { result ≡ is_taken two entered tail head }
 {
-    if two {
-        return true;
-    }
-    if entered {
-        return tail < head;
-    }
-    head < tail
+    two || if entered { tail < head } else { head < tail }
 }
 
 // A flag for each label: is its arc taken, where these links have two?
 fn arcs_taken(
     p: Plant,
-    tails: &[u8; Plant::LABELS],
-    heads: &[u8; Plant::LABELS],
+    ends: &ArcEnds,
     v: Visited,
     two: &[bool; Plant::MAX_LINKS],
 ) -> [bool; Plant::LABELS]
     requires sound { Sound p }
-    requires ends { Ends p tails.now heads.now }
+    requires ends { Ends p ends.now.tails ends.now.heads }
     ensures { Flags (2 * max_links) (taken_by p v (flag two.now)) result }
 {
     let mut u = [false; Plant::LABELS];
-    let n = p.count as usize;
-    let mut l: usize = 0;
-    while l < n {
-        let x = tails[2 * l] as usize;
-        let y = heads[2 * l] as usize;
+    for l in 0..p.count as usize {
+        let x = ends.tails[2 * l] as usize;
+        let y = ends.heads[2 * l] as usize;
         if in_service(p.links[l]) && v.seen[x] {
-            let both = two[l];
-            let entered = v.entered[l];
             let i = v.rank[x];
             let j = v.rank[y];
-            u[2 * l] = taken(both, entered, i, j);
-            u[2 * l + 1] = taken(both, entered, j, i);
+            u[2 * l] = taken(two[l], v.entered[l], i, j);
+            u[2 * l + 1] = taken(two[l], v.entered[l], j, i);
         }
-        l += 1;
     }
     u
 }
@@ -65,47 +54,32 @@ fn arcs_taken(
 // A flag for each label: is its arc in use? Both arcs of a bridge are: the flags of the bridges are given.
 pub fn arcs_in_use(
     p: Plant,
-    tails: &[u8; Plant::LABELS],
-    heads: &[u8; Plant::LABELS],
+    ends: &ArcEnds,
     v: Visited,
     b: &[bool; Plant::MAX_LINKS],
 ) -> [bool; Plant::LABELS]
     requires sound { Sound p }
-    requires ends { Ends p tails.now heads.now }
+    requires ends { Ends p ends.now.tails ends.now.heads }
     requires tells_all { TellsAll p v }
     requires flags { Flags max_links (bridge p) b.now }
     ensures { Flags (2 * max_links) (used p) result }
 {
-    arcs_taken(p, tails, heads, v, b)
+    arcs_taken(p, ends, v, b)
 }
 
 // A flag for each label: is it the one by which the round trail crosses its link first? No link has two of them.
-pub fn leading_arcs(
-    p: Plant,
-    tails: &[u8; Plant::LABELS],
-    heads: &[u8; Plant::LABELS],
-    v: Visited,
-) -> [bool; Plant::LABELS]
+pub fn leading_arcs(p: Plant, ends: &ArcEnds, v: Visited) -> [bool; Plant::LABELS]
     requires sound { Sound p }
-    requires ends { Ends p tails.now heads.now }
+    requires ends { Ends p ends.now.tails ends.now.heads }
     requires visits { Visits p v.root v }
     ensures { Flags (2 * max_links) (leading_from p v.root) result }
 {
-    let none = [false; Plant::MAX_LINKS];
-    arcs_taken(p, tails, heads, v, &none)
+    arcs_taken(p, ends, v, &[false; Plant::MAX_LINKS])
 }
 
 // How many flags are set?
 pub fn count_set(flags: &[bool]) -> usize
     ensures { result ≡ count_set flags.now }
 {
-    let mut n: usize = 0;
-    let mut i: usize = 0;
-    while i < flags.len() {
-        if flags[i] {
-            n += 1;
-        }
-        i += 1;
-    }
-    n
+    flags.iter().filter(|f| **f).count()
 }

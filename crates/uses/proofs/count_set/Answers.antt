@@ -1,33 +1,18 @@
--- A set flag is counted, and no other.
-use Rattle.std.proofs.Common.{◌≡◌, ℕ, ◌+◌, length, refl, sym, ap, ◌∙◌, arith}
-use Rattle.lists.specs.Arrays.{flag}
-use Rattle.lists.specs.Count.{count}
-use Rattle.lists.proofs.Count.{count-all}
-use Rattle.lists.proofs.Stepwise.{count_yes, count_no}
-use Rattle.arcs.specs.Flags.{count_set}
+-- The flags that are left by the filter are the set ones.
+use Rattle.std.proofs.Common.{rules, ◌≡◌, Bool, length, sym, ◌∙◌}
+use borrow.Author.Tests.{tests}
+use Rattle.std.specs.List.{filter}
+use Rattle.std.proofs.lemmas.Iterator.{YieldsList-from_slice}
+use Rattle.std.proofs.lemmas.Iterator.Consumers.{YieldsList-from_filter, YieldsList-at, count_from_yields_List}
+use Rattle.std.proofs.lemmas.List.Sums.{length-filter}
+use Rattle.arcs.proofs.Counted.{set-counted}
 use Rattle.uses.proofs.count_set.Goals as goal
-use Rattle.uses.proofs.count_set.Goals.{then-flags-i, else-flags-i}
-
-pub loop-i-init : goal.loop-i-init
-unfolding count
-loop-i-init c = (omega arith, refl)
-
-pub overflow_add-n : goal.overflow_add-n
-overflow_add-n c = omega (arith, c.loop-i.invariant, count-all c.loop-i.i (flag c.args.flags.now))
-
-pub loop-i-preserved : goal.loop-i-preserved
-loop-i-preserved c =
-    let k = c.loop-i in
-    let f = flag c.args.flags.now in (
-      omega arith,
-      elim c.if-flags-i.branch [
-        | then-flags-i w ↦ w.n-is ∙ ap (λ (m : ℕ). m + 1) k.invariant.1 ∙ sym (count_yes f k.i w.if-flags-i.true)
-        | else-flags-i w ↦ w.n-is ∙ k.invariant.1 ∙ sym (count_no f k.i w.if-flags-i.false)
-      ],
-    )
 
 pub returns : goal.returns
-unfolding count_set
 returns c =
-    let all : c.loop-i.i ≡ length c.args.flags.now = omega arith in
-    c.loop-i.invariant.1 ∙ ap (λ (m : ℕ). count m (flag c.args.flags.now)) all
+    let flags = c.args.flags.now in
+    let counted : c.count.result ≡ length (filter (λ (b : Bool). b) flags) =
+    count_from_yields_List c.filter.result _ c.count.ensures.ran
+    (YieldsList-from_filter _ (λ (b : Bool). b) (YieldsList-at c.filter.ensures.source (YieldsList-from_slice flags (cc))) c.filter.ensures.closure
+    (λ x r q k. search (rules, tests))) in
+    counted ∙ length-filter (λ (b : Bool). b) flags ∙ sym (set-counted flags)

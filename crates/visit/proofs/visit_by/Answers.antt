@@ -4,7 +4,7 @@ use Rattle.visit.proofs.Whole.{begin-at, tried, whole}
 use Rattle.visit.proofs.visit_by.Goals as goal
 
 pub visit_from-requires-clause-some_arcs : goal.visit_from-requires-clause-some_arcs
-visit_from-requires-clause-some_arcs c = tried _ c.requires.sound c.args.heads.now c.requires.heads_value c.requires.all_chained
+visit_from-requires-clause-some_arcs c = tried _ c.requires.sound c.args.ends.now.heads c.requires.heads_value c.requires.all_chained
 
 pub visit_from-requires-clause-at : goal.visit_from-requires-clause-at
 visit_from-requires-clause-at c = rw c.begin.ensures (begin-at _ (omega (arith, c.requires.sound.few_switches, c.requires.root_lt_switches)))
@@ -12,4 +12,4 @@ visit_from-requires-clause-at c = rw c.begin.ensures (begin-at _ (omega (arith, 
 pub returns : goal.returns
 returns c =
     let h = c.requires in
-    whole _ h.sound c.args.heads.now h.heads_value _ h.root_lt_switches _ (rw c.begin.ensures at (c.visit_from.ensures (tried _ h.sound c.args.heads.now h.heads_value h.all_chained)))
+    whole _ h.sound c.args.ends.now.heads h.heads_value _ h.root_lt_switches _ (rw c.begin.ensures at (c.visit_from.ensures (tried _ h.sound c.args.ends.now.heads h.heads_value h.all_chained)))
