@@ -38,6 +38,25 @@ module _ {A B C : Type 0} (f : A → B) (c : Checked B) (r : Result A Refusal) (
     pub err_giving : (k : Refusal) → r ≡ Err k → answer (c giving g) ≡ refused (number_of k)
     err_giving k e = refuses_so c g (number_of k) (err_refused f (answer c) r q k e)
 
+-- ---- a `?` between two calls: what the first gives is what the second is about, and a refusal of the first is that of both
+
+module _ {B C : Type 0} (c : Checked B) where
+  module _ (g : B → Checked C) where
+    pub try_given : (b : Answer C) (x : B) → given x ≡ answer c → b ≡ answer (g x) → b ≡ answer (c then g)
+    try_given b x e h = h ∙ sym (goes_on c g x (sym e))
+
+    pub try_refused : {A : Type 0} (f : A → C) (r : Result A Refusal) (k : Refusal) → IsErrAnd r (λ e. e ≡ k) → refused (number_of k) ≡ answer c
+        → answer_as f r ≡ answer (c then g)
+    try_refused f r k m e = exit f r k m ∙ sym (stops c g (number_of k) (sym e))
+
+  module _ (g : B → C) where
+    pub try_giving : (y : C) (x : B) → given x ≡ answer c → y ≡ g x → given y ≡ answer (c giving g)
+    try_giving y x e h = ap given h ∙ sym (gives_so c g x (sym e))
+
+    pub try_no_giving : {A : Type 0} (f : A → C) (r : Result A Refusal) (k : Refusal) → IsErrAnd r (λ e. e ≡ k) → refused (number_of k) ≡ answer c
+        → answer_as f r ≡ answer (c giving g)
+    try_no_giving f r k m e = exit f r k m ∙ sym (refuses_so c g (number_of k) (sym e))
+
 -- ---- conditions
 
 module _ (cs : Conditions) (r : Result Unit Refusal) (j : Judges cs r) where

@@ -15,7 +15,7 @@ returns-then-too_few c = holds 13 _ _ (sym c.too_few.ensures ∙ c.if-too_few.tr
 
 pub run_on-requires-clause-can_run : goal.run_on-requires-clause-can_run
 run_on-requires-clause-can_run c =
-    can_run c.args.x.plant c.requires.sound _ _ c.requires.used_are (states-enough _ _ (sym c.too_few.ensures ∙ c.if-too_few.false))
+    can_run c.args.plan.now.plant c.requires.sound _ _ c.requires.used_are (states-enough _ _ (sym c.too_few.ensures ∙ c.if-too_few.false))
 
 pub returns : goal.returns
 unfolding run_in
