@@ -9,17 +9,23 @@ use Rattle.lists.specs.Arrays.{flag, at}
 use Rattle.limits.specs.Limits.{max_links}
 use Rattle.routes.proofs.Distances.{route_hop, route_none}
 use Rattle.arcs.specs.declared.Net.{Net}
+use Rattle.arcs.specs.declared.Network.{Network}
+use Rattle.arcs.specs.Net.{rooted}
 use Rattle.arcs.specs.Table.{cell}
 use Rattle.arcs.specs.Parts.{Parts}
 use Rattle.arcs.specs.Legs.{route_in, hop_in, Joined}
 use Rattle.arcs.proofs.Ways.{way_size}
-use Rattle.trail.specs.Ways.{Way}
+use Rattle.trail.specs.Ways.{Way, Trailing}
+
+-- a way of a plan: on from another switch of it, or along its trail
+abbrev pub way_on : {x : Network} {u v : ℕ} (w : Way x u v) {a b : ℕ} → Joined (rooted x.net w.root) x.ends.tails x.ends.heads w.used w.parts.part a b → Way x a b
+way_on w j = record { root = w.root; used = w.used; parts = w.parts; joined = j }
+
+abbrev pub way_of : {x : Network} {root : ℕ} {legs : List ℕ} (w : Trailing x root legs) {a b : ℕ} → Joined (rooted x.net root) x.ends.tails x.ends.heads w.used w.parts.part a b → Way x a b
+way_of {root = root} w j = record { root = root; used = w.used; parts = w.parts; joined = j }
 
 module _ {net : Net} {heads first after : List ℕ} {t : List (List ℕ)} where
   module _ {tails : List ℕ} {used : List Bool} (p : Parts net tails heads used first after t) where
-    abbrev pub way_of : {u v : ℕ} → Joined net tails heads used p.part u v → Way net heads first after t u v
-    way_of j = record { tails = tails; used = used; parts = p; joined = j }
-
     abbrev way : ℕ → ℕ → List ℕ
     way u v = route_in net tails heads used u v
 
