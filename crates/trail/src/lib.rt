@@ -70,7 +70,8 @@ fn compare_way(network: &Network, u: u8, to: u8, lent: &[u16], from: usize) -> O
     while x != to {
         let label = *lent.get(i)?;
         let a = hop(network, x, to);
-        if label != a {
+        let other = label != a;
+        if other {
             return None;
         }
         i += 1;

@@ -16,11 +16,11 @@ hop-a-requires c =
     let w = c.requires in
     way_on w (k.invariant w).0
 
-pub returns-then-label-a : goal.returns-then-label-a
-returns-then-label-a c w =
+pub returns-then-other : goal.returns-then-other
+returns-then-other c w =
     let k = c.loop-x in
     let got = c.in_ok-label.ensures.lookup.3 in
-    met_differs (k.invariant w).1 (over w.parts k.x _ _ (k.invariant w).0 c.loop-x-test.true (c.hop-a.ensures (way_on w (k.invariant w).0))).goes got.0 (λ e. c.if-label-a.true (got.1 0 ∙ e))
+    met_differs (k.invariant w).1 (over w.parts k.x _ _ (k.invariant w).0 c.loop-x-test.true (c.hop-a.ensures (way_on w (k.invariant w).0))).goes got.0 (λ e. c.if-other.true (got.1 0 ∙ e))
 
 pub bounds-network-a : goal.bounds-network-a
 bounds-network-a c =
@@ -39,7 +39,7 @@ loop-x-preserved c w =
     let k = c.loop-x in
     let got = c.in_ok-label.ensures.lookup.3 in
     let o = over w.parts k.x _ _ (k.invariant w).0 c.loop-x-test.true (c.hop-a.ensures (way_on w (k.invariant w).0)) in
-    (o.joined, met-one (k.invariant w).1 o.goes got.0 (sym (got.1 0) ∙ c.if-label-a.false))
+    (o.joined, met-one (k.invariant w).1 o.goes got.0 (sym (got.1 0) ∙ c.if-other.false))
 
 pub returns : goal.returns
 returns c w =
