@@ -9,7 +9,7 @@ use Rattle.bridges.proofs.bridges_of.Goals as goal
 use Rattle.bridges.proofs.bridges_of.Goals.{then-v-l, else-v-l}
 
 pub loop-l-init : goal.loop-l-init
-loop-l-init c = (omega arith, laid_none false max_links (λ j. flag c.args.v.entered j && not (flag c.covered_links-c.result j)))
+loop-l-init c = laid_none false max_links (λ j. flag c.args.v.entered j && not (flag c.covered_links-c.result j))
 
 pub returns : goal.returns
 returns c =
@@ -18,18 +18,16 @@ returns c =
     let alone : ℕ → Bool = λ j. flag c.args.v.entered j && not (flag c.covered_links-c.result j) in
     let same = bridge-flag h.sound h.tells_all c.covered_links-c.ensures in
     record {
-      places = k.invariant.1.places;
-      tells = λ i. laid_all false max_links alone k.l k.b k.invariant.1 (λ j g. same j ∙ bridge-past c.args.p j (omega (arith, c.loop-l-test.false))) i ∙ same i;
+      places = k.invariant.places;
+      tells = λ i. laid_all false max_links alone k.l k.b k.invariant (λ j g. same j ∙ bridge-past c.args.p j (omega (arith, c.loop-l-test.false))) i ∙ same i;
     }
 
 pub loop-l-preserved : goal.loop-l-preserved
 loop-l-preserved c =
     let k = c.loop-l in
     let alone : ℕ → Bool = λ j. flag c.args.v.entered j && not (flag c.covered_links-c.result j) in
-    let few : k.l < max_links = omega (arith, c.requires.sound.few_links, c.loop-l-test.true) in (
-      omega arith,
-      elim c.if-v-l.branch [
-        | then-v-l w ↦ rw w.b-is (laid_put false max_links alone k.l k.b k.invariant.1 _ few (rw w.if-v-l.true refl))
-        | else-v-l w ↦ rw w.b-is (laid_put false max_links alone k.l k.b k.invariant.1 _ few (rw w.if-v-l.false refl))
-      ],
-    )
+    let few : k.l < max_links = omega (arith, c.requires.sound.few_links, c.loop-l-test.true) in
+    elim c.if-v-l.branch [
+      | then-v-l w ↦ rw w.b-is (laid_put false max_links alone k.l k.b k.invariant _ few (rw w.if-v-l.true refl))
+      | else-v-l w ↦ rw w.b-is (laid_put false max_links alone k.l k.b k.invariant _ few (rw w.if-v-l.false refl))
+    ]

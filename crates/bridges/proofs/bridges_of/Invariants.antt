@@ -1,12 +1,9 @@
 -- The flags below l are laid.
-use Rattle.std.proofs.Common.{false, not, ◌&&◌, ◌-◌, ◌≤◌}
+use Rattle.std.proofs.Common.{false, not, ◌&&◌}
 use Rattle.lists.specs.Arrays.{flag}
 use Rattle.lists.proofs.Laid.{Laid}
 use Rattle.limits.specs.Limits.{max_links}
 use Rattle.bridges.proofs.bridges_of.Given as goal
 
 abbrev pub invariant-loop-l : goal.invariant-loop-l
-invariant-loop-l l = (l.l ≤ l.n) × Laid false max_links (λ j. flag l.v.entered j && not (flag l.c j)) l.l l.b
-
-abbrev pub decreases-loop-l : goal.decreases-loop-l
-decreases-loop-l l = l.n - l.l
+invariant-loop-l l = Laid false max_links (λ j. flag l.v.entered j && not (flag l.c j)) l.l l.b

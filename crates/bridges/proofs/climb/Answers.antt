@@ -9,7 +9,7 @@ pub loop-x-init : goal.loop-x-init
 loop-x-init c =
     let h = c.requires in
     let p = c.args.p in
-    rw (sym (first_end p c.args.tails.now h.ends.tails_are c.args.k), sym (second_end p c.args.heads.now h.ends.heads_are c.args.k)) at
+    rw (sym (first_end p c.args.ends.now.tails h.ends.tails_are c.args.k), sym (second_end p c.args.ends.now.heads h.ends.heads_are c.args.k)) at
     (climb_begin h.sound h.tells_all h.covered h.in_service h.not_entered)
 
 pub bounds-v-i : goal.bounds-v-i

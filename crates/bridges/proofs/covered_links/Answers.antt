@@ -1,12 +1,12 @@
 -- A link in service that was not entered closes a cycle, and no other does.
-use Rattle.std.proofs.Common.{sym, ◌∙◌, arith}
+use Rattle.std.proofs.Common.{sym, ◌∙◌}
 use Rattle.walks.proofs.Live.{live-listed}
 use Rattle.bridges.proofs.Cycles.{covered_none, pass_dead, pass_entered, covered_all}
 use Rattle.bridges.proofs.covered_links.Goals as goal
-use Rattle.bridges.proofs.covered_links.Goals.{then-in_service+then-not-v-k, then-in_service+else-not-v-k, else-in_service}
+use Rattle.bridges.proofs.covered_links.Goals.{then-in_service+then-not-v-k, else-in_service, else-in_service-via-then-in_service+else-not-v-k, else-in_service-via-else-in_service}
 
 pub loop-k-init : goal.loop-k-init
-loop-k-init c = (omega arith, covered_none c.requires.sound)
+loop-k-init c = covered_none c.requires.sound
 
 pub climb-requires-clause-in_service : goal.climb-requires-clause-in_service
 climb-requires-clause-in_service c = live-listed c.args.p c.loop-k.k c.loop-k-test.true ∙ sym c.in_service.ensures ∙ c.if-in_service.true
@@ -14,14 +14,14 @@ climb-requires-clause-in_service c = live-listed c.args.p c.loop-k.k c.loop-k-te
 pub loop-k-preserved : goal.loop-k-preserved
 loop-k-preserved c =
     let h = c.requires in
-    let k = c.loop-k in (
-      omega arith,
-      elim c.if-in_service.branch [
-        | then-in_service+then-not-v-k w ↦ rw w.c-is w.climb.ensures
-        | then-in_service+else-not-v-k w ↦ rw w.c-is (pass_entered h.sound k.invariant.1 h.tells_all w.if-not-v-k.false)
-        | else-in_service w ↦ rw w.c-is (pass_dead h.sound k.invariant.1 (live-listed c.args.p k.k c.loop-k-test.true ∙ sym c.in_service.ensures ∙ w.if-in_service.false))
-      ],
-    )
+    let k = c.loop-k in
+    elim c.if-in_service.branch [
+      | then-in_service+then-not-v-k w ↦ rw w.c-is w.climb.ensures
+      | else-in_service w ↦ rw w.c-is (elim w.else-in_service.branch [
+        | else-in_service-via-then-in_service+else-not-v-k w' ↦ pass_entered h.sound k.invariant h.tells_all w'.if-not-v-k.false
+        | else-in_service-via-else-in_service w' ↦ pass_dead h.sound k.invariant (live-listed c.args.p k.k c.loop-k-test.true ∙ sym c.in_service.ensures ∙ w'.if-in_service.false)
+      ])
+    ]
 
 pub returns : goal.returns
-returns c = covered_all c.requires.sound c.loop-k.invariant.1 c.loop-k-test.false
+returns c = covered_all c.requires.sound c.loop-k.invariant c.loop-k-test.false
