@@ -15,7 +15,7 @@ ghost use Rattle.visit.specs.Inner.{AllChained};
 ghost use Rattle.components.specs.Found.{Finds};
 ghost use Rattle.components.specs.Inner.{Renumbered, Apart, Covers};
 
-use arcs::Visited;
+use arcs::{ArcEnds, Chains, Visited};
 use plant::Plant;
 
 // The components: `count` of them with their roots, for each switch the number of its component, the bridges and the arcs in use.
@@ -47,22 +47,10 @@ fn join(a: [bool; Plant::MAX_LINKS], b: [bool; Plant::MAX_LINKS]) -> [bool; Plan
     ensures { Flags max_links (λ l. flag a l || flag b l) result }
 {
     let mut r = [false; Plant::MAX_LINKS];
-    let mut l: usize = 0;
-    while l < Plant::MAX_LINKS {
+    for l in 0..Plant::MAX_LINKS {
         r[l] = a[l] | b[l];
-        l += 1;
     }
     r
-}
-
-// The new number of a switch that is seen, and the old one of another.
-fn pick(seen: bool, new: u8, old: u8) -> u8
-    ensures { result ≡ choose seen new old }
-{
-    if seen {
-        return new;
-    }
-    old
 }
 
 // The new numbers of the switches that are seen, and the old ones of the others.
@@ -74,10 +62,8 @@ fn renumber(
     ensures { Renumbered seen new old result }
 {
     let mut r = [0u8; Plant::PLACES];
-    let mut x: usize = 0;
-    while x < Plant::PLACES {
-        r[x] = pick(seen[x], new[x], old[x]);
-        x += 1;
+    for x in 0..Plant::PLACES {
+        r[x] = if seen[x] { new[x] } else { old[x] };
     }
     r
 }
@@ -96,36 +82,22 @@ fn nothing() -> Forest
 }
 
 // With the component of one root more, which none of those found before reaches.
-fn with_component(
-    p: Plant,
-    heads: &[u8; Plant::LABELS],
-    first: &[u16; Plant::PLACES],
-    after: &[u16; Plant::LABELS],
-    f: Forest,
-    root: u8,
-) -> Forest
+fn with_component(p: Plant, ends: &ArcEnds, chains: &Chains, f: Forest, root: u8) -> Forest
     requires sound { Sound p }
-    requires heads_value { at heads.now ≡ head p }
-    requires all_chained { AllChained p first.now after.now }
+    requires heads_value { at ends.now.heads ≡ head p }
+    requires all_chained { AllChained p chains.now.first chains.now.after }
     requires root_lt_switches { root < p.switches }
     requires count_lt_max_switches { f.count < max_switches }
     ensures { (rs : List ℕ) → Covers p rs f → Apart p rs root → Covers p (rs ++ (root ∷ [])) result }
 {
-    let v = visit::visit_by(p, heads, first, after, root);
-    let k = f.count;
+    let v = visit::visit_by(p, ends, chains, root);
     let mut roots = f.roots;
-    roots[k as usize] = root;
-    let seen = v.seen;
-    let homes = f.home;
-    let home = renumber(seen, [k; Plant::PLACES], homes);
-    let new = v.rank;
-    let old = f.rank;
-    let rank = renumber(seen, new, old);
-    let before = f.entered;
-    let more = v.entered;
-    let entered = join(before, more);
+    roots[f.count as usize] = root;
+    let home = renumber(v.seen, [f.count; Plant::PLACES], f.home);
+    let rank = renumber(v.seen, v.rank, f.rank);
+    let entered = join(f.entered, v.entered);
     Forest {
-        count: k + 1,
+        count: f.count + 1,
         roots,
         home,
         rank,
@@ -134,41 +106,35 @@ fn with_component(
 }
 
 // The visits of all components: of the start's, and then of that of each switch which is in none before it.
-fn visit_all(
-    p: Plant,
-    heads: &[u8; Plant::LABELS],
-    first: &[u16; Plant::PLACES],
-    after: &[u16; Plant::LABELS],
-) -> Forest
+fn visit_all(p: Plant, ends: &ArcEnds, chains: &Chains) -> Forest
     requires sound { Sound p }
-    requires heads_value { at heads.now ≡ head p }
-    requires all_chained { AllChained p first.now after.now }
+    requires heads_value { at ends.now.heads ≡ head p }
+    requires all_chained { AllChained p chains.now.first chains.now.after }
     ensures { Covers p (roots p) result }
 {
-    let mut f = with_component(p, heads, first, after, nothing(), p.start);
-    let mut x: u8 = 0;
-    while x < p.switches {
-        let i = x as usize;
-        if f.home[i] == NONE {
-            f = with_component(p, heads, first, after, f, x);
+    let mut f = with_component(p, ends, chains, nothing(), p.start);
+    for x in 0..p.switches {
+        if f.home[x as usize] == NONE {
+            f = with_component(p, ends, chains, f, x);
         }
-        x += 1;
     }
     f
 }
 
 // The components of a plant. Its bridges and its arcs in use are read from the visits of all of them, in which every switch is seen.
-pub fn find(p: Plant, tails: &[u8; Plant::LABELS], heads: &[u8; Plant::LABELS]) -> Found
+pub fn find(p: Plant, ends: &ArcEnds) -> Found
     requires sound { Sound p }
-    requires ends { Ends p tails.now heads.now }
+    requires ends { Ends p ends.now.tails ends.now.heads }
     ensures { Finds p result }
 {
-    let c = visit::all_chains(p, tails);
-    let first = c.first;
-    let after = c.after;
-    let f = visit_all(p, heads, &first, &after);
-    let rank = f.rank;
-    let entered = f.entered;
+    let chains = visit::all_chains(p, ends);
+    let Forest {
+        count,
+        roots,
+        home,
+        rank,
+        entered,
+    } = visit_all(p, ends, &chains);
     let v = Visited {
         root: p.start,
         next: p.switches,
@@ -176,12 +142,10 @@ pub fn find(p: Plant, tails: &[u8; Plant::LABELS], heads: &[u8; Plant::LABELS]) 
         rank,
         entered,
     };
-    let bridges = bridges::bridges_of(p, tails, heads, v);
-    let used = uses::arcs_in_use(p, tails, heads, v, &bridges);
-    let roots = f.roots;
-    let home = f.home;
+    let bridges = bridges::bridges_of(p, ends, v);
+    let used = uses::arcs_in_use(p, ends, v, &bridges);
     Found {
-        count: f.count,
+        count,
         roots,
         home,
         bridges,

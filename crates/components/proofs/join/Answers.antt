@@ -6,9 +6,9 @@ use Rattle.limits.specs.Limits.{max_links}
 use Rattle.components.proofs.join.Goals as goal
 
 pub loop-l-init : goal.loop-l-init
-loop-l-init c = (omega arith, laid_none false max_links (λ i. flag c.args.a i || flag c.args.b i))
+loop-l-init c = laid_none false max_links (λ i. flag c.args.a i || flag c.args.b i)
 
 pub loop-l-preserved : goal.loop-l-preserved
 loop-l-preserved c =
     let k = c.loop-l in
-    (omega arith, laid_put false max_links (λ i. flag c.args.a i || flag c.args.b i) k.l k.r k.invariant.1 _ (omega arith) refl)
+    laid_put false max_links (λ i. flag c.args.a i || flag c.args.b i) k.l k.r k.invariant _ (omega arith) refl

@@ -1,5 +1,4 @@
 -- The numbers below x are laid.
-use Rattle.std.proofs.Common.{◌-◌, ◌≤◌}
 use Rattle.lists.specs.Arrays.{flag, at}
 use Rattle.lists.specs.Tests.{choose}
 use Rattle.lists.proofs.Laid.{Laid}
@@ -7,7 +6,4 @@ use Rattle.limits.specs.Limits.{max_switches}
 use Rattle.components.proofs.renumber.Given as goal
 
 abbrev pub invariant-loop-x : goal.invariant-loop-x
-invariant-loop-x l = (l.x ≤ max_switches) × Laid 0 max_switches (λ i. choose (flag l.seen i) (at l.new i) (at l.old i)) l.x l.r
-
-abbrev pub decreases-loop-x : goal.decreases-loop-x
-decreases-loop-x l = max_switches - l.x
+invariant-loop-x l = Laid 0 max_switches (λ i. choose (flag l.seen i) (at l.new i) (at l.old i)) l.x l.r
