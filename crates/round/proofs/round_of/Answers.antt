@@ -3,8 +3,8 @@ use Rattle.std.proofs.Common.{arith}
 use Rattle.round.proofs.Whole.{heads_in, tails_in, enters-once, hops-few, whole}
 use Rattle.round.proofs.round_of.Goals as goal
 
-pub chains_of-c-requires-clause-tails_in : goal.chains_of-c-requires-clause-tails_in
-chains_of-c-requires-clause-tails_in c = let h = c.requires in tails_in _ h.sound _ _ h.ends _ h.visits _ c.leading_arcs-leading.ensures
+pub chains_of-chains-requires-clause-tails_in : goal.chains_of-chains-requires-clause-tails_in
+chains_of-chains-requires-clause-tails_in c = let h = c.requires in tails_in _ h.sound _ _ h.ends _ h.visits _ c.leading_arcs-leading.ensures
 
 pub ways_back-up-requires-clause-enters_once : goal.ways_back-up-requires-clause-enters_once
 ways_back-up-requires-clause-enters_once c = let h = c.requires in enters-once _ h.sound _ _ h.ends _ h.visits _ c.leading_arcs-leading.ensures
@@ -21,5 +21,5 @@ overflow_mul-result c = let h = c.requires in omega (arith, c.count_set-links.en
 pub returns : goal.returns
 returns c =
     let h = c.requires in
-    whole _ h.sound _ _ h.ends _ h.visits _ c.leading_arcs-leading.ensures _ _ _ _ c.chains_of-c.ensures c.ways_back-up.ensures c.hops_after-next.ensures _ _
+    whole _ h.sound _ _ h.ends _ h.visits _ c.leading_arcs-leading.ensures _ _ _ _ c.chains_of-chains.ensures c.ways_back-up.ensures c.hops_after-next.ensures _ _
     (omega (arith, c.count_set-links.ensures)) c.or_back-begin.ensures
