@@ -1,14 +1,13 @@
 -- Tests tried one after the other, at numbers, at members and at a front, and the lines of a page and their numbers. Assumes nothing.
-use mathlib.Core.Path.{◌≡◌, refl, sym, ap, ap₂}
+use mathlib.Core.Path.{◌≡◌, refl, sym, ap}
 use mathlib.Core.Logic.{◌⊎◌, inl, inr}
-use mathlib.Core.Bool.{Bool, true, ◌&&◌}
+use mathlib.Core.Bool.{Bool, true}
 use mathlib.Core.List.{List, [], ◌∷◌}
 use Prim.Native.Nat.{ℕ, zero, suc, ◌+◌, ◌-◌, ◌*◌, ◌≤◌, ◌<◌}
 use native.Mathlib.Omega.{arith}
 use borrow.Author.Tests.{eq-eqb, eqb-true}
 use lib.Dec.{eqb}
 use lib.ListN.{length, take, drop}
-use Rattle.lists.specs.Members.{all}
 use Rattle.lists.specs.Arrays.{at}
 use Rattle.lists.specs.Numbers.{every}
 use Rattle.std.specs.List.{list_all, range_with_len, starts_with}
@@ -42,10 +41,6 @@ module _ (f : ℕ → Bool) where
   tried_all n =
       same_test (list_all f (range_with_len 0 n)) (every n f) (λ e. every_true n f (λ k h. each_passes 0 n e k (omega arith) (omega arith)))
       (λ e. all_pass 0 n (λ k _ h. T_true (f k) (every-at n f (true_T (every n f) e) k (omega arith))))
-
-pub all_same : (p q : ℕ → Bool) → ((x : ℕ) → p x ≡ q x) → (xs : List ℕ) → list_all p xs ≡ all q xs
-all_same p q h [] = refl
-all_same p q h (x ∷ xs) = ap₂ (λ (b c : Bool). b && c) (h x) (all_same p q h xs)
 
 pub eqb-swap : (a b : ℕ) → eqb a b ≡ eqb b a
 eqb-swap a b = same_test (eqb a b) (eqb b a) (λ e. eq-eqb b a (sym (eqb-true a b e))) (λ e. eq-eqb a b (sym (eqb-true b a e)))

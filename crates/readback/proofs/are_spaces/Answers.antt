@@ -3,7 +3,8 @@ use Rattle.std.proofs.Common.{rules, tests, eqb, ◌∙◌}
 use Rattle.std.proofs.lemmas.Iterator.{YieldsList-from_slice}
 use Rattle.std.proofs.lemmas.Iterator.Search.{all_from_yields_List}
 use Rattle.text.specs.Lines.{space}
-use Rattle.readback.proofs.Lines.{all_same, eqb-swap}
+use Rattle.columns.proofs.Fields.{all_same}
+use Rattle.readback.proofs.Lines.{eqb-swap}
 use Rattle.readback.proofs.are_spaces.Goals as goal
 
 pub returns : goal.returns
