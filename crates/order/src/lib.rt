@@ -1,7 +1,7 @@
 // The ring of an injection switch in a lent trail: its place, the order of links by first crossing, and the outward labels of a probe as parts of the trail. Inner: the calls are those of docs/CALLS.md.
 #![tactic(auto)]
 
-ghost use Rattle.std.specs.Prelude.{◌≡◌, ℕ, ◌+◌, ◌/◌, ◌≤◌, ◌<◌, length, get_or, take, drop};
+ghost use Rattle.std.specs.Prelude.{◌≡◌, ◌==◌, ℕ, ◌+◌, ◌/◌, ◌≤◌, ◌<◌, ◌++◌, length, take, drop, position};
 ghost use Rattle.lists.specs.Members.{In};
 ghost use Rattle.limits.specs.Limits.{max_links};
 ghost use Rattle.limits.specs.Sound.{Sound};
@@ -15,15 +15,15 @@ ghost use Rattle.order.specs.Span.{ring_span, span_of, shifted_by, stretch_of, f
 
 use plant::{Plant, tail_of};
 
-// Links by first crossing, `count` of them; the places past them are zero.
-#[derive(Clone, Copy)]
+// Links by first crossing, `count` of them; the places past them are zero. The array has a place for each link of any plant, since nothing is kept on a heap.
+#[derive(Clone, Copy, Debug, PartialEq, Eq)]
 pub struct Order {
     pub count: u16,
     pub links: [u16; Plant::MAX_LINKS],
 }
 
 // Where the outward labels of a probe stand in a lent trail: `len` labels from place `from` on, and then `front` labels from place `begin` on, where the trail begins.
-#[derive(Clone, Copy)]
+#[derive(Clone, Copy, Debug, PartialEq, Eq)]
 pub struct Span {
     pub from: usize,
     pub len: usize,
@@ -35,32 +35,16 @@ pub struct Span {
 pub fn place_of(p: Plant, s: u8, trail: &[u16]) -> usize
     requires sound { Sound p }
     requires over_arcs { OverArcs p trail.now }
-    ensures { result ≡ place_of p trail.now s }
+    ensures place { result ≡ place_of p trail.now s }
+    ensures in_trail { result ≤ length trail.now }
 {
-    let mut i: usize = 0;
-    while i < trail.len() {
-        let a = trail[i] as usize;
-        let l = p.links[a / 2];
-        if tail_of(l, a) == s {
+    for (i, a) in trail.iter().enumerate() {
+        let a = usize::from(*a);
+        if tail_of(p.links[a / 2], a) == s {
             return i;
         }
-        i += 1;
     }
-    i
-}
-
-// Label i of the trail read from place k to its end, then from its front.
-fn ring_label(trail: &[u16], k: usize, i: usize) -> u16
-    requires k_in_bounds { k ≤ length trail.now }
-    requires i_in_bounds { i < length trail.now }
-    ensures { result ≡ get_or (read_from k trail.now) i 0 }
-{
-    let rest = trail.len() - k;
-    if i < rest {
-        trail[k + i]
-    } else {
-        trail[i - rest]
-    }
+    trail.len()
 }
 
 // The links of the trail read from place k, each at its first crossing.
@@ -69,24 +53,19 @@ fn order_from(trail: &[u16], k: usize) -> Order
     requires by_index { (a : ℕ) → In a trail.now → a / 2 < max_links }
     ensures { result ≡ listed (order (read_from k trail.now)) }
 {
-    let mut links = [0u16; Plant::MAX_LINKS];
+    let mut links = [0; Plant::MAX_LINKS];
     let mut seen = [false; Plant::MAX_LINKS];
-    let mut n: usize = 0;
-    let mut i: usize = 0;
-    while i < trail.len() {
-        let l = ring_label(trail, k, i) / 2;
-        let j = l as usize;
-        if !seen[j] {
-            seen[j] = true;
-            links[n] = l;
-            n += 1;
+    let mut count: u16 = 0;
+    let (front, rest) = trail.split_at(k);
+    for a in rest.iter().chain(front.iter()) {
+        let l = *a / 2;
+        if !seen[usize::from(l)] {
+            seen[usize::from(l)] = true;
+            links[usize::from(count)] = l;
+            count += 1;
         }
-        i += 1;
     }
-    Order {
-        count: n as u16,
-        links,
-    }
+    Order { count, links }
 }
 
 // The order of links by first crossing from the place of switch s.
@@ -99,20 +78,23 @@ pub fn order_of(p: Plant, s: u8, trail: &[u16]) -> Order
     order_from(trail, k)
 }
 
+// The number of the first label that crosses link l, of the labels v and then w.
+fn crossing(v: &[u16], w: &[u16], l: u16) -> Option<usize>
+    ensures { result ≡ position (λ a. a / 2 == l) (v.now ++ w.now) }
+{
+    v.iter().chain(w.iter()).position(|a| *a / 2 == l)
+}
+
 // How many labels of the trail read from place k there are up to the first crossing of link l, with it; all if it is not crossed.
 fn out_to(trail: &[u16], k: usize, l: u16) -> usize
     requires { k ≤ length trail.now }
     ensures { result ≡ length (up_to l (read_from k trail.now)) }
 {
-    let mut i: usize = 0;
-    while i < trail.len() {
-        let a = ring_label(trail, k, i);
-        i += 1;
-        if a / 2 == l {
-            return i;
-        }
+    let (front, rest) = trail.split_at(k);
+    match crossing(rest, front, l) {
+        Some(i) => i + 1,
+        None => trail.len(),
     }
-    i
 }
 
 // Where the labels of the full check stand: the whole ring of switch s.
@@ -122,10 +104,9 @@ pub fn ring_span(p: Plant, s: u8, trail: &[u16]) -> Span
     ensures { result ≡ ring_span p trail.now s }
 {
     let k = place_of(p, s, trail);
-    let rest = trail.len() - k;
     Span {
         from: k,
-        len: rest,
+        len: trail.len() - k,
         begin: 0,
         front: k,
     }
@@ -144,20 +125,12 @@ pub fn span_of(p: Plant, s: u8, trail: &[u16], m: u16) -> Span
     let j = (m - 1) as usize;
     let l = o.links[j];
     let n = out_to(trail, k, l);
-    let rest = trail.len() - k;
-    if n <= rest {
-        return Span {
-            from: k,
-            len: n,
-            begin: 0,
-            front: 0,
-        };
-    }
+    let len = n.min(trail.len() - k);
     Span {
         from: k,
-        len: rest,
+        len,
         begin: 0,
-        front: n - rest,
+        front: n - len,
     }
 }
 
@@ -169,9 +142,8 @@ pub fn shifted(span: Span, by: usize) -> Span
 {
     Span {
         from: span.from + by,
-        len: span.len,
         begin: span.begin + by,
-        front: span.front,
+        ..span
     }
 }
 
@@ -179,15 +151,8 @@ pub fn shifted(span: Span, by: usize) -> Span
 pub fn part<'a>(trail: &'a [u16], k: usize, n: usize) -> &'a [u16]
     ensures { result.now ≡ take n (drop k trail.now) }
 {
-    let all = trail.len();
-    if all <= k {
-        return &trail[..0];
-    }
-    if all - k <= n {
-        return &trail[k..];
-    }
-    let to = k + n;
-    &trail[k..to]
+    let rest = &trail[k.min(trail.len())..];
+    &rest[..n.min(rest.len())]
 }
 
 // The stretch of a lent trail that the bounds name, as much of it as is there.

@@ -16,6 +16,7 @@ pub struct Rule {
     pub to: u8,
 }
 
+// `count` places of `rules` are in use; the others are zero. The array has a place for each rule of any plant, since nothing is kept on a heap.
 #[derive(Clone, Copy, Debug, PartialEq, Eq)]
 pub struct Table {
     pub count: u16,
