@@ -28,6 +28,11 @@ module _ {x : Network} {u v : ℕ} (w : Way x u v) where
   abbrev pub route_by : List ℕ
   route_by = route_in (rooted x.net w.root) x.ends.tails x.ends.heads w.used u v
 
+-- what is told of its next hop: which it is, or that the way is at its end
+abbrev pub NextHop : {x : Network} {u v : ℕ} → Way x u v → Option ℕ → Type 0
+NextHop {u = u} {v = v} w (Some a) = (u ≡ v → ⊥) × (a ≡ hop_by w)
+NextHop {u = u} {v = v} w None = u ≡ v
+
 -- the network is a plan from a root, and the legs are those of its trail
 pub record Trailing (x : Network) (root : ℕ) (legs : List ℕ) : Type 0 where
   pub used : List Bool

@@ -4,26 +4,29 @@
 
 ghost use Rattle.std.specs.Prelude.{◌≡◌, ◌+◌, ◌≤◌, length};
 ghost use Rattle.arcs.specs.Table.{cell};
-ghost use Rattle.trail.specs.Ways.{Way, hop_by, route_by, Trailing, Fitting, trail_by, Laid, TellsFrom};
+ghost use Rattle.trail.specs.Ways.{Way, NextHop, route_by, Trailing, Fitting, trail_by, Laid, TellsFrom};
 
 use arcs::Network;
 
-// The lowest label of an arc in use that leaves u and lessens the distance to `to`; the number of labels if there is none. Who goes a way asks for its hops alone, and has each.
-fn hop(network: &Network, u: u8, to: u8) -> u16
+// The next hop on the way from u to `to`: the lowest label of an arc in use that leaves u and lessens the distance left. There is none at `to` itself.
+fn hop(network: &Network, u: u8, to: u8) -> Option<u16>
     requires { Way network.now u to }
-    ensures { (w : Way network.now u to) → result ≡ hop_by w }
+    ensures { (w : Way network.now u to) → NextHop w result }
 {
+    if u == to {
+        return None;
+    }
     let j = to as usize;
     let d = network.hops[u as usize][j];
     let mut a = network.chains.first[u as usize];
     while a < network.net.labels {
         let y = network.ends.heads[a as usize] as usize;
         if network.hops[y][j] < d {
-            return a;
+            return Some(a);
         }
         a = network.chains.after[a as usize];
     }
-    a
+    None
 }
 
 // The way from u to `to` into the buffer from place `from` on; answers the place after it.
@@ -34,8 +37,7 @@ fn lay_way(network: &Network, u: u8, to: u8, buf: &mut [u16], from: usize) -> us
 {
     let mut at = from;
     let mut x = u;
-    while x != to {
-        let a = hop(network, x, to);
+    while let Some(a) = hop(network, x, to) {
         buf[at] = a;
         at += 1;
         x = network.ends.heads[a as usize];
@@ -67,9 +69,8 @@ fn compare_way(network: &Network, u: u8, to: u8, lent: &[u16], from: usize) -> O
 {
     let mut i = from;
     let mut x = u;
-    while x != to {
+    while let Some(a) = hop(network, x, to) {
         let label = *lent.get(i)?;
-        let a = hop(network, x, to);
         let other = label != a;
         if other {
             return None;
