@@ -7,9 +7,13 @@ use Rattle.limits.specs.Limits.{max_links}
 use Rattle.listing.specs.declared.header.Header.{Header}
 use Rattle.listing.specs.declared.Linked.{Linked}
 
--- where s is the listing: what was read, and the bytes after it. A header tells of the plant with no link yet
+-- the plant that a header tells of, with no link yet
+abbrev pub plant_of : Header → Plant
+plant_of h = plant_with max_links h.switches h.count h.start
+
+-- where s is the listing: what was read, and the bytes after it
 abbrev pub header_of : List ℕ → Header → Plant × List ℕ
-header_of s h = (plant_with max_links h.switches h.count h.start, drop h.next s)
+header_of s h = (plant_of h, drop h.next s)
 
 abbrev pub link_after : List ℕ → Link × ℕ → Link × List ℕ
 link_after s r = (r.0, drop r.1 s)

@@ -2,12 +2,10 @@
 #![tactic(auto)]
 
 ghost use Rattle.std.specs.Prelude.{◌≡◌, Bool, ℕ, drop};
-ghost use Rattle.plant.specs.Links.{plant_with};
 ghost use Rattle.answers.specs.Checks.{answer};
 ghost use Rattle.answers.specs.Results.{answer_as, answer_of};
-ghost use Rattle.limits.specs.Limits.{max_links};
 ghost use Rattle.listing.specs.Listing.{field, value_out_of_range, header_fields, link_fields, link_of, sound_link, header, link, linked, ended};
-ghost use Rattle.listing.specs.Steps.{header_of, link_after, linked_of};
+ghost use Rattle.listing.specs.Steps.{plant_of, header_of, link_after, linked_of};
 
 mod header;
 
@@ -109,7 +107,7 @@ fn read_link(s: &[u8], at: usize, before: Link, switches: u8) -> Result<(Link, u
 
 // The links from `at` on, after the header h: refusals 1 to 4, 6 and 7.
 pub fn read_links(s: &[u8], at: usize, h: Header) -> Result<Linked, Refusal>
-    ensures { answer_as (linked_of s.now) result ≡ answer (linked (plant_with max_links h.switches h.count h.start) (drop at s.now)) }
+    ensures { answer_as (linked_of s.now) result ≡ answer (linked (plant_of h) (drop at s.now)) }
 {
     let mut plant = Plant::with(h.switches, h.count, h.start);
     let mut before = Link::zero();
