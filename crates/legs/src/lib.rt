@@ -37,7 +37,8 @@ fn nearest(network: &Network, low: &[u16; Plant::PLACES], u: u8) -> Option<u16>
     best
 }
 
-// The first arc of each switch that a walk from the root reaches; none of any other switch. The table tells which these are.
+// The first arc of each switch that a walk from the root reaches; none of any other switch. The table tells which these are. The number of labels stands for none, as in the chains
+// whose labels these are.
 fn firsts_reached(network: &Network, root: u8) -> [u16; Plant::PLACES]
     requires { root < max_switches }
     ensures { Firsts network.now.net.switches network.now.net.labels root network.now.chains.first network.now.hops max_switches result }

@@ -16,7 +16,7 @@ use arcs::{ArcEnds, Chains, Visited, opposite};
 use plant::Plant;
 
 // A round trail: the number of its hops, the label of the first, and for each label that of the hop after it.
-#[derive(Clone, Copy)]
+#[derive(Clone, Copy, Debug, PartialEq, Eq)]
 pub struct Round {
     pub hops: u16,
     pub begin: u16,
@@ -33,7 +33,8 @@ struct Turns {
     chains: Chains,
 }
 
-// For each switch that is entered the arc by which the round trail goes back from it: the opposite of the one by which it is entered.
+// For each switch that is entered the arc by which the round trail goes back from it: the opposite of the one by which it is entered. The number of labels stands for none, as in
+// the chains.
 fn ways_back(t: &Turns) -> [u16; Plant::PLACES]
     requires n_bound { t.now.labels ≤ 2 * max_links }
     requires enters_once { EntersOnce t.now.labels t.now.heads t.now.leading t.now.entered }
@@ -49,7 +50,7 @@ fn ways_back(t: &Turns) -> [u16; Plant::PLACES]
     up
 }
 
-// The next leading arc, if there is one, or the way back.
+// The next leading arc, if there is one, or the way back. What ends a chain is the number of labels.
 fn or_back(next: u16, n: u16, up: u16) -> u16
     ensures { result ≡ or_back n next up }
 {
