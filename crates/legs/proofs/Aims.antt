@@ -180,7 +180,7 @@ module _ {x : Network} {root from : ℕ} (some : SomeParts x root from) (lent : 
       whole : rest from unmarked net.root ≡ all
       whole = let q : from + count n ok - from ≡ count n ok = omega arith in ap (λ (f : ℕ). legs S n tl hd ok net.root f unmarked net.root) q
 
-  module _ (low aims : List ℕ) (k hops u : ℕ) (found : Found low aims k hops u) where
+  module _ {low aims : List ℕ} {k hops u : ℕ} (found : Found low aims k hops u) where
     abbrev m : ℕ → Bool
     m = found.crossed
 
