@@ -1,4 +1,4 @@
--- The numbers of a plan: by the flags of its bridges and of its arcs in use, and the hops of its trails. Assumes charted parts, and of the numbers that they are measured.
+-- The numbers of a plan: by the flags of its bridges and of its arcs in use, and the hops of its trails. Assumes a charted plan, and of the numbers that it is measured.
 use mathlib.Core.Path.{◌≡◌, ◌∙◌}
 use mathlib.Core.Bool.{Bool}
 use mathlib.Core.List.{List}
@@ -24,7 +24,7 @@ use Rattle.uses.proofs.Uses.{flags_count}
 use Rattle.plan.specs.Plan.{table_of}
 use Rattle.plan.proofs.Plan as plant
 use Rattle.table.specs.Rules.{table_in}
-use Rattle.planning.specs.declared.Parts.{Parts}
+use Rattle.planning.specs.declared.Plan.{Plan}
 use Rattle.planning.specs.Plans.{Charted, OfPlant}
 use Rattle.planning.specs.Numbers.{numbers_of}
 
@@ -36,7 +36,7 @@ links-few p sound = omega (arith, count-all p.count (live p), sound.few_links)
 pub flags_same : {n : ℕ} {test : ℕ → Bool} {fs : List Bool} → Flags n test fs → flag fs ≡ test
 flags_same f = λ j a. f.tells a j
 
-module _ (x : Parts) (chart : Charted x) where
+module _ (x : Plan) (chart : Charted x) where
   abbrev p : Plant
   p = x.plant
 
@@ -53,12 +53,12 @@ module _ (x : Parts) (chart : Charted x) where
       (λ a h. not_true_false (used p a) (λ e. omega (arith, arc_below p a (used_arc p a (true_T (used p a) e)))))
 
   -- there is a place for each label and each rule
-  pub places-enough : (x.net.labels ≤ 2 * max_links) × (count x.net.labels (flag x.used) ≤ max_rules)
+  pub places-enough : (x.network.net.labels ≤ 2 * max_links) × (count x.network.net.labels (flag x.used) ≤ max_rules)
   unfolding arcs_used
   places-enough = (rw chart.net_is (omega (arith, chart.sound.few_links)), rw (chart.net_is, flags_same chart.used_are) (few-used p chart.sound))
 
   -- its forwarding table is the plant's
-  pub table_is : table_in x.net.labels (at x.tails) (at x.heads) (flag x.used) ≡ table_of p
+  pub table_is : table_in x.network.net.labels (at x.network.ends.tails) (at x.network.ends.heads) (flag x.used) ≡ table_of p
   table_is = let net = chart.net_is in rw net (plant.table_is p chart.ends.tails_are chart.ends.heads_are (flags_same chart.used_are))
 
   pub bridges-few : count_set x.bridges ≤ max_links
@@ -69,7 +69,7 @@ module _ (x : Parts) (chart : Charted x) where
   unfolding arcs_used
   rules-few = omega (arith, rules-are, count-all (2 * p.count) (used p), chart.sound.few_links)
 
-pub numbers-are : (x : Parts) (plan : OfPlant x) (n b u : ℕ) → n ≡ live_links x.plant → b ≡ count_set x.bridges → u ≡ count_set x.used
+pub numbers-are : (x : Plan) (plan : OfPlant x) (n b u : ℕ) → n ≡ live_links x.plant → b ≡ count_set x.bridges → u ≡ count_set x.used
     → record { switches = x.plant.switches; links = n; bridges = b; rules = u; hops = x.hops } ≡ numbers_of x.plant
 unfolding numbers_of
 numbers-are x plan n b u k e d = rw (k, e ∙ bridges_are x plan.charted, d ∙ rules-are x plan.charted, plan.measured.hops_are)

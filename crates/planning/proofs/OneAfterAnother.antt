@@ -12,7 +12,7 @@ use Rattle.lists.specs.Members.{In}
 use Rattle.lists.proofs.Members.{get_d_in}
 use Rattle.lists.proofs.Chained.{chained, chained-within}
 use Rattle.plant.specs.declared.Plant.{Plant}
-use Rattle.limits.specs.Limits.{max_switches}
+use Rattle.limits.specs.Limits.{max_switches, max_rules}
 use Rattle.limits.specs.Sound.{Sound}
 use Rattle.walks.specs.Components.{roots}
 use Rattle.walks.specs.Round.{round_from}
@@ -23,22 +23,20 @@ use Rattle.routes.specs.Plants.{trail_from}
 use Rattle.plan.specs.Plan.{trails_of, trail_of, rounds_of, round_of}
 use Rattle.plan.proofs.Rounds.{round-from}
 use Rattle.arcs.specs.declared.Net.{Net}
-use Rattle.arcs.specs.declared.Legs.{Legs}
 use Rattle.arcs.specs.declared.Visited.{Visited}
 use Rattle.arcs.specs.Net.{rooted}
 use Rattle.arcs.specs.Legs.{no_legs, LegsOf}
 use Rattle.arcs.specs.Shows.{Visits}
 use Rattle.arcs.specs.Table.{trail_in}
-use Rattle.trail.specs.declared.Compared.{Compared}
-use Rattle.trail.specs.declared.Compared.TheVariants.{Same, Other}
+use Rattle.std.specs.Prelude.{Option, Some, None}
 use Rattle.trail.specs.Filled.{filled_with, Tells}
 use Rattle.trail.specs.Ways.{Trailing, trail_by, Laid, TellsFrom}
 use Rattle.trail.proofs.Filled.{laid_none, laid_then, laid-long, laid-front, tells_none, tells_other, tells_then, tells-front}
 use Rattle.round.specs.declared.Round.{Round}
 use Rattle.round.specs.Round.{labels_of, Labels}
 use Rattle.round.proofs.Follow.{left-length}
-use Rattle.planning.specs.declared.Parts.{Parts}
-use Rattle.planning.specs.Plans.{used_flags, Placed, Charted, Laying}
+use Rattle.planning.specs.declared.Plan.{Plan}
+use Rattle.planning.specs.Plans.{used_flags, Charted, Laying, LegsAt}
 use Rattle.planning.proofs.Networks.{net_trail}
 use Rattle.planning.proofs.Laid.{own_net, net_parts, net_legs}
 
@@ -94,28 +92,28 @@ module _ (f : ℕ → List ℕ) (rs : List ℕ) where
   -- ---- compared with the list l, where v is the next list
 
   module _ (l : List ℕ) where
-    pub tells-begin : TellsFrom 0 l (first_of 0) (Same 0)
-    tells-begin = subst (λ (w : List ℕ). TellsFrom 0 l w (Same 0)) first-none (tells_none l 0)
+    pub tells-begin : TellsFrom 0 l (first_of 0) (Some 0)
+    tells-begin = subst (λ (w : List ℕ). TellsFrom 0 l w (Some 0)) first-none (tells_none l 0)
 
-    module _ (i j : ℕ) (t : TellsFrom 0 l (first_of i) (Same j)) where
-      module _ (h : i < length rs) (v : List ℕ) (e : v ≡ f (get_or rs i 0)) (r : Compared) (q : TellsFrom j l v r) where
+    module _ (i j : ℕ) (t : TellsFrom 0 l (first_of i) (Some j)) where
+      module _ (h : i < length rs) (v : List ℕ) (e : v ≡ f (get_or rs i 0)) (r : Option ℕ) (q : TellsFrom j l v r) where
         next : TellsFrom 0 l (first_of (i + 1)) r
         next = subst (λ (w : List ℕ). TellsFrom 0 l w r) (ap (λ (w : List ℕ). first_of i ++ w) e ∙ first_next i h) (tells_then l 0 (first_of i) v j t r q)
 
-        pub tells-next : (k : ℕ) → r ≡ Same k → TellsFrom 0 l (first_of (i + 1)) (Same k)
+        pub tells-next : (k : ℕ) → r ≡ Some k → TellsFrom 0 l (first_of (i + 1)) (Some k)
         tells-next k s = subst (TellsFrom 0 l (first_of (i + 1))) s next
 
-        pub tells_away : (all : List ℕ) → all ≡ chained f rs → r ≡ Other → Tells l all Other
+        pub tells_away : (all : List ℕ) → all ≡ chained f rs → r ≡ None → Tells l all None
         tells_away all is s =
-            subst (λ (w : List ℕ). TellsFrom 0 l w Other) (first_rest all is (i + 1))
+            subst (λ (w : List ℕ). TellsFrom 0 l w None) (first_rest all is (i + 1))
             (tells_other l 0 (first_of (i + 1)) (chained f (drop (i + 1) rs)) (subst (TellsFrom 0 l (first_of (i + 1))) s next))
 
-      pub tells_end : (all : List ℕ) → all ≡ chained f rs → length rs ≤ i → Tells l all (Same j)
-      tells_end all is h = tells-front l all (Same j) (subst (λ (w : List ℕ). TellsFrom 0 l w (Same j)) (first_all all is i h) t)
+      pub tells_end : (all : List ℕ) → all ≡ chained f rs → length rs ≤ i → Tells l all (Some j)
+      tells_end all is h = tells-front l all (Some j) (subst (λ (w : List ℕ). TellsFrom 0 l w (Some j)) (first_all all is i h) t)
 
 -- ---- components by number
 
-module _ {x : Parts} (c : Charted x) where
+module _ {x : Plan} (c : Charted x) where
   pub numbered : {i : ℕ} → i < x.count → i < length (roots x.plant)
   numbered h = omega (arith, c.count_is)
 
@@ -137,31 +135,27 @@ pub trails-chained : (p : Plant) → trail_of p ≡ chained (trail_from p) (root
 unfolding trails_of
 trails-chained p = refl
 
--- by the sizes of the network of component i
-module _ {x : Parts} {t : List (List ℕ)} (laying : Laying x t) {i : ℕ} (h : i < length (roots x.plant)) {net : Net} (e : net ≡ rooted x.net (at x.roots i)) where
+-- that of component i, by its network
+module _ {x : Plan} (laying : Laying x) {i : ℕ} (h : i < length (roots x.plant)) where
   abbrev r : ℕ
   r = get_or (roots x.plant) i 0
 
-  abbrev own : Legs
-  own = get_or x.legs.list i no_legs
+  pub placed : let own = get_or x.legs.list i no_legs in (own.from ≤ own.to) × (own.to ≤ max_rules)
+  placed = let l = net_legs x laying i h in (l.order, l.within)
 
-  pub placed : Placed own
-  placed = let l = net_legs x t laying i h net e in (l.order, l.within)
+  pub legs_at : {legs : List ℕ} → let own = get_or x.legs.list i no_legs in legs ≡ slice own.from own.to x.legs.aims → LegsAt x i legs
+  legs_at is = record { are = subst (LegsOf (rooted x.network.net (at x.roots i)) x.network.ends.tails x.network.ends.heads (used_flags x.plant r)) (sym is) (net_legs x laying i h).are }
 
   -- and its legs
-  module _ {legs : List ℕ} (is : legs ≡ slice own.from own.to x.legs.aims) where
-    pub trailing : Trailing net x.tails x.heads x.first x.after t legs
-    trailing = record {
-      used = used_flags x.plant r;
-      parts = net_parts x t laying i h net e;
-      legs_are = subst (LegsOf net x.tails x.heads (used_flags x.plant r)) (sym is) (net_legs x t laying i h net e).are;
-    }
+  module _ {legs : List ℕ} (own : LegsAt x i legs) where
+    pub trailing : Trailing x.network (at x.roots i) legs
+    trailing = record { used = used_flags x.plant r; parts = net_parts x laying i h; legs_are = own.are }
 
     pub trail_is : trail_by trailing ≡ trail_from x.plant r
     unfolding trailing
     trail_is =
-        ap (λ (n : Net). trail_in n x.tails x.heads (used_flags x.plant r)) (own_net x t laying i h net e)
-        ∙ net_trail x.plant laying.charted.sound x.tails x.heads laying.charted.ends r
+        ap (λ (n : Net). trail_in n x.network.ends.tails x.network.ends.heads (used_flags x.plant r)) (own_net x laying i h)
+        ∙ net_trail x.plant laying.charted.sound x.network.ends.tails x.network.ends.heads laying.charted.ends r
 
 -- ---- round trails
 
