@@ -24,31 +24,6 @@ pub const LINKS_END: usize = RULES_END + LINKS;
 
 pub const LAST: usize = LINE - 1;
 
-// The columns as numbers, for definitions of the crates above: their contracts ask each constant its value.
-pub fn switch_columns() -> usize
-    ensures { result ≡ SWITCH }
-{
-    SWITCH
-}
-
-pub fn rules_columns() -> usize
-    ensures { result ≡ RULES }
-{
-    RULES
-}
-
-pub fn links_columns() -> usize
-    ensures { result ≡ LINKS }
-{
-    LINKS
-}
-
-pub fn line_columns() -> usize
-    ensures { result ≡ LINE }
-{
-    LINE
-}
-
 // So many spaces.
 pub fn put_spaces(buf: &mut [u8], at: usize, n: usize) -> usize
     requires { Room buf.old at (spaces n) }
