@@ -7,3 +7,4 @@ pub mod Ways
 pub mod Ends
 pub mod Entered
 pub mod Counted
+pub mod Made

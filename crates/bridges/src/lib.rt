@@ -14,6 +14,7 @@ ghost use Rattle.bridges.specs.Inner.{EntryLinks, Covered, across_of};
 
 use arcs::{ArcEnds, Visited};
 use plant::{Plant, in_service};
+use std::array;
 
 // The link by which each switch was entered. Of the two ends of an entered link, the one with the higher number was entered by it.
 fn entry_links(p: Plant, ends: &ArcEnds, v: Visited) -> [usize; Plant::PLACES]
@@ -114,9 +115,5 @@ pub fn bridges_of(p: Plant, ends: &ArcEnds, v: Visited) -> [bool; Plant::MAX_LIN
 {
     let up = entry_links(p, ends, v);
     let c = covered_links(p, ends, v, &up);
-    let mut b = [false; Plant::MAX_LINKS];
-    for l in 0..p.count as usize {
-        b[l] = v.entered[l] && !c[l];
-    }
-    b
+    array::from_fn(|l| v.entered[l] && !c[l])
 }

@@ -13,12 +13,13 @@ ghost use Rattle.arcs.specs.Net.{Ends};
 ghost use Rattle.arcs.specs.Flags.{Flags};
 ghost use Rattle.visit.specs.Inner.{AllChained};
 ghost use Rattle.components.specs.Found.{Finds};
-ghost use Rattle.components.specs.Inner.{Renumbered, Apart, Covers};
+ghost use Rattle.components.specs.Inner.{Apart, Covers};
 
 use arcs::{ArcEnds, Chains, Visited};
 use plant::Plant;
+use std::array;
 
-// The components: `count` of them with their roots, for each switch the number of its component, the bridges and the arcs in use.
+// The components: `count` of them with their roots, for each switch the number of its component, the bridges and the arcs in use. A place of no switch has 0.
 #[derive(Clone, Copy)]
 pub struct Found {
     pub count: u8,
@@ -29,43 +30,14 @@ pub struct Found {
 }
 
 // What the visits so far have found: `count` components with their roots, for each switch the number of its component and its own number in the visit of that, and by which links
-// switches were entered. Where a switch is in none of them, the number of its component is the most that there can be.
+// switches were entered. Where a switch is in none of them, its component is none.
 #[derive(Clone, Copy)]
 pub struct Forest {
     pub count: u8,
     pub roots: [u8; Plant::PLACES],
-    pub home: [u8; Plant::PLACES],
+    pub home: [Option<u8>; Plant::PLACES],
     pub rank: [u8; Plant::PLACES],
     pub entered: [bool; Plant::MAX_LINKS],
-}
-
-// The number that stands for no component.
-const NONE: u8 = Plant::PLACES as u8;
-
-// The flags that are set in one of two.
-fn join(a: [bool; Plant::MAX_LINKS], b: [bool; Plant::MAX_LINKS]) -> [bool; Plant::MAX_LINKS]
-    ensures { Flags max_links (λ l. flag a l || flag b l) result }
-{
-    let mut r = [false; Plant::MAX_LINKS];
-    for l in 0..Plant::MAX_LINKS {
-        r[l] = a[l] | b[l];
-    }
-    r
-}
-
-// The new numbers of the switches that are seen, and the old ones of the others.
-fn renumber(
-    seen: [bool; Plant::PLACES],
-    new: [u8; Plant::PLACES],
-    old: [u8; Plant::PLACES],
-) -> [u8; Plant::PLACES]
-    ensures { Renumbered seen new old result }
-{
-    let mut r = [0u8; Plant::PLACES];
-    for x in 0..Plant::PLACES {
-        r[x] = if seen[x] { new[x] } else { old[x] };
-    }
-    r
 }
 
 // Nothing is found yet.
@@ -75,7 +47,7 @@ fn nothing() -> Forest
     Forest {
         count: 0,
         roots: [0; Plant::PLACES],
-        home: [NONE; Plant::PLACES],
+        home: [None; Plant::PLACES],
         rank: [0; Plant::PLACES],
         entered: [false; Plant::MAX_LINKS],
     }
@@ -93,9 +65,9 @@ fn with_component(p: Plant, ends: &ArcEnds, chains: &Chains, f: Forest, root: u8
     let v = visit::visit_by(p, ends, chains, root);
     let mut roots = f.roots;
     roots[f.count as usize] = root;
-    let home = renumber(v.seen, [f.count; Plant::PLACES], f.home);
-    let rank = renumber(v.seen, v.rank, f.rank);
-    let entered = join(f.entered, v.entered);
+    let home = array::from_fn(|x| if v.seen[x] { Some(f.count) } else { f.home[x] });
+    let rank = array::from_fn(|x| if v.seen[x] { v.rank[x] } else { f.rank[x] });
+    let entered = array::from_fn(|l| f.entered[l] || v.entered[l]);
     Forest {
         count: f.count + 1,
         roots,
@@ -114,7 +86,7 @@ fn visit_all(p: Plant, ends: &ArcEnds, chains: &Chains) -> Forest
 {
     let mut f = with_component(p, ends, chains, nothing(), p.start);
     for x in 0..p.switches {
-        if f.home[x as usize] == NONE {
+        if f.home[x as usize].is_none() {
             f = with_component(p, ends, chains, f, x);
         }
     }
@@ -128,13 +100,9 @@ pub fn find(p: Plant, ends: &ArcEnds) -> Found
     ensures { Finds p result }
 {
     let chains = visit::all_chains(p, ends);
-    let Forest {
-        count,
-        roots,
-        home,
-        rank,
-        entered,
-    } = visit_all(p, ends, &chains);
+    let f = visit_all(p, ends, &chains);
+    let rank = f.rank;
+    let entered = f.entered;
     let v = Visited {
         root: p.start,
         next: p.switches,
@@ -144,8 +112,10 @@ pub fn find(p: Plant, ends: &ArcEnds) -> Found
     };
     let bridges = bridges::bridges_of(p, ends, v);
     let used = uses::arcs_in_use(p, ends, v, &bridges);
+    let roots = f.roots;
+    let home = array::from_fn(|x| f.home[x].unwrap_or(0));
     Found {
-        count,
+        count: f.count,
         roots,
         home,
         bridges,

@@ -1,9 +1,9 @@
 -- A switch without a number begins a component, which is apart from those before it, and no other does.
 use Rattle.std.proofs.Common.{◌≡◌, ℕ, List, [], sym, subst, arith}
 use Rattle.components.specs.Inner.{Covers}
-use Rattle.components.proofs.Scanning.{roots_to, roots_to_lem, to_begun, to_other, room, apart, begins, begins-not}
+use Rattle.components.proofs.Scanning.{roots_to, roots_to_lem, to_begun, to_other, room, apart, begins, begins-not, is_free, not_free}
 use Rattle.components.proofs.visit_all.Goals as goal
-use Rattle.components.proofs.visit_all.Goals.{then-f-x-eq-NONE, else-f-x-eq-NONE}
+use Rattle.components.proofs.visit_all.Goals.{then-is_none, else-is_none}
 
 pub with_component-f-requires-clause-count_lt_max_switches : goal.with_component-f-requires-clause-count_lt_max_switches
 with_component-f-requires-clause-count_lt_max_switches c = omega (arith, (c.nothing.ensures c.args.p).count_is)
@@ -11,11 +11,11 @@ with_component-f-requires-clause-count_lt_max_switches c = omega (arith, (c.noth
 pub loop-x-init : goal.loop-x-init
 loop-x-init c = c.with_component-f.ensures [] (c.nothing.ensures c.args.p) (λ s x z. absurd z)
 
-pub with_component-f-requires-then-f-x-eq-NONE-clause-count_lt_max_switches : goal.with_component-f-requires-then-f-x-eq-NONE-clause-count_lt_max_switches
-with_component-f-requires-then-f-x-eq-NONE-clause-count_lt_max_switches c =
+pub with_component-f-requires-then-is_none-clause-count_lt_max_switches : goal.with_component-f-requires-then-is_none-clause-count_lt_max_switches
+with_component-f-requires-then-is_none-clause-count_lt_max_switches c =
     let h = c.requires in
     let k = c.loop-x in
-    let t = begins _ h.sound _ c.loop-x-test.true _ k.invariant c.if-f-x-eq-NONE.true in
+    let t = begins _ h.sound _ c.loop-x-test.true _ k.invariant (is_free _ _ c.is_none.ensures c.if-is_none.true) in
     omega (arith, k.invariant.count_is, room _ h.sound _ c.loop-x-test.true t)
 
 pub loop-x-preserved : goal.loop-x-preserved
@@ -24,14 +24,14 @@ loop-x-preserved c =
     let k = c.loop-x in
     let p = c.args.p in
     let x_in = c.loop-x-test.true in
-    elim c.if-f-x-eq-NONE.branch [
-      | then-f-x-eq-NONE w ↦
-          let t = begins _ h.sound _ x_in _ k.invariant w.if-f-x-eq-NONE.true in
-          let r = w.with_component-f-then-f-x-eq-NONE in
+    elim c.if-is_none.branch [
+      | then-is_none w ↦
+          let t = begins _ h.sound _ x_in _ k.invariant (is_free _ _ c.is_none.ensures w.if-is_none.true) in
+          let r = w.with_component-f-then-is_none in
           rw w.f-is (subst (λ (rs : List ℕ). Covers p rs r.result) (sym (to_begun _ h.sound _ t)) (r.ensures _ k.invariant (apart _ h.sound _ x_in t)))
-      | else-f-x-eq-NONE w ↦
+      | else-is_none w ↦
           rw w.f-is
-          (subst (λ (rs : List ℕ). Covers p rs k.f) (sym (to_other _ h.sound _ (begins-not _ h.sound _ x_in _ k.invariant w.if-f-x-eq-NONE.false))) k.invariant)
+          (subst (λ (rs : List ℕ). Covers p rs k.f) (sym (to_other _ h.sound _ (begins-not _ h.sound _ x_in _ k.invariant (not_free _ _ c.is_none.ensures w.if-is_none.false)))) k.invariant)
     ]
 
 pub returns : goal.returns
