@@ -3,26 +3,17 @@
 
 ghost use Rattle.std.specs.Prelude.{◌≡◌};
 ghost use Rattle.answers.specs.Checks.{answer};
+ghost use Rattle.answers.specs.Results.{answer_of};
 ghost use Rattle.limits.specs.Sound.{Sound};
-ghost use Rattle.listing.specs.Answers.{write_answer};
 ghost use Rattle.planning.specs.Plans.{Charted};
 ghost use Rattle.quoting.specs.Quotes.{sheet_with, pricing, quoting};
-ghost use Rattle.quoting.specs.Answers.{quoted_out, Prices};
+ghost use Rattle.quoting.specs.Answers.{quoted_out};
 
-use answers::{Refusal, Verdict, first_of, judge_room};
-use listing::Written;
-use planning::Parts;
+use answers::{Refusal, judge_room};
+use planning::Plan;
 use plant::Plant;
-use quantity::Quantity;
 use senders::BySwitch;
 use sheet::Sheet;
-
-// The counts of a plan. At a refusal every number is zero.
-#[derive(Clone, Copy)]
-pub struct Priced {
-    pub verdict: Verdict,
-    pub sheet: Sheet,
-}
 
 // The counts of a plant with these rules, for an order quantity.
 fn sheet_of(p: Plant, rules: BySwitch, quantity: u32) -> Sheet
@@ -41,46 +32,25 @@ fn sheet_of(p: Plant, rules: BySwitch, quantity: u32) -> Sheet
 }
 
 // The counts of a plan with a spare in percent: refusal 17.
-pub fn price(x: Parts, spare: u8) -> Priced
-    requires { Charted x }
-    ensures { Prices (answer (pricing x.plant spare)) result }
+pub fn price(x: &Plan, spare: u8) -> Result<Sheet, Refusal>
+    requires { Charted x.now }
+    ensures { answer_of result ≡ answer (pricing x.now.plant spare) }
 {
     let table = planning::table_of(x);
     let rules = senders::by_switch(table);
-    match quantity::order_quantity(rules.total, spare) {
-        Quantity::Rules(n) => {
-            let sheet = sheet_of(x.plant, rules, n);
-            Priced {
-                verdict: Verdict::Accepted,
-                sheet,
-            }
-        }
-        Quantity::Refused(k) => {
-            let sheet = Sheet::none();
-            Priced {
-                verdict: Verdict::Refused(k),
-                sheet,
-            }
-        }
-    }
+    let n = quantity::order_quantity(rules.total, spare)?;
+    Ok(sheet_of(x.plant, rules, n))
 }
 
 // The buying page of a plan into the front of the lent buffer, and its length: refusals 17 and 18.
-pub fn put_page(x: Parts, spare: u8, buffer: &mut [u8]) -> Written
-    requires { Charted x }
-    ensures result_value { write_answer result ≡ answer (quoting x.plant spare buffer.old) }
-    ensures buffer_now { buffer.new ≡ quoted_out x.plant spare buffer.old }
+pub fn put_page(x: &Plan, spare: u8, buffer: &mut [u8]) -> Result<usize, Refusal>
+    requires { Charted x.now }
+    ensures result_value { answer_of result ≡ answer (quoting x.now.plant spare buffer.old) }
+    ensures buffer_now { buffer.new ≡ quoted_out x.now.plant spare buffer.old }
 {
-    let priced = price(x, spare);
-    let spared = priced.verdict;
+    let counts = price(x, spare)?;
     let n = sheet::page_length(x.plant.switches);
-    let room = judge_room(n, buffer.len(), Refusal::BuyingPageUnfit);
-    match first_of(spared, room) {
-        Verdict::Accepted => {
-            let counts = priced.sheet;
-            sheet::put_page(counts, buffer);
-            Written::Length(n)
-        }
-        Verdict::Refused(k) => Written::Refused(k),
-    }
+    judge_room(n, buffer.len(), Refusal::BuyingPageUnfit)?;
+    sheet::put_page(counts, buffer);
+    Ok(n)
 }
