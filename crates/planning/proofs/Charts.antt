@@ -43,8 +43,8 @@ module _ (p : Plant) (sound : Sound p) where
 
   -- ---- roots
 
-  pub few-components : length (roots p) ≤ max_switches
-  few-components = omega (arith, roots_few p ok sound.start_in, sound.few_switches)
+  pub few_components : length (roots p) ≤ max_switches
+  few_components = omega (arith, roots_few p ok sound.start_in, sound.few_switches)
 
   module _ (i : ℕ) (i_in : i < length (roots p)) where
     pub listed : In (get_or (roots p) i 0) (roots p)
@@ -72,7 +72,7 @@ module _ (p : Plant) (sound : Sound p) where
 
   -- the component of a switch has a place
   pub home-place : (home : List ℕ) → HomesAre p home → (y : ℕ) → y < p.switches → at home y < max_switches
-  home-place home homes y h = omega (arith, homes y h, component_in p ok sound.start_in y h, few-components)
+  home-place home homes y h = omega (arith, homes y h, component_in p ok sound.start_in y h, few_components)
 
 module _ (x : Plan) (chart : Charted x) where
   abbrev p : Plant

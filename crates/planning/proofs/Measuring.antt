@@ -5,11 +5,12 @@ use mathlib.Core.List.{List, [], map}
 use Prim.Native.Nat.{ℕ, suc, ◌+◌, ◌*◌, ◌≤◌, ◌<◌}
 use native.Mathlib.Omega.{arith}
 use lib.ListN.{length, get_or, set, get_or-eq_default}
+use Rattle.std.proofs.lemmas.List.{ext_get_or}
 use Rattle.lists.specs.Arrays.{at}
 use Rattle.lists.specs.Numbers.{range}
 use Rattle.lists.specs.Padded.{padded}
 use Rattle.lists.proofs.Laid.{Laid, laid_none, laid_put}
-use Rattle.lists.proofs.Numbers.{values-at, values-are, values_length}
+use Rattle.lists.proofs.Numbers.{values-at, values_length}
 use Rattle.lists.proofs.Padded.{padded-at, padded-length}
 use Rattle.lists.proofs.Tests.{below?}
 use Rattle.plant.specs.declared.Plant.{Plant}
@@ -30,7 +31,7 @@ use Rattle.planning.specs.declared.Component.{Component}
 use Rattle.planning.specs.declared.Components.{Components}
 use Rattle.planning.specs.Components.{zero_component, components_with, component_at, components_of}
 use Rattle.planning.specs.Plans.{LinksBy, HopsBy}
-use Rattle.planning.proofs.Charts.{few-components, root_below}
+use Rattle.planning.proofs.Charts.{few_components, root_below}
 
 -- i components are measured, the trails of which have `begin` hops, and the round trails `round`
 pub record Measuring (p : Plant) (i : ℕ) (cs : Components) (begin round : ℕ) : Type 0 where
@@ -75,7 +76,7 @@ module _ (p : Plant) (sound : Sound p) (f : Found) (finds : Finds p f) where
       measuring_next =
           let e : i + 1 ≡ suc i = omega arith in
           record {
-            list = laid_put zero_component max_switches (component_at p) i cs.list so_far.list _ (omega (arith, few-components p sound))
+            list = laid_put zero_component max_switches (component_at p) i cs.list so_far.list _ (omega (arith, few_components p sound))
                 (rw (finds.roots_are i i_in, so_far.begin_is, hops_by i i_in, so_far.round_is, both_are) refl);
             begin_is = begin_next ∙ ap (trail_begin p) (sym e);
             round_is = round_next ∙ ap (round_begin_of p) (sym e);
@@ -83,20 +84,15 @@ module _ (p : Plant) (sound : Sound p) (f : Found) (finds : Finds p f) where
 
   -- ---- all
 
-  -- a list is the one with these members
-  same_list : (l m : List Component) (n : ℕ) → length l ≡ n → length m ≡ n → ((i : ℕ) → i < n → get_or l i zero_component ≡ get_or m i zero_component) → l ≡ m
-  same_list l m n d e g =
-      values-are (λ i. get_or m i zero_component) zero_component n l d g ∙ sym (values-are (λ i. get_or m i zero_component) zero_component n m e (λ i h. refl))
-
   module _ (cs : Components) (begin round : ℕ) (all : Measuring p (length (roots p)) cs begin round) where
     abbrev listed : List Component
     listed = map (component_at p) (range 0 (length (roots p)))
 
     places : length (padded max_switches zero_component listed) ≡ max_switches
-    places = padded-length max_switches zero_component listed ∙ omega (arith, values_length (component_at p) 0 (length (roots p)), few-components p sound)
+    places = padded-length max_switches zero_component listed ∙ omega (arith, values_length (component_at p) 0 (length (roots p)), few_components p sound)
 
     list_is : cs.list ≡ padded max_switches zero_component listed
-    list_is = same_list cs.list (padded max_switches zero_component listed) max_switches all.list.places places (λ i h. go i (below? i (length (roots p))))
+    list_is = ext_get_or zero_component cs.list (padded max_switches zero_component listed) (all.list.places ∙ sym places) (λ i h. go i (below? i (length (roots p))))
       where
         go : (i : ℕ) → (i < length (roots p)) ⊎ (length (roots p) ≤ i) → get_or cs.list i zero_component ≡ get_or (padded max_switches zero_component listed) i zero_component
         go i (inl h) = all.list.tells i h ∙ sym (padded-at max_switches zero_component listed i ∙ values-at (component_at p) zero_component (length (roots p)) i h)

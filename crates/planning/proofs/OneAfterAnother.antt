@@ -12,21 +12,17 @@ use Rattle.lists.specs.Members.{In}
 use Rattle.lists.proofs.Members.{get_d_in}
 use Rattle.lists.proofs.Chained.{chained, chained-within}
 use Rattle.plant.specs.declared.Plant.{Plant}
-use Rattle.limits.specs.Limits.{max_switches, max_rules}
 use Rattle.limits.specs.Sound.{Sound}
 use Rattle.walks.specs.Components.{roots}
 use Rattle.walks.specs.Round.{round_from}
-use Rattle.walks.proofs.Components.{listed_in, roots_few}
+use Rattle.walks.proofs.Components.{listed_in}
 use Rattle.walks.proofs.Labels.{arc_below}
 use Rattle.walks.proofs.Valid.{sound_valid}
 use Rattle.routes.specs.Plants.{trail_from}
-use Rattle.plan.specs.Plan.{trails_of, trail_of, rounds_of, round_of}
 use Rattle.plan.proofs.Rounds.{round-from}
 use Rattle.arcs.specs.declared.Net.{Net}
-use Rattle.arcs.specs.declared.Visited.{Visited}
 use Rattle.arcs.specs.Net.{rooted}
 use Rattle.arcs.specs.Legs.{no_legs, LegsOf}
-use Rattle.arcs.specs.Shows.{Visits}
 use Rattle.arcs.specs.Table.{trail_in}
 use Rattle.std.specs.Prelude.{Option, Some, None}
 use Rattle.trail.specs.Filled.{filled_with, Tells}
@@ -117,13 +113,7 @@ module _ {x : Plan} (c : Charted x) where
   pub numbered : {i : ℕ} → i < x.count → i < length (roots x.plant)
   numbered h = omega (arith, c.count_is)
 
-  pub every_one : {i : ℕ} → x.count ≤ i → length (roots x.plant) ≤ i
-  every_one h = omega (arith, c.count_is)
-
   module _ {i : ℕ} (h : i < length (roots x.plant)) where
-    pub root-place : i < max_switches
-    root-place = omega (arith, roots_few x.plant (sound_valid x.plant c.sound) c.sound.start_in, c.sound.few_switches)
-
     pub root_in : at x.roots i < x.plant.switches
     root_in =
         let r = get_or (roots x.plant) i 0 in
@@ -131,17 +121,10 @@ module _ {x : Plan} (c : Charted x) where
 
 -- ---- trails
 
-pub trails-chained : (p : Plant) → trail_of p ≡ chained (trail_from p) (roots p)
-unfolding trails_of
-trails-chained p = refl
-
 -- that of component i, by its network
 module _ {x : Plan} (laying : Laying x) {i : ℕ} (h : i < length (roots x.plant)) where
   abbrev r : ℕ
   r = get_or (roots x.plant) i 0
-
-  pub placed : let own = get_or x.legs.list i no_legs in (own.from ≤ own.to) × (own.to ≤ max_rules)
-  placed = let l = net_legs x laying i h in (l.order, l.within)
 
   pub legs_at : {legs : List ℕ} → let own = get_or x.legs.list i no_legs in legs ≡ slice own.from own.to x.legs.aims → LegsAt x i legs
   legs_at is = record { are = subst (LegsOf (rooted x.network.net (at x.roots i)) x.network.ends.tails x.network.ends.heads (used_flags x.plant r)) (sym is) (net_legs x laying i h).are }
@@ -158,18 +141,6 @@ module _ {x : Plan} (laying : Laying x) {i : ℕ} (h : i < length (roots x.plant
         ∙ net_trail x.plant laying.charted.sound x.network.ends.tails x.network.ends.heads laying.charted.ends r
 
 -- ---- round trails
-
-pub rounds-chained : (p : Plant) → round_of p ≡ chained (round_from p) (roots p)
-unfolding rounds_of
-rounds-chained p = refl
-
--- from where a visit was made
-module _ {p : Plant} {r : ℕ} {v : Visited} (visits : Visits p r v) where
-  pub own_root : Visits p v.root v
-  own_root = subst (λ (k : ℕ). Visits p k v) (sym visits.root_is) visits
-
-  pub round-root : (x : Round) → labels_of x ≡ round_from p v.root → {k : ℕ} → r ≡ k → labels_of x ≡ round_from p k
-  round-root x e q = e ∙ ap (round_from p) (visits.root_is ∙ q)
 
 -- that of component i
 module _ {p : Plant} (sound : Sound p) {i : ℕ} (h : i < length (roots p)) (x : Round) (e : labels_of x ≡ round_from p (get_or (roots p) i 0)) where

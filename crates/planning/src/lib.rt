@@ -1,5 +1,5 @@
 // The plan of a listing, which every call that plans goes through. Inner: the calls are those of docs/CALLS.md.
-#![tactic(auto)]
+#![tactic(auto, using(crate::proofs::Charts::few_components, crate::proofs::OneAfterAnother::root_in))]
 
 ghost use Rattle.std.specs.Prelude.{◌≡◌, [], ℕ, ◌+◌, ◌*◌, ◌≤◌, ◌<◌, length, get_or, map, IfOk};
 ghost use mathlib.Core.List.{flatten};

@@ -2,11 +2,8 @@
 use Rattle.std.proofs.Common.{get_or, sym}
 use Rattle.lists.proofs.Parts.{drop-take}
 use Rattle.arcs.specs.Legs.{no_legs}
-use Rattle.planning.proofs.OneAfterAnother.{root-place, legs_at}
+use Rattle.planning.proofs.OneAfterAnother.{legs_at}
 use Rattle.planning.proofs.legs_at.Goals as goal
-
-pub bounds-x-i : goal.bounds-x-i
-bounds-x-i c = root-place c.requires.laying.charted c.requires.i_in_bounds
 
 pub returns : goal.returns
 returns c =

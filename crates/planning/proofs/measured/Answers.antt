@@ -2,24 +2,11 @@
 use Rattle.std.proofs.Common.{◌≡◌, ℕ, ◌<◌, length, sym, subst, arith}
 use Rattle.walks.specs.Components.{roots}
 use Rattle.planning.specs.declared.Components.{Components}
-use Rattle.planning.proofs.Charts.{few-components}
 use Rattle.planning.proofs.Measuring.{Measuring, measuring_none, measuring_next, few_hops, components_are, hops_all}
 use Rattle.planning.proofs.measured.Goals as goal
 
 pub loop-i-init : goal.loop-i-init
 loop-i-init c = subst (λ (cs : Components). Measuring c.args.p 0 cs 0 0) (sym c.none-components.ensures) (measuring_none _)
-
-pub bounds-legs-i : goal.bounds-legs-i
-bounds-legs-i c = omega (arith, few-components _ c.requires.sound, c.requires.finds.count_is)
-
-pub bounds-links-i : goal.bounds-links-i
-bounds-links-i c = omega (arith, few-components _ c.requires.sound, c.requires.finds.count_is)
-
-pub bounds-f-i : goal.bounds-f-i
-bounds-f-i c = omega (arith, few-components _ c.requires.sound, c.requires.finds.count_is)
-
-pub bounds-components-i : goal.bounds-components-i
-bounds-components-i c = omega (arith, few-components _ c.requires.sound, c.requires.finds.count_is)
 
 pub overflow_mul-both : goal.overflow_mul-both
 overflow_mul-both c =

@@ -1,11 +1,7 @@
 -- Each part is what the next asks for.
 use Rattle.std.proofs.Common.{arith}
-use Rattle.planning.proofs.Charts.{few-components}
 use Rattle.planning.proofs.Drawing.{roots-are, legs-asked, hops_by, is_plan}
 use Rattle.planning.proofs.planned.Goals as goal
-
-pub shared_ref_as_front-roots : goal.shared_ref_as_front-roots
-shared_ref_as_front-roots c = omega (arith, few-components _ c.requires)
 
 pub legs_of-legs-requires : goal.legs_of-legs-requires
 legs_of-legs-requires c =

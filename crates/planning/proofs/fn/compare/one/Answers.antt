@@ -1,11 +1,8 @@
 -- By the legs of component i.
 use Rattle.std.proofs.Common.{ℕ, List, subst}
 use Rattle.trail.specs.Ways.{TellsFrom}
-use Rattle.planning.proofs.OneAfterAnother.{root-place, trailing, trail_is}
+use Rattle.planning.proofs.OneAfterAnother.{trailing, trail_is}
 use Rattle.planning.proofs.fn.compare.one.Goals as goal
-
-pub bounds-x-i : goal.bounds-x-i
-bounds-x-i c = root-place c.requires.0.charted c.requires.1
 
 pub compare-requires : goal.compare-requires
 compare-requires c = trailing c.requires.0 c.requires.1 c.legs_at.ensures

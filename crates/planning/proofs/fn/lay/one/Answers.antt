@@ -1,11 +1,8 @@
 -- By the legs of component i.
 use Rattle.std.proofs.Common.{List, ℕ, ap, length, subst, arith}
 use Rattle.trail.specs.Ways.{Laid}
-use Rattle.planning.proofs.OneAfterAnother.{root-place, trailing, trail_is}
+use Rattle.planning.proofs.OneAfterAnother.{trailing, trail_is}
 use Rattle.planning.proofs.fn.lay.one.Goals as goal
-
-pub bounds-x-i : goal.bounds-x-i
-bounds-x-i c = root-place c.requires.0.charted c.requires.1
 
 pub lay-requires : goal.lay-requires
 lay-requires c =
