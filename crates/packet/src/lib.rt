@@ -2,7 +2,7 @@
 // run. Inner: the calls are those of docs/CALLS.md.
 #![tactic(auto)]
 
-ghost use Rattle.std.specs.Prelude.{◌≡◌, not, ◌&&◌, ◌+◌, ◌*◌, ◌%◌, ◌≤◌, ◌<◌, eqb, length, get_or};
+ghost use Rattle.std.specs.Prelude.{◌≡◌, true, not, ◌&&◌, [], ◌∷◌, ◌+◌, ◌*◌, ◌%◌, ◌≤◌, eqb, length};
 ghost use Rattle.lists.specs.Arrays.{flag};
 ghost use Rattle.limits.specs.Limits.{max_links};
 ghost use Rattle.plant.specs.Links.{side};
@@ -13,9 +13,9 @@ ghost use Rattle.rings.specs.Probe.{back};
 ghost use Rattle.rings.specs.Injection.{ring_of, probe_run};
 ghost use Rattle.rings.specs.Round.{round_run};
 ghost use Rattle.order.specs.Labels.{OverArcs};
-ghost use Rattle.packet.specs.Runs.{end_of, injected_at, after_label, byte_of, goes_by, goes_on};
+ghost use Rattle.packet.specs.Runs.{end_of, injected_at, after_label, goes_by, goes_on};
 ghost use Rattle.packet.specs.Outcome.{outcome_of};
-ghost use Rattle.packet.specs.Asked.{CanRunBy, CanRun, CanProbe, CanRound, way, out_and_back};
+ghost use Rattle.packet.specs.Asked.{CanRunBy, CanRun, CanProbe, CanRound, out_and_back};
 
 use arcs::opposite;
 use order::{front, place_of, span_of, stretch};
@@ -23,7 +23,7 @@ use plant::{Link, Plant, head_of, tail_of};
 use search::Outcome;
 
 // How a run comes out: has the packet ended (else it is lost), the hops made, and the switch last reached.
-#[derive(Clone, Copy)]
+#[derive(Clone, Copy, Debug, PartialEq, Eq)]
 pub struct End {
     pub ended: bool,
     pub hops: usize,
@@ -52,40 +52,16 @@ pub fn outcome_of(e: End) -> Outcome
     }
 }
 
-// Label i of these labels, or of the way back over them: the opposite arcs, from the last.
-fn label_at(labels: &[u16], i: usize, backward: bool) -> u16
-    requires { i < length labels.now }
-    ensures { result ≡ get_or (way backward labels.now) i 0 }
-{
-    if !backward {
-        return labels[i];
-    }
-    opposite(labels[labels.len() - 1 - i])
-}
+// How many labels share a state byte: the two of a link, or each has its own.
+const OF_LINK: usize = 2;
 
-// The state byte of label a: its own, or that of its link.
-fn state_of(states: &[u8], a: usize, labelwise: bool) -> u8
-    requires { byte_of labelwise a < length states.now }
-    ensures { result ≡ get_or states.now (byte_of labelwise a) 0 }
-{
-    let l = a / 2;
-    if labelwise {
-        return states[a];
-    }
-    states[l]
-}
+const OF_LABEL: usize = 1;
 
 // Does a packet at switch s cross link l by label a? There is a rule for the label at the switch that its arc leaves, and the label is up.
 fn crosses(rule: bool, state: u8, l: Link, a: usize, s: u8) -> bool
     ensures { result ≡ (rule && eqb (side (a % 2) l.first l.second) s) && not (eqb state 0) }
 {
-    if !rule {
-        return false;
-    }
-    if tail_of(l, a) != s {
-        return false;
-    }
-    state != 0
+    rule && tail_of(l, a) == s && state != 0
 }
 
 // After the next label: a packet that crosses is at the switch that the label leads to, after one hop more; one that does not is lost where it is, after the hops
@@ -94,53 +70,59 @@ fn after_label(e: End, crosses: bool, to: u8) -> End
     requires { e.hops + 1 ≤ usize.MAX }
     ensures { end_of result ≡ after_label (end_of e) crosses to }
 {
-    let hops = e.hops + 1;
     if crosses {
-        return End {
+        End {
             ended: true,
-            hops,
+            hops: e.hops + 1,
             last: to,
-        };
-    }
-    End {
-        ended: false,
-        hops: e.hops,
-        last: e.last,
+        }
+    } else {
+        End { ended: false, ..e }
     }
 }
 
-// A packet that came so far goes on over these labels, or back over them, unless it is lost: by a state byte for each label, or for each link.
-fn run_way(
-    p: Plant,
-    rules: [bool; Plant::LABELS],
+// A packet goes on over the next label, by a state byte for each N labels. A label past those of the plant has no rule.
+fn hop<const N: usize>(
+    p: &Plant,
+    rules: &[bool; Plant::LABELS],
     states: &[u8],
-    labelwise: bool,
+    e: End,
+    a: u16,
+) -> End
+    requires some { 1 ≤ N }
+    requires can_run_by { CanRunBy N p.now rules.now states.now }
+    requires going { e.ended ≡ true }
+    requires hops_bound { e.hops + 1 ≤ usize.MAX }
+    ensures { end_of result ≡ goes_by N p.now rules.now states.now (end_of e) (a ∷ []) }
+{
+    let a = usize::from(a);
+    if 2 * usize::from(p.count) <= a {
+        return after_label(e, false, e.last);
+    }
+    let l = p.links[a / 2];
+    let c = crosses(rules[a], states[a / N], l, a, e.last);
+    after_label(e, c, head_of(l, a))
+}
+
+// A packet that came so far goes on over these labels, unless it is lost: by a state byte for each N labels.
+fn run_out<const N: usize>(
+    p: &Plant,
+    rules: &[bool; Plant::LABELS],
+    states: &[u8],
     e: End,
     labels: &[u16],
-    backward: bool,
 ) -> End
-    requires can_run_by { CanRunBy labelwise p rules states.now }
+    requires some { 1 ≤ N }
+    requires can_run_by { CanRunBy N p.now rules.now states.now }
     requires labels_bound { e.hops + length labels.now ≤ usize.MAX }
-    ensures { end_of result ≡ goes_by labelwise p rules states.now (end_of e) (way backward labels.now) }
+    ensures { end_of result ≡ goes_by N p.now rules.now states.now (end_of e) labels.now }
 {
-    if !e.ended {
-        return e;
-    }
-    let n = 2 * (p.count as usize);
     let mut at = e;
-    let mut i: usize = 0;
-    while i < labels.len() {
-        let a = label_at(labels, i, backward) as usize;
-        if n <= a {
-            return after_label(at, false, at.last);
-        }
-        let l = p.links[a / 2];
-        let c = crosses(rules[a], state_of(states, a, labelwise), l, a, at.last);
-        at = after_label(at, c, head_of(l, a));
+    for a in labels {
         if !at.ended {
             return at;
         }
-        i += 1;
+        at = hop::<N>(p, rules, states, at, *a);
     }
     at
 }
@@ -151,7 +133,7 @@ pub fn run_on(p: Plant, rules: [bool; Plant::LABELS], states: &[u8], e: End, lab
     requires labels_bound { e.hops + length labels.now ≤ usize.MAX }
     ensures { end_of result ≡ goes_on p rules states.now (end_of e) labels.now }
 {
-    run_way(p, rules, states, false, e, labels, false)
+    run_out::<OF_LINK>(&p, &rules, states, e, labels)
 }
 
 // A packet that came so far goes back over these labels, unless it is lost: over the opposite arcs, from the last.
@@ -160,25 +142,32 @@ fn run_back(p: Plant, rules: [bool; Plant::LABELS], states: &[u8], e: End, label
     requires labels_bound { e.hops + length labels.now ≤ usize.MAX }
     ensures { end_of result ≡ goes_on p rules states.now (end_of e) (back labels.now) }
 {
-    run_way(p, rules, states, false, e, labels, true)
+    let mut at = e;
+    for a in labels.iter().rev() {
+        if !at.ended {
+            return at;
+        }
+        at = hop::<OF_LINK>(&p, &rules, states, at, opposite(*a));
+    }
+    at
 }
 
-// A packet runs over the ring of switch s, which is the trail from the place of s on and then its front: by a state byte for each label, or for each link.
-fn run_ring(
+// A packet runs over the ring of switch s, which is the trail from the place of s on and then its front: by a state byte for each N labels.
+fn run_ring<const N: usize>(
     p: Plant,
     rules: [bool; Plant::LABELS],
     states: &[u8],
-    labelwise: bool,
     s: u8,
     trail: &[u16],
 ) -> End
-    requires can_run_by { CanRunBy labelwise p rules states.now }
+    requires some { 1 ≤ N }
+    requires can_run_by { CanRunBy N p rules states.now }
     requires over_arcs { OverArcs p trail.now }
-    ensures { end_of result ≡ goes_by labelwise p rules states.now (injected_at s) (ring_of p trail.now s) }
+    ensures { end_of result ≡ goes_by N p rules states.now (injected_at s) (ring_of p trail.now s) }
 {
     let k = place_of(p, s, trail);
-    let e = run_way(p, rules, states, labelwise, injected(s), &trail[k..], false);
-    run_way(p, rules, states, labelwise, e, &trail[..k], false)
+    let e = run_out::<N>(&p, &rules, states, injected(s), &trail[k..]);
+    run_out::<N>(&p, &rules, states, e, &trail[..k])
 }
 
 // The full check: the packet runs under the forwarding table over the ring of switch s, by a state byte for each link.
@@ -192,7 +181,7 @@ pub fn full_check(
     requires { CanProbe p table states.now trail.now }
     ensures { end_of result ≡ run (rules_for (flag table) (tail p)) (up_by_link states.now) (head p) s 0 (ring_of p trail.now s) }
 {
-    run_ring(p, table, states, false, s, trail)
+    run_ring::<OF_LINK>(p, table, states, s, trail)
 }
 
 // The round run: the packet runs under all rules over the ring of switch s on the round trail, by a state byte for each label.
@@ -201,7 +190,7 @@ pub fn round_run(p: Plant, states: &[u8], s: u8, round: &[u16]) -> End
     ensures { end_of result ≡ round_run p round.now s states.now }
 {
     let all = arcs::all_arcs(p);
-    run_ring(p, all, states, true, s, round)
+    run_ring::<OF_LABEL>(p, all, states, s, round)
 }
 
 // From switch s out over x and then y, and back over the opposite arcs.

@@ -1,25 +1,26 @@
 -- Out over two stretches and back over them: each run makes no more hops than it has labels.
-use Rattle.std.proofs.Common.{false, arith}
+use Rattle.std.proofs.Common.{arith}
 use Rattle.packet.specs.Runs.{end_of}
 use Rattle.packet.proofs.Ways.{back-length}
-use Rattle.packet.proofs.Probes.{injected_hops, after-hops, on_four}
+use Rattle.packet.proofs.Hops.{after-hops}
+use Rattle.packet.proofs.Probes.{injected_hops, on_four}
 use Rattle.packet.proofs.there_and_back.Goals as goal
 
 pub run_on-f-requires-clause-labels_bound : goal.run_on-f-requires-clause-labels_bound
-run_on-f-requires-clause-labels_bound c = omega (arith, injected_hops _ _ c.injected.ensures, after-hops false _ _ _ _ _ _ c.run_on-e.ensures)
+run_on-f-requires-clause-labels_bound c = omega (arith, injected_hops _ _ c.injected.ensures, after-hops 2 _ _ _ _ _ _ c.run_on-e.ensures)
 
 pub run_back-g-requires-clause-labels_bound : goal.run_back-g-requires-clause-labels_bound
 run_back-g-requires-clause-labels_bound c =
-    omega (arith, injected_hops _ _ c.injected.ensures, after-hops false _ _ _ _ _ _ c.run_on-e.ensures, after-hops false _ _ _ _ _ _ c.run_on-f.ensures)
+    omega (arith, injected_hops _ _ c.injected.ensures, after-hops 2 _ _ _ _ _ _ c.run_on-e.ensures, after-hops 2 _ _ _ _ _ _ c.run_on-f.ensures)
 
 pub run_back-requires-clause-labels_bound : goal.run_back-requires-clause-labels_bound
 run_back-requires-clause-labels_bound c =
     omega (
       arith,
       injected_hops _ _ c.injected.ensures,
-      after-hops false _ _ _ _ _ _ c.run_on-e.ensures,
-      after-hops false _ _ _ _ _ _ c.run_on-f.ensures,
-      after-hops false _ _ _ _ _ _ c.run_back-g.ensures,
+      after-hops 2 _ _ _ _ _ _ c.run_on-e.ensures,
+      after-hops 2 _ _ _ _ _ _ c.run_on-f.ensures,
+      after-hops 2 _ _ _ _ _ _ c.run_back-g.ensures,
       back-length c.args.y.now,
     )
 
