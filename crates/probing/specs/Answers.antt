@@ -1,5 +1,5 @@
 -- What the answers of the calls stand for, and what is so of some of them.
-use Rattle.std.specs.Prelude.{[], List, ◌++◌, ◌≡◌, ℕ}
+use Rattle.std.specs.Prelude.{List, ◌++◌, ◌≡◌, ℕ}
 use Rattle.answers.specs.Answers.{Answer, given}
 use Rattle.choosing.specs.declared.Choice.{Choice}
 use Rattle.order.specs.declared.Span.{Span}

@@ -83,8 +83,13 @@ fn run_in(plan: &Plan, switch: u8, labels: &[u16], states: &[u8]) -> Result<End,
     if judging::too_few(states, plan.plant.count) {
         return Err(Refusal::StatesShort);
     }
-    let end = packet::run_on(plan.plant, plan.used, states, packet::injected(switch), labels);
-    Ok(end)
+    Ok(packet::run_on(
+        plan.plant,
+        plan.used,
+        states,
+        packet::injected(switch),
+        labels,
+    ))
 }
 
 // The run of a packet that is injected at a switch and is no probe: refusals 1 to 8, 11 and 13.
@@ -98,12 +103,7 @@ pub fn run(listing: &[u8], switch: u8, labels: &[u16], states: &[u8]) -> Result<
 // ---- the full check
 
 // The full check in a plan: refusals 12 and 13.
-fn check_in(
-    plan: &Plan,
-    switch: u8,
-    trail: &[u16],
-    states: &[u8],
-) -> Result<End, Refusal>
+fn check_in(plan: &Plan, switch: u8, trail: &[u16], states: &[u8]) -> Result<End, Refusal>
     requires is_plan { IsPlan plan.now }
     requires switch_lt_switches { switch < plan.now.plant.switches }
     ensures { answer_as end_of result ≡ answer (check_in switch trail.now states.now plan.now.plant) }
@@ -163,12 +163,7 @@ fn choose_from(plan: &Plan, switch: u8, round: &[u16]) -> Result<Choice, Refusal
 }
 
 // Of the lent trails and the lent round trails of all components in a plan: refusal 12 of either.
-fn choose_in(
-    plan: &Plan,
-    switch: u8,
-    trail: &[u16],
-    round: &[u16],
-) -> Result<Choice, Refusal>
+fn choose_in(plan: &Plan, switch: u8, trail: &[u16], round: &[u16]) -> Result<Choice, Refusal>
     requires is_plan { IsPlan plan.now }
     requires switch_lt_switches { switch < plan.now.plant.switches }
     ensures { answer_of result ≡ answer (choice_in switch trail.now round.now plan.now.plant) }
@@ -180,7 +175,12 @@ fn choose_in(
 }
 
 // Which of the trail and the round trail of the component of a switch has fewer hops, where it begins in what is lent, and how many: refusals 1 to 8, 11 and 12. Both may have spare places.
-pub fn shorter_trail(listing: &[u8], switch: u8, trail: &[u16], round: &[u16]) -> Result<Choice, Refusal>
+pub fn shorter_trail(
+    listing: &[u8],
+    switch: u8,
+    trail: &[u16],
+    round: &[u16],
+) -> Result<Choice, Refusal>
     ensures result_value { answer_of result ≡ answer (choosing listing.now switch trail.now round.now) }
     ensures chosen_hops { ChosenHops listing.now switch trail.now round.now (answer_of result) }
 {
@@ -198,11 +198,7 @@ pub fn chosen<'a>(trail: &'a [u16], round: &'a [u16], choice: Choice) -> &'a [u1
 // ---- the order of links
 
 // The order of links in a plan: refusal 12.
-fn order_in(
-    plan: &Plan,
-    switch: u8,
-    trail: &[u16],
-) -> Result<Order, Refusal>
+fn order_in(plan: &Plan, switch: u8, trail: &[u16]) -> Result<Order, Refusal>
     requires is_plan { IsPlan plan.now }
     requires switch_lt_switches { switch < plan.now.plant.switches }
     ensures { answer_of result ≡ answer (order_in switch trail.now plan.now.plant) }
@@ -257,12 +253,7 @@ fn span_of(plan: &Plan, switch: u8, trail: &[u16], links: u16, m: u16) -> Span
 }
 
 // The outward labels in a plan: refusals 12, 14 and 15.
-fn outward_in(
-    plan: &Plan,
-    switch: u8,
-    trail: &[u16],
-    search: Search,
-) -> Result<Span, Refusal>
+fn outward_in(plan: &Plan, switch: u8, trail: &[u16], search: Search) -> Result<Span, Refusal>
     requires is_plan { IsPlan plan.now }
     requires switch_lt_switches { switch < plan.now.plant.switches }
     ensures { answer_of result ≡ answer (outward_in switch trail.now search plan.now.plant) }
@@ -276,7 +267,12 @@ fn outward_in(
 }
 
 // Where the outward labels of the probe that a search wants stand in the lent trail: refusals 1 to 8, 11, 12, 14 and 15.
-pub fn outward_labels(listing: &[u8], switch: u8, trail: &[u16], search: Search) -> Result<Span, Refusal>
+pub fn outward_labels(
+    listing: &[u8],
+    switch: u8,
+    trail: &[u16],
+    search: Search,
+) -> Result<Span, Refusal>
     ensures result_value { answer_of result ≡ answer (outgoing listing.now switch trail.now search) }
     ensures outward_parts { OutwardParts listing.now switch trail.now search (answer_of result) }
 {
@@ -340,7 +336,13 @@ fn probe_in(
 }
 
 // The run of the probe that a search wants: refusals 1 to 8 and 11 to 15.
-pub fn run_probe(listing: &[u8], switch: u8, trail: &[u16], states: &[u8], search: Search) -> Result<End, Refusal>
+pub fn run_probe(
+    listing: &[u8],
+    switch: u8,
+    trail: &[u16],
+    states: &[u8],
+    search: Search,
+) -> Result<End, Refusal>
     ensures { answer_as end_of result ≡ answer (probing listing.now switch trail.now states.now search) }
 {
     let plan = planning::plan_at(listing, switch)?;
@@ -369,12 +371,7 @@ fn name_of(p: Plant, switch: u8, own: &[u16], said: Said) -> Named
 }
 
 // What a search names in a plan: refusals 12 and 14.
-fn name_in(
-    plan: &Plan,
-    switch: u8,
-    trail: &[u16],
-    search: Search,
-) -> Result<Named, Refusal>
+fn name_in(plan: &Plan, switch: u8, trail: &[u16], search: Search) -> Result<Named, Refusal>
     requires is_plan { IsPlan plan.now }
     requires switch_lt_switches { switch < plan.now.plant.switches }
     ensures { answer_as name_as result ≡ answer (name_in switch trail.now search plan.now.plant) }
@@ -391,7 +388,12 @@ fn name_in(
 }
 
 // The link that a search names from a switch: refusals 1 to 8, 11, 12 and 14.
-pub fn link_named(listing: &[u8], switch: u8, trail: &[u16], search: Search) -> Result<Named, Refusal>
+pub fn link_named(
+    listing: &[u8],
+    switch: u8,
+    trail: &[u16],
+    search: Search,
+) -> Result<Named, Refusal>
     ensures { answer_as name_as result ≡ answer (naming listing.now switch trail.now search) }
 {
     let plan = planning::plan_at(listing, switch)?;

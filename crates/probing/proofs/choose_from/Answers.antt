@@ -14,5 +14,5 @@ returns c =
     fails 12 _ _ _ (hops-same _ _ _ c.in-Some.ensures)
     (ap given (chosen ∙ chosen_at c.args.plan.now.plant c.requires.of_plant.charted.sound c.args.switch c.requires.switch_lt_switches d c.component_with-c.ensures))
 
-pub returns-else : goal.returns-else
-returns-else c = holds 12 _ _ (hops_other _ _ c.in-None.ensures)
+pub returns-in_default : goal.returns-in_default
+returns-in_default c = holds 12 _ _ (hops_other _ _ c.in_default.ensures)

@@ -8,6 +8,6 @@ pub returns : goal.returns
 unfolding choice_in
 returns c = fails 12 _ _ _ (hops-same _ _ _ c.in-Some.ensures) c.choose_from.ensures
 
-pub returns-else : goal.returns-else
+pub returns-in_default : goal.returns-in_default
 unfolding choice_in
-returns-else c = holds 12 _ _ (hops_other _ _ c.in-None.ensures)
+returns-in_default c = holds 12 _ _ (hops_other _ _ c.in_default.ensures)

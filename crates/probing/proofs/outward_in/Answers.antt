@@ -1,6 +1,7 @@
 -- The outward labels: refusal 12, then 14 and 15 or the probe wanted.
 use Rattle.std.proofs.Common.{sym, ◌∙◌}
 use Rattle.answers.proofs.Checks.{holds, fails}
+use Rattle.answers.proofs.Results.{exit}
 use Rattle.judging.proofs.Lent.{trail-same}
 use Rattle.judging.proofs.Searching.{probe-given, probe_among, probe-refused}
 use Rattle.probing.specs.Calls.{out_span, outward_in}
@@ -28,5 +29,6 @@ returns c =
 pub returns-in_err-m : goal.returns-in_err-m
 unfolding outward_in
 returns-in_err-m c =
-    fails 12 _ _ _ (sym c.differs.ensures ∙ c.if-differs.false)
-    (rw c.links_with-links.ensures at (probe-refused _ _ _ c.probe_wanted.ensures (out_span c.args.plan.now.plant c.args.switch) _ c.in-Refused.is))
+    exit _ _ _ c.from_residual.ensures.1
+    ∙ fails 12 _ _ _ (sym c.differs.ensures ∙ c.if-differs.false)
+    (rw c.links_with-links.ensures at (probe-refused _ _ _ c.probe_wanted.ensures (out_span c.args.plan.now.plant c.args.switch) _ c.in_err-m.was))

@@ -1,5 +1,6 @@
 -- The run of the probe wanted: 14 and 15, or the probe wanted.
-use Rattle.std.proofs.Common.{arith}
+use Rattle.std.proofs.Common.{arith, ◌∙◌}
+use Rattle.answers.proofs.Results.{exit}
 use Rattle.packet.specs.Runs.{end_of}
 use Rattle.judging.proofs.Searching.{probe-given, probe_among, probe-refused}
 use Rattle.probing.specs.Calls.{probe_end}
@@ -19,4 +20,5 @@ returns c =
 
 pub returns-in_err-m : goal.returns-in_err-m
 returns-in_err-m c =
-    rw c.requires.links_value at (probe-refused _ _ _ c.probe_wanted.ensures (probe_end c.args.p c.args.switch c.args.states.now) _ c.in-Refused.is)
+    exit _ _ _ c.from_residual.ensures.1
+    ∙ rw c.requires.links_value at (probe-refused _ _ _ c.probe_wanted.ensures (probe_end c.args.p c.args.switch c.args.states.now) _ c.in_err-m.was)
