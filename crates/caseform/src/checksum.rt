@@ -1,7 +1,6 @@
 // The checksum of a list of numbers: 0, and then for each number v in turn (31 h + v + 1) mod 65521. And what a lent buffer holds before the call.
 ghost use Rattle.std.specs.Prelude.{◌≡◌, ◌≤◌, length, take};
 
-use order::Order;
 use plant::{Link, Plant};
 use table::{Rule, Table};
 
@@ -65,10 +64,6 @@ pub fn of_rules(t: &Table) -> u32 {
 
 fn with_rule(h: u32, r: Rule) -> u32 {
     with_all(h, &[u16::from(r.from), r.label, u16::from(r.to)])
-}
-
-pub fn of_order(o: &Order) -> u32 {
-    of(front(&o.links, usize::from(o.count)))
 }
 
 // What a place of a lent buffer holds before the call.

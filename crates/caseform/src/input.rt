@@ -1,5 +1,5 @@
 // The arguments of a case, read one after the other. What lies past the end of the input counts as zeros.
-ghost use Rattle.std.specs.Prelude.{◌≡◌, ◌+◌, ◌≤◌, length};
+ghost use Rattle.std.specs.Prelude.{◌≡◌, ◌+◌, ◌*◌, ◌≤◌, [], length, get_or, slice_get, take, drop};
 
 use plant::{Link, Plant};
 use search::{Outcome, Search};
@@ -10,7 +10,7 @@ pub const PLACES: usize = 256 * 256;
 // What is left of the input.
 #[derive(Drop)]
 pub struct Input<'a> {
-    rest: &'a [u8],
+    pub rest: &'a [u8],
 }
 
 impl<'a> Input<'a> {
@@ -19,54 +19,67 @@ impl<'a> Input<'a> {
     }
 
     // As many of n bytes as there are.
-    fn take(&mut self, n: usize) -> &'a [u8] {
+    fn take(&mut self, n: usize) -> &'a [u8]
+        ensures taken { result.now ≡ take n self.old.rest.now }
+        ensures rest { self.new.rest.now ≡ drop n self.old.rest.now }
+    {
         let (taken, rest) = self.rest.split_at(n.min(self.rest.len()));
         self.rest = rest;
         taken
     }
 
-    // The call of the next case, if there is one.
-    pub fn call(&mut self) -> Option<u8> {
-        let (call, rest) = self.rest.split_first()?;
-        self.rest = rest;
-        Some(*call)
+    // The next byte, if there is one: the call of a case.
+    pub fn next(&mut self) -> Option<u8>
+        ensures byte { result ≡ slice_get self.old.rest.now 0 }
+        ensures rest { self.new.rest.now ≡ drop 1 self.old.rest.now }
+    {
+        self.take(1).first().copied()
     }
 
     // Nothing more is read.
-    pub fn end(&mut self) {
+    pub fn end(&mut self)
+        ensures { self.new.rest.now ≡ [] }
+    {
         self.rest = &[];
     }
 
-    pub fn byte(&mut self) -> u8 {
-        self.call().unwrap_or(0)
-    }
-
-    fn bytes<const N: usize>(&mut self) -> [u8; N] {
-        let mut bytes = [0; N];
-        for byte in &mut bytes {
-            *byte = self.byte();
-        }
-        bytes
+    pub fn byte(&mut self) -> u8
+        ensures byte { result ≡ get_or self.old.rest.now 0 0 }
+        ensures rest { self.new.rest.now ≡ drop 1 self.old.rest.now }
+    {
+        self.next().unwrap_or(0)
     }
 
     // A number of two bytes, low byte first.
-    pub fn number(&mut self) -> u16 {
-        u16::from_le_bytes(self.bytes())
+    pub fn number(&mut self) -> u16
+        ensures number { result ≡ get_or self.old.rest.now 0 0 + 256 * get_or self.old.rest.now 1 0 }
+        ensures rest { self.new.rest.now ≡ drop 2 self.old.rest.now }
+    {
+        let low = u16::from(self.byte());
+        low + 256 * u16::from(self.byte())
     }
 
     // A set of eight bytes, low byte first.
     pub fn set(&mut self) -> u64 {
-        u64::from_le_bytes(self.bytes())
+        let mut bytes = [0; 8];
+        for byte in &mut bytes {
+            *byte = self.byte();
+        }
+        u64::from_le_bytes(bytes)
     }
 
     // A byte string: a two-byte length, and the bytes.
-    pub fn string(&mut self) -> &'a [u8] {
+    pub fn string(&mut self) -> &'a [u8]
+        ensures { result.now ≡ take (get_or self.old.rest.now 0 0 + 256 * get_or self.old.rest.now 1 0) (drop 2 self.old.rest.now) }
+    {
         let n = self.number();
         self.take(usize::from(n))
     }
 
     // A list of labels, a two-byte count and two bytes each, to the front of the lent places: these, or as many as there is place for.
-    pub fn labels<'b>(&mut self, places: &'b mut [u16]) -> &'b [u16] {
+    pub fn labels<'b>(&mut self, places: &'b mut [u16]) -> &'b [u16]
+        ensures { length result.now ≤ length places.old }
+    {
         let n = usize::from(self.number());
         let mut list = Input::new(self.take(2 * n));
         let count = n.min(places.len());
@@ -140,7 +153,9 @@ fn copy(list: &[u16], places: &mut [u16], at: usize) -> usize
 }
 
 // The labels of the one list so many times over, and then those of the other, to the front of the lent places: these, or as many as there is place for.
-pub fn packet<'a>(list: &[u16], times: u16, more: &[u16], places: &'a mut [u16]) -> &'a [u16] {
+pub fn packet<'a>(list: &[u16], times: u16, more: &[u16], places: &'a mut [u16]) -> &'a [u16]
+    ensures { length result.now ≤ length places.old }
+{
     let mut at = 0;
     for _ in 0..times {
         at = copy(list, places, at);
