@@ -7,7 +7,7 @@ ghost use Rattle.search.specs.Answers.{outcome_in, call_in, calls_in};
 
 use search::{Outcome, Progress, Search};
 
-// An outcome as a byte: 1 is returned, any other is lost.
+// An outcome as a byte: 1 is returned, any other is lost. No byte is refused, so an enum of bytes would tell no more.
 fn outcome_in(b: u8) -> Outcome
     ensures { result ≡ outcome_in b }
 {
