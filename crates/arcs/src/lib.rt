@@ -21,11 +21,14 @@ pub struct Net {
     pub root: u8,
 }
 
-// The tails and the heads of the arcs, by their labels.
+// A sound plant, and the tails and the heads of its arcs, by their labels.
 #[derive(Clone, Copy)]
 pub struct ArcEnds {
+    pub plant: Plant,
     pub tails: [u8; Plant::LABELS],
     pub heads: [u8; Plant::LABELS],
+    pub ghost sound: { Sound plant },
+    pub ghost ends: { Ends plant tails heads },
 }
 
 // The first arc of each switch, and after each arc the next of the same switch, by rising label. The number of labels stands for none, as in the chains' definition
@@ -82,7 +85,7 @@ pub fn net_from(net: Net, root: u8) -> Net
 // The switch that each arc leaves, and the one that it reaches.
 pub fn ends_of(p: Plant) -> ArcEnds
     requires { Sound p }
-    ensures { Ends p result.tails result.heads }
+    ensures { result.plant ≡ p }
 {
     let mut tails = [0u8; Plant::LABELS];
     let mut heads = [0u8; Plant::LABELS];
@@ -91,7 +94,11 @@ pub fn ends_of(p: Plant) -> ArcEnds
         tails[a] = tail_of(l, a);
         heads[a] = head_of(l, a);
     }
-    ArcEnds { tails, heads }
+    ArcEnds {
+        plant: p,
+        tails,
+        heads,
+    }
 }
 
 // E, the number of links in service: all but the marked ones. What is no place of a plant has no mark.
@@ -108,13 +115,12 @@ pub fn links_in_service(p: Plant) -> u16
 }
 
 // A flag for each label: is its link in service?
-pub fn all_arcs(p: Plant) -> [bool; Plant::LABELS]
-    requires { Sound p }
-    ensures { AllArcs p result }
+pub fn all_arcs(ends: &ArcEnds) -> [bool; Plant::LABELS]
+    ensures { AllArcs ends.now.plant result }
 {
     let mut r = [false; Plant::LABELS];
-    for a in 0..2 * usize::from(p.count) {
-        r[a] = in_service(p.links[a / 2]);
+    for a in 0..2 * usize::from(ends.plant.count) {
+        r[a] = in_service(ends.plant.links[a / 2]);
     }
     r
 }

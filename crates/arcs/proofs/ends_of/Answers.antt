@@ -19,8 +19,8 @@ loop-a-preserved c =
       laid_put 0 (2 * max_links) (head p) k.a k.heads k.invariant.1 _ few c.head_of.ensures,
     )
 
-pub returns : goal.returns
-returns c =
+pub invariant_of-result-clause-ends : goal.invariant_of-result-clause-ends
+invariant_of-result-clause-ends c =
     let k = c.loop-a in
     let p = c.args.p in
     record {
