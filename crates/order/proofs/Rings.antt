@@ -16,19 +16,18 @@ use Rattle.lists.specs.Members.{In}
 use Rattle.lists.specs.Tests.{choose}
 use Rattle.plant.specs.declared.Plant.{Plant}
 use Rattle.limits.specs.Limits.{max_links}
-use Rattle.limits.specs.Sound.{Sound}
 use Rattle.walks.specs.Arcs.{tail}
 use Rattle.walks.proofs.Live.{live_below}
 use Rattle.rings.proofs.Ring.{place-most}
 use Rattle.rings.specs.Injection.{place_of}
 use Rattle.rings.specs.Probe.{up_to}
-use Rattle.order.specs.Labels.{OverArcs}
+use Rattle.order.specs.declared.Ring.{Ring}
 
 -- ---- what the code asks
 
 -- the links of the labels have places
-pub links_in : (p : Plant) (w : List ℕ) → Sound p → OverArcs p w → (a : ℕ) → In a w → a / 2 < max_links
-links_in p w ok arcs a h = omega (arith, ok.few_links, live_below p (a / 2) (arcs a h))
+pub links_in : (r : Ring) (a : ℕ) → In a r.trail.now → a / 2 < max_links
+links_in r a h = omega (arith, r.ends.now.sound.few_links, live_below r.ends.now.plant (a / 2) (r.over_arcs a h))
 
 pub place_in : (p : Plant) (w : List ℕ) (s k : ℕ) → k ≡ place_of p w s → k ≤ length w
 place_in p w s k e = omega (arith, place-most (tail p) s w)

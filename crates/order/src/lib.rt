@@ -1,10 +1,8 @@
 // The ring of an injection switch in a lent trail: its place, the order of links by first crossing, and the outward labels of a probe as parts of the trail. Inner: the calls are those of docs/CALLS.md.
 #![tactic(auto)]
 
-ghost use Rattle.std.specs.Prelude.{◌≡◌, ◌==◌, ℕ, ◌+◌, ◌/◌, ◌≤◌, ◌<◌, ◌++◌, length, take, drop, position};
-ghost use Rattle.lists.specs.Members.{In};
+ghost use Rattle.std.specs.Prelude.{◌≡◌, ◌==◌, ◌+◌, ◌/◌, ◌≤◌, ◌++◌, length, take, drop, position};
 ghost use Rattle.limits.specs.Limits.{max_links};
-ghost use Rattle.limits.specs.Sound.{Sound};
 ghost use Rattle.rings.specs.Ring.{read_from};
 ghost use Rattle.rings.specs.Order.{order};
 ghost use Rattle.rings.specs.Probe.{up_to};
@@ -13,7 +11,17 @@ ghost use Rattle.order.specs.Labels.{OverArcs};
 ghost use Rattle.order.specs.Order.{listed};
 ghost use Rattle.order.specs.Span.{ring_span, span_of, shifted_by, stretch_of, front_of};
 
+use arcs::ArcEnds;
 use plant::{Plant, tail_of};
+
+// The trail that an injection at a switch goes over, in a lent trail over arcs of a plant: its ring is the trail from the place of the switch on, and then its front.
+#[derive(Clone, Copy)]
+pub struct Ring<'a> {
+    pub ends: &'a ArcEnds,
+    pub switch: u8,
+    pub trail: &'a [u16],
+    pub ghost over_arcs: { OverArcs ends.now.plant trail.now },
+}
 
 // Links by first crossing, `count` of them; the places past them are zero. The array has a place for each link of any plant, since nothing is kept on a heap.
 #[derive(Clone, Copy, Debug, PartialEq, Eq)]
@@ -31,32 +39,29 @@ pub struct Span {
     pub front: usize,
 }
 
-// The place of switch s: the first hop of the trail that leaves it. As many as there are hops if none does, so 0 if the trail is empty.
-pub fn place_of(p: Plant, s: u8, trail: &[u16]) -> usize
-    requires sound { Sound p }
-    requires over_arcs { OverArcs p trail.now }
-    ensures place { result ≡ place_of p trail.now s }
-    ensures in_trail { result ≤ length trail.now }
+// The place of the switch: the first hop of the trail that leaves it. As many as there are hops if none does, so 0 if the trail is empty.
+pub fn place_of(ring: &Ring) -> usize
+    ensures place { result ≡ place_of ring.now.ends.now.plant ring.now.trail.now ring.now.switch }
+    ensures in_trail { result ≤ length ring.now.trail.now }
 {
-    for (i, a) in trail.iter().enumerate() {
+    for (i, a) in ring.trail.iter().enumerate() {
         let a = usize::from(*a);
-        if tail_of(p.links[a / 2], a) == s {
+        if tail_of(ring.ends.plant.links[a / 2], a) == ring.switch {
             return i;
         }
     }
-    trail.len()
+    ring.trail.len()
 }
 
 // The links of the trail read from place k, each at its first crossing.
-fn order_from(trail: &[u16], k: usize) -> Order
-    requires k_in_bounds { k ≤ length trail.now }
-    requires by_index { (a : ℕ) → In a trail.now → a / 2 < max_links }
-    ensures { result ≡ listed (order (read_from k trail.now)) }
+fn order_from(ring: &Ring, k: usize) -> Order
+    requires { k ≤ length ring.now.trail.now }
+    ensures { result ≡ listed (order (read_from k ring.now.trail.now)) }
 {
     let mut links = [0; Plant::MAX_LINKS];
     let mut seen = [false; Plant::MAX_LINKS];
     let mut count: u16 = 0;
-    let (front, rest) = trail.split_at(k);
+    let (front, rest) = ring.trail.split_at(k);
     for a in rest.iter().chain(front.iter()) {
         let l = *a / 2;
         if !seen[usize::from(l)] {
@@ -68,14 +73,12 @@ fn order_from(trail: &[u16], k: usize) -> Order
     Order { count, links }
 }
 
-// The order of links by first crossing from the place of switch s.
-pub fn order_of(p: Plant, s: u8, trail: &[u16]) -> Order
-    requires sound { Sound p }
-    requires over_arcs { OverArcs p trail.now }
-    ensures { result ≡ listed (order_of p trail.now s) }
+// The order of links by first crossing from the place of the switch.
+pub fn order_of(ring: &Ring) -> Order
+    ensures { result ≡ listed (order_of ring.now.ends.now.plant ring.now.trail.now ring.now.switch) }
 {
-    let k = place_of(p, s, trail);
-    order_from(trail, k)
+    let k = place_of(ring);
+    order_from(ring, k)
 }
 
 // The number of the first label that crosses link l, of the labels v and then w.
@@ -97,35 +100,31 @@ fn out_to(trail: &[u16], k: usize, l: u16) -> usize
     }
 }
 
-// Where the labels of the full check stand: the whole ring of switch s.
-pub fn ring_span(p: Plant, s: u8, trail: &[u16]) -> Span
-    requires sound { Sound p }
-    requires over_arcs { OverArcs p trail.now }
-    ensures { result ≡ ring_span p trail.now s }
+// Where the labels of the full check stand: the whole ring.
+pub fn ring_span(ring: &Ring) -> Span
+    ensures { result ≡ ring_span ring.now.ends.now.plant ring.now.trail.now ring.now.switch }
 {
-    let k = place_of(p, s, trail);
+    let k = place_of(ring);
     Span {
         from: k,
-        len: trail.len() - k,
+        len: ring.trail.len() - k,
         begin: 0,
         front: k,
     }
 }
 
-// Where the outward labels of probe m stand: those of the trail from the place of switch s up to the first crossing of the m-th link of the order.
-pub fn span_of(p: Plant, s: u8, trail: &[u16], m: u16) -> Span
-    requires sound { Sound p }
-    requires over_arcs { OverArcs p trail.now }
+// Where the outward labels of probe m stand: those of the trail from the place of the switch up to the first crossing of the m-th link of the order.
+pub fn span_of(ring: &Ring, m: u16) -> Span
     requires le_m { 1 ≤ m }
     requires m_le_max_links { m ≤ max_links }
-    ensures { result ≡ span_of p trail.now s m }
+    ensures { result ≡ span_of ring.now.ends.now.plant ring.now.trail.now ring.now.switch m }
 {
-    let k = place_of(p, s, trail);
-    let o = order_from(trail, k);
+    let k = place_of(ring);
+    let o = order_from(ring, k);
     let j = (m - 1) as usize;
     let l = o.links[j];
-    let n = out_to(trail, k, l);
-    let len = n.min(trail.len() - k);
+    let n = out_to(ring.trail, k, l);
+    let len = n.min(ring.trail.len() - k);
     Span {
         from: k,
         len,

@@ -8,5 +8,5 @@ use Rattle.order.proofs.order_from.Given as goal
 abbrev pub invariant-loop-a : goal.invariant-loop-a
 invariant-loop-a l = record {
   goes_on : l.a-iterator.b_done ≡ false;
-  gathered : Gathered (read_from l.k l.trail) (left l.a-iterator) l.links l.seen l.count;
+  gathered : Gathered (read_from l.k l.ring.trail.now) (left l.a-iterator) l.links l.seen l.count;
 }
