@@ -4,9 +4,6 @@
 ghost use Rattle.std.specs.Prelude.{◌≡◌, ◌*◌, ◌≤◌, ◌<◌};
 ghost use Rattle.lists.specs.Arrays.{at};
 ghost use Rattle.limits.specs.Limits.{max_switches, max_links};
-ghost use Rattle.limits.specs.Sound.{Sound};
-ghost use Rattle.walks.specs.Arcs.{tail, head};
-ghost use Rattle.arcs.specs.Net.{Ends};
 ghost use Rattle.arcs.specs.Shows.{Visits};
 ghost use Rattle.visit.specs.Inner.{SomeArcs, AllChained, enter_of, begin_of, At, Went};
 
@@ -68,32 +65,26 @@ fn begin(root: u8) -> Visited
 }
 
 // The chains of all arcs of a plant, which each visit of it goes by.
-pub fn all_chains(p: Plant, ends: &ArcEnds) -> Chains
-    requires sound { Sound p }
-    requires tails_value { at ends.now.tails ≡ tail p }
-    ensures { AllChained p result.first result.after }
+pub fn all_chains(ends: &ArcEnds) -> Chains
+    ensures { AllChained ends.now.plant result.first result.after }
 {
-    arcs::chains_of(&ends.tails, &arcs::all_arcs(p), 2 * p.count)
+    arcs::chains_of(&ends.tails, &arcs::all_arcs(ends), 2 * ends.plant.count)
 }
 
 // The depth-first visit from a root by the chains of all arcs.
-pub fn visit_by(p: Plant, ends: &ArcEnds, chains: &Chains, root: u8) -> Visited
-    requires sound { Sound p }
-    requires heads_value { at ends.now.heads ≡ head p }
-    requires all_chained { AllChained p chains.now.first chains.now.after }
-    requires root_lt_switches { root < p.switches }
-    ensures { Visits p root result }
+pub fn visit_by(ends: &ArcEnds, chains: &Chains, root: u8) -> Visited
+    requires all_chained { AllChained ends.now.plant chains.now.first chains.now.after }
+    requires root_lt_switches { root < ends.now.plant.switches }
+    ensures { Visits ends.now.plant root result }
 {
-    visit_from(ends, chains, 2 * p.count, begin(root), root)
+    visit_from(ends, chains, 2 * ends.plant.count, begin(root), root)
 }
 
 // The depth-first visit from a root.
-pub fn visit(p: Plant, ends: &ArcEnds, root: u8) -> Visited
-    requires sound { Sound p }
-    requires ends { Ends p ends.now.tails ends.now.heads }
-    requires root_lt_switches { root < p.switches }
-    ensures { Visits p root result }
+pub fn visit(ends: &ArcEnds, root: u8) -> Visited
+    requires root_lt_switches { root < ends.now.plant.switches }
+    ensures { Visits ends.now.plant root result }
 {
-    let chains = all_chains(p, ends);
-    visit_by(p, ends, &chains, root)
+    let chains = all_chains(ends);
+    visit_by(ends, &chains, root)
 }

@@ -3,7 +3,7 @@ use Rattle.visit.proofs.Whole.{tails_in, all-chained}
 use Rattle.visit.proofs.all_chains.Goals as goal
 
 pub chains_of-requires-clause-tails_in : goal.chains_of-requires-clause-tails_in
-chains_of-requires-clause-tails_in c = tails_in _ c.requires.sound c.args.ends.now.tails c.requires.tails_value c.all_arcs.ensures
+chains_of-requires-clause-tails_in c = tails_in _ c.args.ends.now.sound c.args.ends.now.tails c.args.ends.now.ends.tails_are c.all_arcs.ensures
 
 pub returns : goal.returns
-returns c = all-chained _ c.requires.sound c.args.ends.now.tails c.requires.tails_value c.all_arcs.ensures c.chains_of.ensures
+returns c = all-chained _ c.args.ends.now.sound c.args.ends.now.tails c.args.ends.now.ends.tails_are c.all_arcs.ensures c.chains_of.ensures
