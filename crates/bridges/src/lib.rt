@@ -5,9 +5,7 @@ ghost use Rattle.std.specs.Prelude.{◌≡◌, true, false, ◌+◌, ◌<◌};
 ghost use Rattle.lists.specs.Arrays.{at, flag};
 ghost use Rattle.plant.specs.Links.{live};
 ghost use Rattle.limits.specs.Limits.{max_links};
-ghost use Rattle.limits.specs.Sound.{Sound};
 ghost use Rattle.walks.specs.Graph.{bridge};
-ghost use Rattle.arcs.specs.Net.{Ends};
 ghost use Rattle.arcs.specs.Shows.{TellsAll};
 ghost use Rattle.arcs.specs.Flags.{Flags};
 ghost use Rattle.bridges.specs.Inner.{EntryLinks, Covered, across_of};
@@ -17,14 +15,12 @@ use plant::{Plant, in_service};
 use std::array;
 
 // The link by which each switch was entered. Of the two ends of an entered link, the one with the higher number was entered by it.
-fn entry_links(p: Plant, ends: &ArcEnds, v: Visited) -> [usize; Plant::PLACES]
-    requires sound { Sound p }
-    requires ends { Ends p ends.now.tails ends.now.heads }
-    requires tells_all { TellsAll p v }
-    ensures { EntryLinks p max_links result }
+fn entry_links(ends: &ArcEnds, v: Visited) -> [usize; Plant::PLACES]
+    requires tells_all { TellsAll ends.now.plant v }
+    ensures { EntryLinks ends.now.plant max_links result }
 {
     let mut up = [0usize; Plant::PLACES];
-    for l in 0..p.count as usize {
+    for l in 0..ends.plant.count as usize {
         if v.entered[l] {
             let x = ends.tails[2 * l] as usize;
             let y = ends.heads[2 * l] as usize;
@@ -50,22 +46,19 @@ fn across(ends: &ArcEnds, l: usize, from: u8) -> u8
 // The flags of the links on a cycle, with those of the cycle that link k closes: it is in service and was not entered. From the two ends of k, the one with the higher
 // number goes back over the link by which it was entered, until the two meet. The sum of their numbers falls.
 fn climb(
-    p: Plant,
     ends: &ArcEnds,
     v: Visited,
     up: &[usize; Plant::PLACES],
     c: &mut [bool; Plant::MAX_LINKS],
     k: usize,
 )
-    requires sound { Sound p }
-    requires ends { Ends p ends.now.tails ends.now.heads }
-    requires tells_all { TellsAll p v }
-    requires entry_links { EntryLinks p max_links up.now }
+    requires tells_all { TellsAll ends.now.plant v }
+    requires entry_links { EntryLinks ends.now.plant max_links up.now }
     requires k_lt_max_links { k < max_links }
-    requires covered { Covered p k c.old }
-    requires in_service { live p k ≡ true }
+    requires covered { Covered ends.now.plant k c.old }
+    requires in_service { live ends.now.plant k ≡ true }
     requires not_entered { flag v.entered k ≡ false }
-    ensures { Covered p (k + 1) c.new }
+    ensures { Covered ends.now.plant (k + 1) c.new }
 {
     let mut x = ends.tails[2 * k];
     let mut y = ends.heads[2 * k];
@@ -86,34 +79,29 @@ fn climb(
 
 // A flag for each link: is it entered, and on a cycle that another link closes?
 fn covered_links(
-    p: Plant,
     ends: &ArcEnds,
     v: Visited,
     up: &[usize; Plant::PLACES],
 ) -> [bool; Plant::MAX_LINKS]
-    requires sound { Sound p }
-    requires ends { Ends p ends.now.tails ends.now.heads }
-    requires tells_all { TellsAll p v }
-    requires entry_links { EntryLinks p max_links up.now }
-    ensures { Covered p max_links result }
+    requires tells_all { TellsAll ends.now.plant v }
+    requires entry_links { EntryLinks ends.now.plant max_links up.now }
+    ensures { Covered ends.now.plant max_links result }
 {
     let mut c = [false; Plant::MAX_LINKS];
-    for k in 0..p.count as usize {
-        if in_service(p.links[k]) && !v.entered[k] {
-            climb(p, ends, v, up, &mut c, k);
+    for k in 0..ends.plant.count as usize {
+        if in_service(ends.plant.links[k]) && !v.entered[k] {
+            climb(ends, v, up, &mut c, k);
         }
     }
     c
 }
 
 // A flag for each link: is it a bridge? Such a link was entered, and is on no cycle.
-pub fn bridges_of(p: Plant, ends: &ArcEnds, v: Visited) -> [bool; Plant::MAX_LINKS]
-    requires sound { Sound p }
-    requires ends { Ends p ends.now.tails ends.now.heads }
-    requires tells_all { TellsAll p v }
-    ensures { Flags max_links (bridge p) result }
+pub fn bridges_of(ends: &ArcEnds, v: Visited) -> [bool; Plant::MAX_LINKS]
+    requires tells_all { TellsAll ends.now.plant v }
+    ensures { Flags max_links (bridge ends.now.plant) result }
 {
-    let up = entry_links(p, ends, v);
-    let c = covered_links(p, ends, v, &up);
+    let up = entry_links(ends, v);
+    let c = covered_links(ends, v, &up);
     array::from_fn(|l| v.entered[l] && !c[l])
 }

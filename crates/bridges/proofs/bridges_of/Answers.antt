@@ -11,9 +11,9 @@ use Rattle.bridges.proofs.bridges_of.Goals as goal
 pub returns : goal.returns
 returns c =
     let h = c.requires in
-    let same = bridge-flag h.sound h.tells_all c.covered_links-c.ensures in
+    let same = bridge-flag c.args.ends.now.sound h.tells_all c.covered_links-c.ensures in
     record {
       places = c.from_fn.ensures.items.long;
       tells = λ i. made_all _ (λ j. flag c.args.v.entered j && not (flag c.covered_links-c.result j)) _ (λ x y q k. search (rules, tests)) _ max_links c.from_fn.ensures.items false
-          (λ j g. same j ∙ bridge-past c.args.p j (omega (arith, g, h.sound.few_links))) i ∙ same i;
+          (λ j g. same j ∙ bridge-past c.args.ends.now.plant j (omega (arith, g, c.args.ends.now.sound.few_links))) i ∙ same i;
     }

@@ -6,25 +6,25 @@ use Rattle.bridges.proofs.entry_links.Goals as goal
 use Rattle.bridges.proofs.entry_links.Goals.{then-v-l+then-v-x, then-v-l+else-v-x, else-v-l}
 
 pub bounds-v-x : goal.bounds-v-x
-bounds-v-x c = tail-place c.args.p c.args.ends.now.tails c.requires.ends.tails_are c.requires.sound (2 * c.loop-l.l)
+bounds-v-x c = tail-place c.args.ends.now.plant c.args.ends.now.tails c.args.ends.now.ends.tails_are c.args.ends.now.sound (2 * c.loop-l.l)
 
 pub bounds-v-y : goal.bounds-v-y
-bounds-v-y c = head-place c.args.p c.args.ends.now.heads c.requires.ends.heads_are c.requires.sound (2 * c.loop-l.l)
+bounds-v-y c = head-place c.args.ends.now.plant c.args.ends.now.heads c.args.ends.now.ends.heads_are c.args.ends.now.sound (2 * c.loop-l.l)
 
 pub bounds-up-x : goal.bounds-up-x
-bounds-up-x c = tail-place c.args.p c.args.ends.now.tails c.requires.ends.tails_are c.requires.sound (2 * c.loop-l.l)
+bounds-up-x c = tail-place c.args.ends.now.plant c.args.ends.now.tails c.args.ends.now.ends.tails_are c.args.ends.now.sound (2 * c.loop-l.l)
 
 pub loop-l-preserved : goal.loop-l-preserved
 loop-l-preserved c =
     let h = c.requires in
     let k = c.loop-l in
-    let x = first_end c.args.p c.args.ends.now.tails h.ends.tails_are k.l in
-    let y = second_end c.args.p c.args.ends.now.heads h.ends.heads_are k.l in
+    let x = first_end c.args.ends.now.plant c.args.ends.now.tails c.args.ends.now.ends.tails_are k.l in
+    let y = second_end c.args.ends.now.plant c.args.ends.now.heads c.args.ends.now.ends.heads_are k.l in
     elim c.if-v-l.branch [
-      | then-v-l+then-v-x w ↦ rw w.up-is (entry_second h.sound h.tells_all k.invariant w.if-v-l.true x y w.if-v-x.true)
-      | then-v-l+else-v-x w ↦ rw w.up-is (entry_first h.sound h.tells_all k.invariant w.if-v-l.true x y w.if-v-x.false)
-      | else-v-l w ↦ rw w.up-is (entry_pass h.sound h.tells_all k.invariant w.if-v-l.false)
+      | then-v-l+then-v-x w ↦ rw w.up-is (entry_second c.args.ends.now.sound h.tells_all k.invariant w.if-v-l.true x y w.if-v-x.true)
+      | then-v-l+else-v-x w ↦ rw w.up-is (entry_first c.args.ends.now.sound h.tells_all k.invariant w.if-v-l.true x y w.if-v-x.false)
+      | else-v-l w ↦ rw w.up-is (entry_pass c.args.ends.now.sound h.tells_all k.invariant w.if-v-l.false)
     ]
 
 pub returns : goal.returns
-returns c = entry_all c.requires.sound c.loop-l.invariant c.loop-l-test.false
+returns c = entry_all c.args.ends.now.sound c.loop-l.invariant c.loop-l-test.false
