@@ -4,12 +4,10 @@
 
 ghost use Rattle.std.specs.Prelude.{◌≡◌, ◌*◌};
 ghost use Rattle.limits.specs.Limits.{max_links};
-ghost use Rattle.limits.specs.Sound.{Sound};
 ghost use Rattle.lists.specs.Arrays.{flag};
 ghost use Rattle.walks.specs.Graph.{bridge};
 ghost use Rattle.walks.specs.Components.{used};
 ghost use Rattle.walks.specs.Inner.{leading_from};
-ghost use Rattle.arcs.specs.Net.{Ends};
 ghost use Rattle.arcs.specs.Shows.{Visits, TellsAll};
 ghost use Rattle.arcs.specs.Flags.{Flags, count_set};
 ghost use Rattle.uses.specs.Inner.{is_taken, taken_by};
@@ -27,21 +25,14 @@ fn taken(two: bool, entered: bool, tail: u8, head: u8) -> bool
 }
 
 // A flag for each label: is its arc taken, where these links have two?
-fn arcs_taken(
-    p: Plant,
-    ends: &ArcEnds,
-    v: Visited,
-    two: &[bool; Plant::MAX_LINKS],
-) -> [bool; Plant::LABELS]
-    requires sound { Sound p }
-    requires ends { Ends p ends.now.tails ends.now.heads }
-    ensures { Flags (2 * max_links) (taken_by p v (flag two.now)) result }
+fn arcs_taken(ends: &ArcEnds, v: Visited, two: &[bool; Plant::MAX_LINKS]) -> [bool; Plant::LABELS]
+    ensures { Flags (2 * max_links) (taken_by ends.now.plant v (flag two.now)) result }
 {
     let mut u = [false; Plant::LABELS];
-    for l in 0..p.count as usize {
+    for l in 0..ends.plant.count as usize {
         let x = ends.tails[2 * l] as usize;
         let y = ends.heads[2 * l] as usize;
-        if in_service(p.links[l]) && v.seen[x] {
+        if in_service(ends.plant.links[l]) && v.seen[x] {
             let i = v.rank[x];
             let j = v.rank[y];
             u[2 * l] = taken(two[l], v.entered[l], i, j);
@@ -53,28 +44,23 @@ fn arcs_taken(
 
 // A flag for each label: is its arc in use? Both arcs of a bridge are: the flags of the bridges are given.
 pub fn arcs_in_use(
-    p: Plant,
     ends: &ArcEnds,
     v: Visited,
     b: &[bool; Plant::MAX_LINKS],
 ) -> [bool; Plant::LABELS]
-    requires sound { Sound p }
-    requires ends { Ends p ends.now.tails ends.now.heads }
-    requires tells_all { TellsAll p v }
-    requires flags { Flags max_links (bridge p) b.now }
-    ensures { Flags (2 * max_links) (used p) result }
+    requires tells_all { TellsAll ends.now.plant v }
+    requires flags { Flags max_links (bridge ends.now.plant) b.now }
+    ensures { Flags (2 * max_links) (used ends.now.plant) result }
 {
-    arcs_taken(p, ends, v, b)
+    arcs_taken(ends, v, b)
 }
 
 // A flag for each label: is it the one by which the round trail crosses its link first? No link has two of them.
-pub fn leading_arcs(p: Plant, ends: &ArcEnds, v: Visited) -> [bool; Plant::LABELS]
-    requires sound { Sound p }
-    requires ends { Ends p ends.now.tails ends.now.heads }
-    requires visits { Visits p v.root v }
-    ensures { Flags (2 * max_links) (leading_from p v.root) result }
+pub fn leading_arcs(ends: &ArcEnds, v: Visited) -> [bool; Plant::LABELS]
+    requires visits { Visits ends.now.plant v.root v }
+    ensures { Flags (2 * max_links) (leading_from ends.now.plant v.root) result }
 {
-    arcs_taken(p, ends, v, &[false; Plant::MAX_LINKS])
+    arcs_taken(ends, v, &[false; Plant::MAX_LINKS])
 }
 
 // How many flags are set?

@@ -7,4 +7,4 @@ use Rattle.uses.specs.Inner.{taken_by}
 use Rattle.uses.proofs.arcs_taken.Given as goal
 
 abbrev pub invariant-loop-l : goal.invariant-loop-l
-invariant-loop-l l = Laid false (2 * max_links) (taken_by l.fn.p l.fn.v (flag l.fn.two)) (2 * l.l) l.u
+invariant-loop-l l = Laid false (2 * max_links) (taken_by l.ends.plant l.fn.v (flag l.fn.two)) (2 * l.l) l.u
