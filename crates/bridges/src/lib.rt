@@ -115,5 +115,5 @@ pub fn bridges_of(p: Plant, ends: &ArcEnds, v: Visited) -> [bool; Plant::MAX_LIN
 {
     let up = entry_links(p, ends, v);
     let c = covered_links(p, ends, v, &up);
-    array::from_fn(|l| v.entered[l] && !c[l])
+    array::from_fn(|l| v.entered[l] & !c[l])
 }
