@@ -48,6 +48,7 @@ pub fn link_fields(before: Link) -> [Field; 4]
 }
 
 // Refusal 5's condition on the values of a header.
+#[tactic(auto, unfolding(crate::specs::Listing::value_out_of_range))]
 pub fn out_of_range(switches: u32, count: u32, start: u32) -> bool
     ensures { result ≡ value_out_of_range switches count start }
 {
@@ -76,6 +77,7 @@ pub fn read_header(s: &[u8], at: usize) -> Result<Header, Refusal>
 }
 
 // Refusals 6 and 7 of a link with these ends.
+#[tactic(auto, unfolding(crate::specs::Listing::sound_link, crate::specs::Listing::end_out_of_range, crate::specs::Listing::self_link))]
 pub fn judge_ends(first: u32, second: u32, switches: u8) -> Result<(), Refusal>
     ensures { (tag : ℕ) (mark : Bool) → answer_of result ≡ answer (sound_link switches (link_of first second tag mark)) }
 {
