@@ -68,6 +68,7 @@ pub fn read_header(s: &[u8], at: usize) -> Result<Header, Refusal>
         out_of_range(switches, count, start),
         Refusal::ValueOutOfRange,
     )?;
+    // what is in range fits
     Ok(Header {
         switches: switches as u8,
         count: count as u16,
@@ -98,6 +99,7 @@ fn read_link(s: &[u8], at: usize, before: Link, switches: u8) -> Result<(Link, u
     let part = read_part(s, at, &link_fields(before))?;
     let [first, second, tag, service] = part.values;
     judge_ends(first, second, switches)?;
+    // ends below the switch count fit, and a tag has two bytes
     let l = Link {
         first: first as u8,
         second: second as u8,
@@ -114,6 +116,7 @@ pub fn read_links(s: &[u8], at: usize, h: Header) -> Result<Linked, Refusal>
     let mut plant = Plant::with(h.switches, h.count, h.start);
     let mut before = Link::zero();
     let mut next = at;
+    // place by place: what the loop has come to is said of the whole plant
     for i in 0..usize::from(h.count) {
         let (l, after) = read_link(s, next, before, h.switches)?;
         plant.links[i] = l;
