@@ -6,5 +6,4 @@ pub mod Entries
 pub mod Ways
 pub mod Ends
 pub mod Entered
-pub mod Counted
 pub mod Made

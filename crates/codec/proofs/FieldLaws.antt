@@ -63,9 +63,6 @@ module _ (s : List ℕ) (at width : ℕ) where
     pub is : n ≡ number (take (width - i) (drop (at + i) s))
     pub fits : n < (2 ^ 8) ^ (width - i)
 
-  pub from_end : From width 0
-  from_end = let e : width - width ≡ 0 = omega arith in record { is = rw e refl; fits = rw e (omega arith) }
-
   -- one byte further down
   pub from_next : (i n b : ℕ) → 0 < i → i ≤ width → b ≡ get_or s (at + (i - 1)) 0 → b < 2 ^ 8 → From i n → From (i - 1) (n * 256 + b)
   from_next i n b h w e small f =
@@ -76,13 +73,6 @@ module _ (s : List ℕ) (at width : ℕ) where
         is = rw (k, number-next (width - i) (at + (i - 1)) s, j, m, e, f.is);
         fits = rw (k, m) (one_more (width - i) b n small f.fits);
       }
-
-  pub from_start : (i n : ℕ) → i ≤ 0 → From i n → n ≡ number (take width (drop at s))
-  from_start i n h f =
-      let z : i ≡ 0 = omega arith in
-      let k : width - 0 ≡ width = omega arith in
-      let j : at + 0 ≡ at = omega arith in
-      rw (z, k, j) at f.is
 
   -- before the last of at most four bytes there is room for one more in 32 bits
   pub from_room : (i n : ℕ) → width ≤ 4 → 0 < i → From i n → n < 2 ^ 24

@@ -8,7 +8,7 @@ use lib.ListN.{length, get_or, drop, length-drop, drop_of_length-le}
 use Rattle.std.proofs.lemmas.List.{drop_more, at_drop_more}
 use Rattle.lists.proofs.Members.{each_at}
 use Rattle.codec.specs.declared.Field.{Field}
-use Rattle.codec.specs.Part.{taken, size, rest, is_given, map_of}
+use Rattle.codec.specs.Part.{taken, size, is_given, map_of}
 use Rattle.codec.specs.Layout.{Proper}
 use Rattle.codec.proofs.PartRoundTrip.{map_below}
 
@@ -23,12 +23,9 @@ pub narrow_at : {fs : List Field} → Proper fs → (i : ℕ) → i < length fs 
 narrow_at {fs} q i h = each_at (λ f. f.width ≤ 4) fs no_field q.narrow i h
 
 module _ (fs : List Field) (i m : ℕ) (h : i < length fs) where
-  -- the bytes that the fields take, and what they leave of the map
+  -- the bytes that the fields take
   pub size-next : size m (drop i fs) ≡ taken (field_at fs i) (m % 2) + size (m / 2) (drop (i + 1) fs)
   size-next = at_drop_more (size m) fs i no_field h
-
-  pub rest-next : rest m (drop i fs) ≡ rest (m / 2) (drop (i + 1) fs)
-  rest-next = at_drop_more (rest m) fs i no_field h
 
 -- ---- the map, from the high bit down: m is the map of the fields from i on, for a part with the values vs
 

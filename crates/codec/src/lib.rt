@@ -59,6 +59,7 @@ fn number_at(s: &[u8], at: usize, width: usize) -> u32
 }
 
 // The field that stands at `at`, by its bit.
+#[tactic(auto, unfolding(crate::specs::Part::taken, crate::specs::Part::value_of, crate::specs::Part::redundant))]
 fn read_field(s: &[u8], at: usize, bit: usize, f: Field) -> Found
     requires { (f.width ≤ 4) × (at + 4 < 2 ^ 64) }
     ensures value_is { result.value ≡ value_of f bit (drop at s.now) }
@@ -81,6 +82,7 @@ fn read_field(s: &[u8], at: usize, bit: usize, f: Field) -> Found
 }
 
 // The bytes that a field takes, by its bit.
+#[tactic(auto, unfolding(crate::specs::Part::taken))]
 fn taken_by(f: Field, bit: usize) -> usize
     requires { f.width ≤ 4 }
     ensures { (result ≡ taken f bit) × (result ≤ 4) }

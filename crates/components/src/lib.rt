@@ -53,6 +53,13 @@ fn nothing() -> Forest
     }
 }
 
+// The new value of a switch that is seen, and the old one of another. It is given both, so that what goes over all places has no branch.
+fn pick<T: Copy>(seen: bool, new: T, old: T) -> T
+    ensures { result ≡ choose seen new old }
+{
+    if seen { new } else { old }
+}
+
 // With the component of one root more, which none of those found before reaches.
 fn with_component(p: Plant, ends: &ArcEnds, chains: &Chains, f: Forest, root: u8) -> Forest
     requires sound { Sound p }
@@ -65,9 +72,9 @@ fn with_component(p: Plant, ends: &ArcEnds, chains: &Chains, f: Forest, root: u8
     let v = visit::visit_by(p, ends, chains, root);
     let mut roots = f.roots;
     roots[f.count as usize] = root;
-    let home = array::from_fn(|x| if v.seen[x] { Some(f.count) } else { f.home[x] });
-    let rank = array::from_fn(|x| if v.seen[x] { v.rank[x] } else { f.rank[x] });
-    let entered = array::from_fn(|l| f.entered[l] || v.entered[l]);
+    let home = array::from_fn(|x| pick(v.seen[x], Some(f.count), f.home[x]));
+    let rank = array::from_fn(|x| pick(v.seen[x], v.rank[x], f.rank[x]));
+    let entered = array::from_fn(|l| f.entered[l] | v.entered[l]);
     Forest {
         count: f.count + 1,
         roots,

@@ -3,8 +3,8 @@ use mathlib.Core.Path.{◌≡◌, refl, sym, ap, ap₂, ◌∙◌}
 use mathlib.Core.List.{List, [], ◌++◌}
 use Prim.Native.Nat.{ℕ, suc, ◌+◌, ◌-◌, ◌/◌, ◌%◌, ◌≤◌, ◌<◌}
 use native.Mathlib.Omega.{arith}
-use borrow.Author.Tests.{eq-eqb, ne_eqb}
-use lib.ListN.{length, get_or, drop, set, length-append, length-set}
+use borrow.Author.Tests.{ne_eqb}
+use lib.ListN.{length, get_or, drop, set, length-append}
 use lib.Seq.{sets}
 use Rattle.std.proofs.lemmas.List.{drop_more}
 use Rattle.lists.proofs.Arrays.{sets-append, laid}
@@ -24,9 +24,6 @@ module _ (b : List ℕ) (at width i v : ℕ) where
       sym (ap (λ (w : ℕ). sets b (at + i) (bytes_of w v)) k ∙ ap (λ (n : ℕ). sets (set b (at + i) (v % 256)) n (bytes_of (width - (i + 1)) (v / 256))) j)
 
 -- ---- the bytes of a field
-
-pub field-none : (f : Field) (v : ℕ) → v ≡ f.absent → field_bytes f v ≡ []
-field-none f v e = rw (eq-eqb v f.absent e) refl
 
 pub field-some : (f : Field) (v : ℕ) → (v ≡ f.absent → ⊥) → field_bytes f v ≡ bytes_of f.width v
 field-some f v n = rw (ne_eqb v f.absent n) refl
@@ -83,9 +80,6 @@ module _ (b : List ℕ) (at : ℕ) (fs : List Field) (vs : List ℕ) where
   pub part_end : at + 1 + length (body_of fs vs) ≡ at + length (part_bytes fs vs)
   unfolding part_bytes
   part_end = omega arith
-
-  pub part_same : (m : ℕ) (b' : List ℕ) → b' ≡ sets (set b at m) (at + 1) (body_of fs vs) → length b' ≡ length b
-  part_same m b' e = laid (set b at m) b' (at + 1) (body_of fs vs) e ∙ length-set b at m
 
   pub part-laid : (m : ℕ) → m ≡ map_of fs vs → sets (set b at m) (at + 1) (body_of fs vs) ≡ sets b at (part_bytes fs vs)
   unfolding part_bytes

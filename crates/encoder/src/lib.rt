@@ -22,6 +22,7 @@ fn part_map<const N: usize>(fields: &[Field; N], values: &[u32; N]) -> u8
     ensures { result ≡ map_of fields.now values.now }
 {
     let mut m: u8 = 0;
+    // from the high bit down, over both arrays
     for i in (0..N).rev() {
         m = m * 2 + field_bit(fields[i], values[i]);
     }
@@ -37,7 +38,7 @@ pub fn part_size<const N: usize>(fields: &[Field; N], values: &[u32; N]) -> usiz
     extent.size + 1
 }
 
-// A number into `width` bytes from `at` on, low byte first.
+// A number into `width` bytes from `at` on, low byte first. Byte by byte, since the width can be any, also past the four bytes of the number.
 fn put_number(buf: &mut [u8], at: usize, width: usize, value: u32)
     requires { at + width ≤ length buf.old }
     ensures { buf.new ≡ sets buf.old at (bytes_of width value) }

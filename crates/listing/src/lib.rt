@@ -48,6 +48,7 @@ pub fn link_fields(before: Link) -> [Field; 4]
 }
 
 // Refusal 5's condition on the values of a header.
+#[tactic(auto, unfolding(crate::specs::Listing::value_out_of_range))]
 pub fn out_of_range(switches: u32, count: u32, start: u32) -> bool
     ensures { result ≡ value_out_of_range switches count start }
 {
@@ -67,6 +68,7 @@ pub fn read_header(s: &[u8], at: usize) -> Result<Header, Refusal>
         out_of_range(switches, count, start),
         Refusal::ValueOutOfRange,
     )?;
+    // what is in range fits
     Ok(Header {
         switches: switches as u8,
         count: count as u16,
@@ -76,6 +78,7 @@ pub fn read_header(s: &[u8], at: usize) -> Result<Header, Refusal>
 }
 
 // Refusals 6 and 7 of a link with these ends.
+#[tactic(auto, unfolding(crate::specs::Listing::sound_link, crate::specs::Listing::end_out_of_range, crate::specs::Listing::self_link))]
 pub fn judge_ends(first: u32, second: u32, switches: u8) -> Result<(), Refusal>
     ensures { (tag : ℕ) (mark : Bool) → answer_of result ≡ answer (sound_link switches (link_of first second tag mark)) }
 {
@@ -96,6 +99,7 @@ fn read_link(s: &[u8], at: usize, before: Link, switches: u8) -> Result<(Link, u
     let part = read_part(s, at, &link_fields(before))?;
     let [first, second, tag, service] = part.values;
     judge_ends(first, second, switches)?;
+    // ends below the switch count fit, and a tag has two bytes
     let l = Link {
         first: first as u8,
         second: second as u8,
@@ -112,6 +116,7 @@ pub fn read_links(s: &[u8], at: usize, h: Header) -> Result<Linked, Refusal>
     let mut plant = Plant::with(h.switches, h.count, h.start);
     let mut before = Link::zero();
     let mut next = at;
+    // place by place: what the loop has come to is said of the whole plant
     for i in 0..usize::from(h.count) {
         let (l, after) = read_link(s, next, before, h.switches)?;
         plant.links[i] = l;

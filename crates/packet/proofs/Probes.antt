@@ -48,6 +48,13 @@ module _ (n : ℕ) (p : Plant) (rules : List Bool) (states : List ℕ) where
       on_two n p rules states i e r (drop k w) (take k w) (a ∙ ap (goes_by n p rules states i) whole) b
       ∙ ap₂ (λ (j : End) (i : ℕ). goes_by n p rules states j (drop i w ++ take i w)) new at
 
+  -- out over two stretches and back
+  pub on_four : (s : ℕ) (i e f g r : End) (x y : List ℕ) → i ≡ injected_at s → e ≡ goes_by n p rules states i x → f ≡ goes_by n p rules states e y
+      → g ≡ goes_by n p rules states f (back y) → r ≡ goes_by n p rules states g (back x) → r ≡ goes_by n p rules states (injected_at s) (out_and_back x y)
+  on_four s i e f g r x y new a b c d =
+      on_two n p rules states i f r (x ++ y) (back y ++ back x) (on_two n p rules states i e f x y a b) (on_two n p rules states f g r (back y) (back x) c d)
+      ∙ ap (λ (j : End). goes_by n p rules states j (out_and_back x y)) new
+
 -- ---- the round run
 
 pub round_is : (p : Plant) (rules : List Bool) (states w : List ℕ) (s : ℕ) (r : End) → AllArcs p rules → r ≡ goes_by 1 p rules states (injected_at s) (ring_of p w s)
@@ -60,13 +67,6 @@ round_is p rules states w s r all q =
 -- ---- by a state byte for each link
 
 module _ (p : Plant) (rules : List Bool) (states : List ℕ) where
-  -- out over two stretches and back
-  pub on_four : (s : ℕ) (i e f g r : End) (x y : List ℕ) → i ≡ injected_at s → e ≡ goes_on p rules states i x → f ≡ goes_on p rules states e y → g ≡ goes_on p rules states f (back y)
-      → r ≡ goes_on p rules states g (back x) → r ≡ goes_on p rules states (injected_at s) (out_and_back x y)
-  on_four s i e f g r x y new a b c d =
-      on_two 2 p rules states i f r (x ++ y) (back y ++ back x) (on_two 2 p rules states i e f x y a b) (on_two 2 p rules states f g r (back y) (back x) c d)
-      ∙ ap (λ (j : End). goes_on p rules states j (out_and_back x y)) new
-
   -- from a switch
   pub from_switch : (s : ℕ) (i r : End) (w : List ℕ) → i ≡ injected_at s → r ≡ goes_on p rules states i w
       → r ≡ run (rules_for (flag rules) (tail p)) (up_by_link states) (head p) s 0 w

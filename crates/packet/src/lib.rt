@@ -57,6 +57,16 @@ const OF_LINK: usize = 2;
 
 const OF_LABEL: usize = 1;
 
+// What packets run under: a plant, rules as flags of its labels, and a state byte for each N labels. The rules are for arcs of the plant, and its labels have their bytes.
+#[derive(Clone, Copy, Debug)]
+struct Course<'a, const N: usize> {
+    plant: &'a Plant,
+    rules: &'a [bool; Plant::LABELS],
+    states: &'a [u8],
+    ghost some: { 1 ≤ N },
+    ghost can_run: { CanRunBy N plant.now rules.now states.now },
+}
+
 // Does a packet at switch s cross link l by label a? There is a rule for the label at the switch that its arc leaves, and the label is up.
 fn crosses(rule: bool, state: u8, l: Link, a: usize, s: u8) -> bool
     ensures { result ≡ (rule && eqb (side (a % 2) l.first l.second) s) && not (eqb state 0) }
@@ -81,50 +91,72 @@ fn after_label(e: End, crosses: bool, to: u8) -> End
     }
 }
 
-// A packet goes on over the next label, by a state byte for each N labels. A label past those of the plant has no rule.
-fn hop<const N: usize>(
-    p: &Plant,
-    rules: &[bool; Plant::LABELS],
-    states: &[u8],
-    e: End,
-    a: u16,
-) -> End
-    requires some { 1 ≤ N }
-    requires can_run_by { CanRunBy N p.now rules.now states.now }
-    requires going { e.ended ≡ true }
-    requires hops_bound { e.hops + 1 ≤ usize.MAX }
-    ensures { end_of result ≡ goes_by N p.now rules.now states.now (end_of e) (a ∷ []) }
-{
-    let a = usize::from(a);
-    if 2 * usize::from(p.count) <= a {
-        return after_label(e, false, e.last);
-    }
-    let l = p.links[a / 2];
-    let c = crosses(rules[a], states[a / N], l, a, e.last);
-    after_label(e, c, head_of(l, a))
-}
-
-// A packet that came so far goes on over these labels, unless it is lost: by a state byte for each N labels.
-fn run_out<const N: usize>(
-    p: &Plant,
-    rules: &[bool; Plant::LABELS],
-    states: &[u8],
-    e: End,
-    labels: &[u16],
-) -> End
-    requires some { 1 ≤ N }
-    requires can_run_by { CanRunBy N p.now rules.now states.now }
-    requires labels_bound { e.hops + length labels.now ≤ usize.MAX }
-    ensures { end_of result ≡ goes_by N p.now rules.now states.now (end_of e) labels.now }
-{
-    let mut at = e;
-    for a in labels {
-        if !at.ended {
-            return at;
+impl<'a, const N: usize> Course<'a, N> {
+    // A packet goes on over the next label. A label past those of the plant has no rule.
+    fn hop(&self, e: End, a: u16) -> End
+        requires going { e.ended ≡ true }
+        requires hops_bound { e.hops + 1 ≤ usize.MAX }
+        ensures { end_of result ≡ goes_by N self.now.plant.now self.now.rules.now self.now.states.now (end_of e) (a ∷ []) }
+    {
+        let a = usize::from(a);
+        if 2 * usize::from(self.plant.count) <= a {
+            return after_label(e, false, e.last);
         }
-        at = hop::<N>(p, rules, states, at, *a);
+        let l = self.plant.links[a / 2];
+        let c = crosses(self.rules[a], self.states[a / N], l, a, e.last);
+        after_label(e, c, head_of(l, a))
     }
-    at
+
+    // A packet that came so far goes on over these labels, unless it is lost.
+    fn run_out(&self, e: End, labels: &[u16]) -> End
+        requires { e.hops + length labels.now ≤ usize.MAX }
+        ensures { end_of result ≡ goes_by N self.now.plant.now self.now.rules.now self.now.states.now (end_of e) labels.now }
+    {
+        let mut at = e;
+        for a in labels {
+            if !at.ended {
+                return at;
+            }
+            at = self.hop(at, *a);
+        }
+        at
+    }
+
+    // A packet that came so far goes back over these labels, unless it is lost: over the opposite arcs, from the last.
+    fn run_back(&self, e: End, labels: &[u16]) -> End
+        requires { e.hops + length labels.now ≤ usize.MAX }
+        ensures { end_of result ≡ goes_by N self.now.plant.now self.now.rules.now self.now.states.now (end_of e) (back labels.now) }
+    {
+        let mut at = e;
+        for a in labels.iter().rev() {
+            if !at.ended {
+                return at;
+            }
+            at = self.hop(at, opposite(*a));
+        }
+        at
+    }
+
+    // A packet runs over the ring of switch s, which is the trail from the place of s on and then its front.
+    fn run_ring(&self, s: u8, trail: &[u16]) -> End
+        requires { OverArcs self.now.plant.now trail.now }
+        ensures { end_of result ≡ goes_by N self.now.plant.now self.now.rules.now self.now.states.now (injected_at s) (ring_of self.now.plant.now trail.now s) }
+    {
+        let k = place_of(*self.plant, s, trail);
+        let e = self.run_out(injected(s), &trail[k..]);
+        self.run_out(e, &trail[..k])
+    }
+
+    // From switch s out over x and then y, and back over the opposite arcs.
+    fn there_and_back(&self, s: u8, x: &[u16], y: &[u16]) -> End
+        requires { 2 * (length x.now + length y.now) ≤ usize.MAX }
+        ensures { end_of result ≡ goes_by N self.now.plant.now self.now.rules.now self.now.states.now (injected_at s) (out_and_back x.now y.now) }
+    {
+        let e = self.run_out(injected(s), x);
+        let f = self.run_out(e, y);
+        let g = self.run_back(f, y);
+        self.run_back(g, x)
+    }
 }
 
 // A packet that came so far goes on with these labels, unless it is lost.
@@ -133,41 +165,12 @@ pub fn run_on(p: Plant, rules: [bool; Plant::LABELS], states: &[u8], e: End, lab
     requires labels_bound { e.hops + length labels.now ≤ usize.MAX }
     ensures { end_of result ≡ goes_on p rules states.now (end_of e) labels.now }
 {
-    run_out::<OF_LINK>(&p, &rules, states, e, labels)
-}
-
-// A packet that came so far goes back over these labels, unless it is lost: over the opposite arcs, from the last.
-fn run_back(p: Plant, rules: [bool; Plant::LABELS], states: &[u8], e: End, labels: &[u16]) -> End
-    requires can_run { CanRun p rules states.now }
-    requires labels_bound { e.hops + length labels.now ≤ usize.MAX }
-    ensures { end_of result ≡ goes_on p rules states.now (end_of e) (back labels.now) }
-{
-    let mut at = e;
-    for a in labels.iter().rev() {
-        if !at.ended {
-            return at;
-        }
-        at = hop::<OF_LINK>(&p, &rules, states, at, opposite(*a));
-    }
-    at
-}
-
-// A packet runs over the ring of switch s, which is the trail from the place of s on and then its front: by a state byte for each N labels.
-fn run_ring<const N: usize>(
-    p: Plant,
-    rules: [bool; Plant::LABELS],
-    states: &[u8],
-    s: u8,
-    trail: &[u16],
-) -> End
-    requires some { 1 ≤ N }
-    requires can_run_by { CanRunBy N p rules states.now }
-    requires over_arcs { OverArcs p trail.now }
-    ensures { end_of result ≡ goes_by N p rules states.now (injected_at s) (ring_of p trail.now s) }
-{
-    let k = place_of(p, s, trail);
-    let e = run_out::<N>(&p, &rules, states, injected(s), &trail[k..]);
-    run_out::<N>(&p, &rules, states, e, &trail[..k])
+    let course = Course::<OF_LINK> {
+        plant: &p,
+        rules: &rules,
+        states,
+    };
+    course.run_out(e, labels)
 }
 
 // The full check: the packet runs under the forwarding table over the ring of switch s, by a state byte for each link.
@@ -181,7 +184,12 @@ pub fn full_check(
     requires { CanProbe p table states.now trail.now }
     ensures { end_of result ≡ run (rules_for (flag table) (tail p)) (up_by_link states.now) (head p) s 0 (ring_of p trail.now s) }
 {
-    run_ring::<OF_LINK>(p, table, states, s, trail)
+    let course = Course::<OF_LINK> {
+        plant: &p,
+        rules: &table,
+        states,
+    };
+    course.run_ring(s, trail)
 }
 
 // The round run: the packet runs under all rules over the ring of switch s on the round trail, by a state byte for each label.
@@ -190,26 +198,12 @@ pub fn round_run(p: Plant, states: &[u8], s: u8, round: &[u16]) -> End
     ensures { end_of result ≡ round_run p round.now s states.now }
 {
     let all = arcs::all_arcs(p);
-    run_ring::<OF_LABEL>(p, all, states, s, round)
-}
-
-// From switch s out over x and then y, and back over the opposite arcs.
-fn there_and_back(
-    p: Plant,
-    rules: [bool; Plant::LABELS],
-    states: &[u8],
-    s: u8,
-    x: &[u16],
-    y: &[u16],
-) -> End
-    requires can_run { CanRun p rules states.now }
-    requires y_bound { 2 * (length x.now + length y.now) ≤ usize.MAX }
-    ensures { end_of result ≡ goes_on p rules states.now (injected_at s) (out_and_back x.now y.now) }
-{
-    let e = run_on(p, rules, states, injected(s), x);
-    let f = run_on(p, rules, states, e, y);
-    let g = run_back(p, rules, states, f, y);
-    run_back(p, rules, states, g, x)
+    let course = Course::<OF_LABEL> {
+        plant: &p,
+        rules: &all,
+        states,
+    };
+    course.run_ring(s, round)
 }
 
 // The run of probe m of switch s over so many links: the full check if m is their number; else out up to the first crossing of the m-th link of the order, and back,
@@ -232,6 +226,11 @@ pub fn probe_run(
         return full_check(p, table, states, s, trail);
     }
     let span = span_of(p, s, trail, m);
-    let all = arcs::all_arcs(p);
-    there_and_back(p, all, states, s, stretch(trail, span), front(trail, span))
+    let all_rules = arcs::all_arcs(p);
+    let course = Course::<OF_LINK> {
+        plant: &p,
+        rules: &all_rules,
+        states,
+    };
+    course.there_and_back(s, stretch(trail, span), front(trail, span))
 }

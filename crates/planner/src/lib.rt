@@ -113,6 +113,7 @@ pub fn lay_trail(listing: &[u8], buffer: &mut [u16]) -> Result<u16, Refusal>
 }
 
 // The round trails of a listing's components one after another into the front of the lent buffer, and their hops: refusals 1 to 8, then 10.
+// Its steps are those of `lay_trail`; what is laid and where the hops are known from differ, and a function over both would take a closure and be longer.
 pub fn lay_round_trail(listing: &[u8], buffer: &mut [u16]) -> Result<u16, Refusal>
     ensures result_value { answer_of result ≡ answer (round_trailing listing.now buffer.old) }
     ensures buffer_now { buffer.new ≡ round_laid_out listing.now buffer.old }

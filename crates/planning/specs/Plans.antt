@@ -8,6 +8,7 @@ use Rattle.limits.specs.Limits.{max_links}
 use Rattle.limits.specs.Sound.{Sound}
 use Rattle.walks.specs.Graph.{bridge, used_from, links_from}
 use Rattle.walks.specs.Components.{roots, component_of, used}
+use Rattle.walks.specs.Round.{round_from}
 use Rattle.routes.specs.Plants.{trail_from}
 use Rattle.plan.specs.Plan.{trail_of}
 use Rattle.arcs.specs.declared.AllLegs.{AllLegs}
@@ -30,12 +31,19 @@ net_of p r = record { switches = p.switches; labels = 2 * p.count; root = r }
 unfoldable pub used_flags : Plant → ℕ → List Bool
 used_flags p r = map (used_from p r) (range 0 (2 * max_links))
 
+-- the trail and the round trail of component i
+abbrev pub trail_at : Plant → ℕ → List ℕ
+trail_at p i = trail_from p (get_or (roots p) i 0)
+
+abbrev pub round_at : Plant → ℕ → List ℕ
+round_at p i = round_from p (get_or (roots p) i 0)
+
 -- of each component by its number, what is kept by it: its links in service, the hops of its trail, and the legs of its trail
 abbrev pub LinksBy : Plant → List ℕ → Type 0
 LinksBy p links = (i : ℕ) → i < length (roots p) → at links i ≡ links_from p (get_or (roots p) i 0)
 
 abbrev pub HopsBy : Plant → List Legs → Type 0
-HopsBy p list = (i : ℕ) → i < length (roots p) → (get_or list i no_legs).hops ≡ length (trail_from p (get_or (roots p) i 0))
+HopsBy p list = (i : ℕ) → i < length (roots p) → (get_or list i no_legs).hops ≡ length (trail_at p i)
 
 abbrev pub LegsBy : Plant → (tails heads : List ℕ) → AllLegs → Type 0
 LegsBy p tails heads legs =

@@ -1,7 +1,7 @@
 // The plan of a listing, which every call that plans goes through. Inner: the calls are those of docs/CALLS.md.
 #![tactic(auto, using(crate::proofs::Charts::few_components, crate::proofs::OneAfterAnother::root_in))]
 
-ghost use Rattle.std.specs.Prelude.{◌≡◌, [], ℕ, ◌+◌, ◌*◌, ◌≤◌, ◌<◌, length, get_or, map, IfOk};
+ghost use Rattle.std.specs.Prelude.{◌≡◌, [], ℕ, ◌+◌, ◌*◌, ◌≤◌, ◌<◌, length, map, IfOk};
 ghost use mathlib.Core.List.{flatten};
 ghost use Rattle.answers.specs.Checks.{answer};
 ghost use Rattle.answers.specs.Results.{answer_as};
@@ -9,17 +9,15 @@ ghost use Rattle.limits.specs.Limits.{max_links};
 ghost use Rattle.limits.specs.Sound.{Sound};
 ghost use Rattle.listing.specs.Listing.{reading};
 ghost use Rattle.walks.specs.Components.{roots, used, links_with};
-ghost use Rattle.walks.specs.Round.{round_from};
 ghost use Rattle.plan.specs.Plan.{trail_of, round_of, table_of};
 ghost use Rattle.arcs.specs.Net.{Ends};
 ghost use Rattle.arcs.specs.Flags.{Flags};
 ghost use Rattle.components.specs.Found.{Finds};
 ghost use Rattle.trail.specs.Filled.{filled_with, Tells};
 ghost use Rattle.trail.specs.Ways.{Laid, TellsFrom};
-ghost use Rattle.routes.specs.Plants.{trail_from};
 ghost use Rattle.round.specs.Round.{labels_of};
 ghost use Rattle.planning.specs.Components.{components_with, component_with, components_of};
-ghost use Rattle.planning.specs.Plans.{net_of, NetworkOf, HomesAre, HopsBy, LinksBy, Charted, OfPlant, Laying, LegsAt, IsPlan};
+ghost use Rattle.planning.specs.Plans.{net_of, trail_at, round_at, NetworkOf, HomesAre, HopsBy, LinksBy, Charted, OfPlant, Laying, LegsAt, IsPlan};
 ghost use Rattle.planning.specs.OneAfterAnother.{LaysEach, TellsEach};
 ghost use Rattle.planning.specs.Planning.{planning_at};
 ghost use Rattle.planning.specs.Numbers.{numbers_of};
@@ -33,7 +31,7 @@ use table::Table;
 
 // A component of a plant: its root, where its trail begins among the trails of all and its hops, and where its round trail begins among the round trails of all and its
 // hops, two to each of its links in service.
-#[derive(Clone, Copy)]
+#[derive(Clone, Copy, Debug, PartialEq, Eq)]
 pub struct Component {
     pub first: u8,
     pub begin: u16,
@@ -43,7 +41,7 @@ pub struct Component {
 }
 
 // The components of a plant in their order, `count` of them; the places past them are zero.
-#[derive(Clone, Copy)]
+#[derive(Clone, Copy, Debug, PartialEq, Eq)]
 pub struct Components {
     pub count: u8,
     pub list: [Component; Plant::PLACES],
@@ -66,7 +64,7 @@ pub struct Plan {
 }
 
 // Switches, links in service, bridges, rules and hops of a plant.
-#[derive(Clone, Copy)]
+#[derive(Clone, Copy, Debug, PartialEq, Eq)]
 pub struct Numbers {
     pub switches: u8,
     pub links: u16,
@@ -268,8 +266,8 @@ pub fn lay(x: &Plan, buf: &mut [u16])
     ensures { buf.new ≡ filled_with (trail_of x.now.plant) buf.old }
 {
     let one = |i: usize, from: usize, b: &mut [u16]| -> usize
-        requires { Laying x.now × (i < length (roots x.now.plant)) × (from + length (trail_from x.now.plant (get_or (roots x.now.plant) i 0)) ≤ length b.now) }
-        ensures { Laid (trail_from x.entry.now.plant (get_or (roots x.entry.now.plant) i 0)) b.entry.now from b.exit.now result }
+        requires { Laying x.now × (i < length (roots x.now.plant)) × (from + length (trail_at x.now.plant i) ≤ length b.now) }
+        ensures { Laid (trail_at x.entry.now.plant i) b.entry.now from b.exit.now result }
     { trail::lay(&x.network, x.roots[i], legs_at(x, i), b, from) };
     lay_each(x.count, one, buf);
 }
@@ -293,7 +291,7 @@ pub fn compare(x: &Plan, lent: &[u16]) -> Option<usize>
 {
     let one = |i: usize, from: usize| -> Option<usize>
         requires { Laying x.now × (i < length (roots x.now.plant)) }
-        ensures { TellsFrom from lent.entry.now (trail_from x.entry.now.plant (get_or (roots x.entry.now.plant) i 0)) result }
+        ensures { TellsFrom from lent.entry.now (trail_at x.entry.now.plant i) result }
     { trail::compare(&x.network, x.roots[i], legs_at(x, i), lent, from) };
     compare_each(x.count, one)
 }
@@ -304,7 +302,7 @@ pub fn compare(x: &Plan, lent: &[u16]) -> Option<usize>
 fn round_at(x: &Plan, i: usize) -> Round
     requires charted { Charted x.now }
     requires i_in_bounds { i < length (roots x.now.plant) }
-    ensures { labels_of result ≡ round_from x.now.plant (get_or (roots x.now.plant) i 0) }
+    ensures { labels_of result ≡ round_at x.now.plant i }
 {
     let v = visit::visit(x.plant, &x.network.ends, x.roots[i]);
     round::round_of(x.plant, &x.network.ends, v)
@@ -317,8 +315,8 @@ pub fn lay_round(x: &Plan, buf: &mut [u16])
     ensures { buf.new ≡ filled_with (round_of x.now.plant) buf.old }
 {
     let one = |i: usize, from: usize, b: &mut [u16]| -> usize
-        requires { Charted x.now × (i < length (roots x.now.plant)) × (from + length (round_from x.now.plant (get_or (roots x.now.plant) i 0)) ≤ length b.now) }
-        ensures { Laid (round_from x.entry.now.plant (get_or (roots x.entry.now.plant) i 0)) b.entry.now from b.exit.now result }
+        requires { Charted x.now × (i < length (roots x.now.plant)) × (from + length (round_at x.now.plant i) ≤ length b.now) }
+        ensures { Laid (round_at x.entry.now.plant i) b.entry.now from b.exit.now result }
     { round::lay(round_at(x, i), b, from) };
     lay_each(x.count, one, buf);
 }
@@ -330,7 +328,7 @@ pub fn compare_round(x: &Plan, lent: &[u16]) -> Option<usize>
 {
     let one = |i: usize, from: usize| -> Option<usize>
         requires { Charted x.now × (i < length (roots x.now.plant)) }
-        ensures { TellsFrom from lent.entry.now (round_from x.entry.now.plant (get_or (roots x.entry.now.plant) i 0)) result }
+        ensures { TellsFrom from lent.entry.now (round_at x.entry.now.plant i) result }
     { round::compare(round_at(x, i), lent, from) };
     compare_each(x.count, one)
 }

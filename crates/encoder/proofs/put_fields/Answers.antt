@@ -1,14 +1,6 @@
 use Rattle.std.proofs.Common.{◌+◌, arith}
-use Rattle.encoder.proofs.PutLaws.{body_from, bytes_at, laid-room, laid_one, body_next}
+use Rattle.encoder.proofs.PutLaws.{body_from, bytes_at, laid_one, body_next}
 use Rattle.encoder.proofs.put_fields.Goals as goal
-
-pub put_field-at-requires : goal.put_field-at-requires
-put_field-at-requires g c =
-    let fs = c.args.fields.now in
-    let vs = c.args.values.now in
-    let i = c.loop-i.i in
-    let next = body_next fs vs i (omega (arith, c.told-fields, c.loop-i-test.true)) (omega (arith, c.told-values, c.loop-i-test.true)) in
-    laid-room _ _ _ _ (bytes_at fs vs i) (body_from fs vs (i + 1)) _ _ c.loop-i.invariant next c.requires
 
 pub loop-i-preserved : goal.loop-i-preserved
 loop-i-preserved g c =

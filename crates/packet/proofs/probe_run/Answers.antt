@@ -8,5 +8,5 @@ returns-then-m-links c =
 
 pub returns : goal.returns
 returns c =
-    back_is c.args.p c.all_arcs-all.result c.args.states.now c.args.trail.now c.args.s c.all_arcs-all.ensures _ c.args.links c.args.m
+    back_is c.args.p c.all_arcs-all_rules.result c.args.states.now c.args.trail.now c.args.s c.all_arcs-all_rules.ensures _ c.args.links c.args.m
     c.span_of-span.result _ _ _ c.if-m-links.false c.span_of-span.ensures c.stretch.ensures c.front.ensures c.there_and_back.ensures

@@ -1,18 +1,31 @@
--- The flags that are left by the filter are the set ones.
-use Rattle.std.proofs.Common.{rules, ◌≡◌, Bool, length, sym, ◌∙◌}
-use borrow.Author.Tests.{tests}
-use Rattle.std.specs.List.{filter}
-use Rattle.std.proofs.lemmas.Iterator.{YieldsList-from_slice}
-use Rattle.std.proofs.lemmas.Iterator.Consumers.{YieldsList-from_filter, YieldsList-at, count_from_yields_List}
-use Rattle.std.proofs.lemmas.List.Sums.{length-filter}
-use Rattle.arcs.proofs.Counted.{set-counted}
+-- A set flag is counted, and no other.
+use Rattle.std.proofs.Common.{◌≡◌, ℕ, ◌+◌, length, refl, sym, ap, ◌∙◌, arith}
+use Rattle.lists.specs.Arrays.{flag}
+use Rattle.lists.specs.Count.{count}
+use Rattle.lists.proofs.Count.{count-all}
+use Rattle.lists.proofs.Stepwise.{count_yes, count_no}
+use Rattle.arcs.specs.Flags.{count_set}
 use Rattle.uses.proofs.count_set.Goals as goal
+use Rattle.uses.proofs.count_set.Goals.{then-f, else-f}
+
+pub loop-f-init : goal.loop-f-init
+unfolding count
+loop-f-init c = refl
+
+pub overflow_add-n : goal.overflow_add-n
+overflow_add-n c = omega (arith, c.loop-f.invariant, count-all c.loop-f.f-index (flag c.args.flags.now))
+
+pub loop-f-preserved : goal.loop-f-preserved
+loop-f-preserved c =
+    let k = c.loop-f in
+    let f = flag c.args.flags.now in
+    elim c.if-f.branch [
+      | then-f w ↦ w.n-is ∙ ap (λ (m : ℕ). m + 1) k.invariant ∙ sym (count_yes f k.f-index w.if-f.true)
+      | else-f w ↦ w.n-is ∙ k.invariant ∙ sym (count_no f k.f-index w.if-f.false)
+    ]
 
 pub returns : goal.returns
+unfolding count_set
 returns c =
-    let flags = c.args.flags.now in
-    let counted : c.count.result ≡ length (filter (λ (b : Bool). b) flags) =
-    count_from_yields_List c.filter.result _ c.count.ensures.ran
-    (YieldsList-from_filter _ (λ (b : Bool). b) (YieldsList-at c.filter.ensures.source (YieldsList-from_slice flags (cc))) c.filter.ensures.closure
-    (λ x r q k. search (rules, tests))) in
-    counted ∙ length-filter (λ (b : Bool). b) flags ∙ sym (set-counted flags)
+    let all : c.loop-f.f-index ≡ length c.args.flags.now = omega arith in
+    c.loop-f.invariant ∙ ap (λ (m : ℕ). count m (flag c.args.flags.now)) all

@@ -1,7 +1,7 @@
 -- A run: the packet is where the labels before the next have brought it.
 use Rattle.std.proofs.Common.{◌≡◌, take}
 use Rattle.packet.specs.Runs.{end_of, goes_by}
-use Rattle.packet.proofs.run_out.Given as goal
+use Rattle.packet.proofs.Course.run_out.Given as goal
 
 abbrev pub invariant-loop-a : goal.invariant-loop-a
-invariant-loop-a g l = end_of l.at ≡ goes_by g.row.N l.p l.rules l.states (end_of l.initial.at) (take l.a-index l.labels)
+invariant-loop-a g l = end_of l.at ≡ goes_by g.row.N l.self.plant.now l.self.rules.now l.self.states.now (end_of l.initial.at) (take l.a-index l.labels)

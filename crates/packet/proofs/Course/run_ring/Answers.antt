@@ -4,10 +4,10 @@ use lib.Seq.{length-take-le}
 use Rattle.packet.specs.Runs.{end_of}
 use Rattle.packet.proofs.Hops.{after-hops}
 use Rattle.packet.proofs.Probes.{rest-length, injected_hops, ring-is}
-use Rattle.packet.proofs.run_ring.Goals as goal
+use Rattle.packet.proofs.Course.run_ring.Goals as goal
 
-pub run_out-requires-clause-labels_bound : goal.run_out-requires-clause-labels_bound
-run_out-requires-clause-labels_bound g c =
+pub run_out-requires : goal.run_out-requires
+run_out-requires g c =
     omega (
       arith,
       injected_hops _ _ c.injected.ensures,
@@ -18,5 +18,5 @@ run_out-requires-clause-labels_bound g c =
 
 pub returns : goal.returns
 returns g c =
-    ring-is g.row.N c.args.p c.args.rules c.args.states.now c.args.trail.now c.args.s c.place_of-k.result
+    ring-is g.row.N c.args.self.now.plant.now c.args.self.now.rules.now c.args.self.now.states.now c.args.trail.now c.args.s c.place_of-k.result
     (end_of c.injected.result) (end_of c.run_out-e.result) _ c.place_of-k.ensures.place c.injected.ensures c.run_out-e.ensures c.run_out.ensures

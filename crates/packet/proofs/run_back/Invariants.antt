@@ -1,8 +1,0 @@
--- A run back: the packet is where the way back over the labels passed, which are the last ones, has brought it.
-use Rattle.std.proofs.Common.{◌≡◌, ◌++◌, List, ℕ}
-use Rattle.rings.specs.Probe.{back}
-use Rattle.packet.specs.Runs.{end_of, goes_on}
-use Rattle.packet.proofs.run_back.Given as goal
-
-abbrev pub invariant-loop-a : goal.invariant-loop-a
-invariant-loop-a l = (passed : List ℕ) × (l.a-iterator.iter.rest.now ++ passed ≡ l.labels) × (end_of l.at ≡ goes_on l.p l.rules l.states (end_of l.initial.at) (back passed))
