@@ -6,10 +6,7 @@ ghost use Rattle.std.specs.Prelude.{◌≡◌, ◌||◌, List, [], ◌∷◌, �
 ghost use Rattle.lists.specs.Arrays.{flag, at};
 ghost use Rattle.lists.specs.Tests.{choose};
 ghost use Rattle.limits.specs.Limits.{max_switches, max_links};
-ghost use Rattle.limits.specs.Sound.{Sound};
-ghost use Rattle.walks.specs.Arcs.{head};
 ghost use Rattle.walks.specs.Components.{roots};
-ghost use Rattle.arcs.specs.Net.{Ends};
 ghost use Rattle.arcs.specs.Flags.{Flags};
 ghost use Rattle.visit.specs.Inner.{AllChained};
 ghost use Rattle.components.specs.Found.{Finds};
@@ -61,15 +58,13 @@ fn pick<T: Copy>(seen: bool, new: T, old: T) -> T
 }
 
 // With the component of one root more, which none of those found before reaches.
-fn with_component(p: Plant, ends: &ArcEnds, chains: &Chains, f: Forest, root: u8) -> Forest
-    requires sound { Sound p }
-    requires heads_value { at ends.now.heads ≡ head p }
-    requires all_chained { AllChained p chains.now.first chains.now.after }
-    requires root_lt_switches { root < p.switches }
+fn with_component(ends: &ArcEnds, chains: &Chains, f: Forest, root: u8) -> Forest
+    requires all_chained { AllChained ends.now.plant chains.now.first chains.now.after }
+    requires root_lt_switches { root < ends.now.plant.switches }
     requires count_lt_max_switches { f.count < max_switches }
-    ensures { (rs : List ℕ) → Covers p rs f → Apart p rs root → Covers p (rs ++ (root ∷ [])) result }
+    ensures { (rs : List ℕ) → Covers ends.now.plant rs f → Apart ends.now.plant rs root → Covers ends.now.plant (rs ++ (root ∷ [])) result }
 {
-    let v = visit::visit_by(p, ends, chains, root);
+    let v = visit::visit_by(ends, chains, root);
     let mut roots = f.roots;
     roots[f.count as usize] = root;
     let home = array::from_fn(|x| pick(v.seen[x], Some(f.count), f.home[x]));
@@ -85,40 +80,36 @@ fn with_component(p: Plant, ends: &ArcEnds, chains: &Chains, f: Forest, root: u8
 }
 
 // The visits of all components: of the start's, and then of that of each switch which is in none before it.
-fn visit_all(p: Plant, ends: &ArcEnds, chains: &Chains) -> Forest
-    requires sound { Sound p }
-    requires heads_value { at ends.now.heads ≡ head p }
-    requires all_chained { AllChained p chains.now.first chains.now.after }
-    ensures { Covers p (roots p) result }
+fn visit_all(ends: &ArcEnds, chains: &Chains) -> Forest
+    requires all_chained { AllChained ends.now.plant chains.now.first chains.now.after }
+    ensures { Covers ends.now.plant (roots ends.now.plant) result }
 {
-    let mut f = with_component(p, ends, chains, nothing(), p.start);
-    for x in 0..p.switches {
+    let mut f = with_component(ends, chains, nothing(), ends.plant.start);
+    for x in 0..ends.plant.switches {
         if f.home[x as usize].is_none() {
-            f = with_component(p, ends, chains, f, x);
+            f = with_component(ends, chains, f, x);
         }
     }
     f
 }
 
 // The components of a plant. Its bridges and its arcs in use are read from the visits of all of them, in which every switch is seen.
-pub fn find(p: Plant, ends: &ArcEnds) -> Found
-    requires sound { Sound p }
-    requires ends { Ends p ends.now.tails ends.now.heads }
-    ensures { Finds p result }
+pub fn find(ends: &ArcEnds) -> Found
+    ensures { Finds ends.now.plant result }
 {
-    let chains = visit::all_chains(p, ends);
-    let f = visit_all(p, ends, &chains);
+    let chains = visit::all_chains(ends);
+    let f = visit_all(ends, &chains);
     let rank = f.rank;
     let entered = f.entered;
     let v = Visited {
-        root: p.start,
-        next: p.switches,
+        root: ends.plant.start,
+        next: ends.plant.switches,
         seen: [true; Plant::PLACES],
         rank,
         entered,
     };
-    let bridges = bridges::bridges_of(p, ends, v);
-    let used = uses::arcs_in_use(p, ends, v, &bridges);
+    let bridges = bridges::bridges_of(ends, v);
+    let used = uses::arcs_in_use(ends, v, &bridges);
     let roots = f.roots;
     let home = array::from_fn(|x| f.home[x].unwrap_or(0));
     Found {
