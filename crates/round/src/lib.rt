@@ -4,9 +4,7 @@
 
 ghost use Rattle.std.specs.Prelude.{◌≡◌, ◌+◌, ◌*◌, ◌≤◌, ◌<◌, length};
 ghost use Rattle.limits.specs.Limits.{max_links};
-ghost use Rattle.limits.specs.Sound.{Sound};
 ghost use Rattle.walks.specs.Round.{round_from};
-ghost use Rattle.arcs.specs.Net.{Ends};
 ghost use Rattle.arcs.specs.Shows.{Visits};
 ghost use Rattle.trail.specs.Ways.{Laid, TellsFrom};
 ghost use Rattle.round.specs.Round.{labels_of, Labels};
@@ -90,14 +88,12 @@ fn hops_after(t: &Turns, up: &[u16; Plant::PLACES]) -> [u16; Plant::LABELS]
 }
 
 // The round trail of what the visit reached, from its root.
-pub fn round_of(p: Plant, ends: &ArcEnds, v: Visited) -> Round
-    requires sound { Sound p }
-    requires ends { Ends p ends.now.tails ends.now.heads }
-    requires visits { Visits p v.root v }
-    ensures { labels_of result ≡ round_from p v.root }
+pub fn round_of(ends: &ArcEnds, v: Visited) -> Round
+    requires visits { Visits ends.now.plant v.root v }
+    ensures { labels_of result ≡ round_from ends.now.plant v.root }
 {
-    let labels = 2 * p.count;
-    let leading = uses::leading_arcs(p, ends, v);
+    let labels = 2 * ends.plant.count;
+    let leading = uses::leading_arcs(ends, v);
     let links = uses::count_set(&leading);
     let chains = arcs::chains_of(&ends.tails, &leading, labels);
     let heads = ends.heads;
