@@ -1,4 +1,4 @@
--- The plan of a plant, from the components that were found: what each step asks, and the plan as a whole. Assumes a sound plant.
+-- The plan of a plant, from the components that were found: what each step asks, and what the plan says of its fields. Assumes nothing.
 use mathlib.Core.Path.{◌≡◌, refl, sym, ap, ◌∙◌, subst}
 use mathlib.Core.Bool.{Bool}
 use mathlib.Core.List.{List}
@@ -22,11 +22,11 @@ use Rattle.walks.proofs.Components.{roots_few, arcs-sum}
 use Rattle.walks.proofs.Limits.{few-used}
 use Rattle.walks.proofs.Valid.{sound_valid}
 use Rattle.arcs.specs.declared.Net.{Net}
+use Rattle.arcs.specs.declared.ArcEnds.{ArcEnds}
 use Rattle.arcs.specs.declared.AllLegs.{AllLegs}
 use Rattle.arcs.specs.declared.Network.{Network}
 use Rattle.arcs.specs.Flags.{Flags}
-use Rattle.plan.specs.Plan.{trail_of}
-use Rattle.arcs.specs.Net.{rooted, Ends, Within}
+use Rattle.arcs.specs.Net.{rooted, Within}
 use Rattle.arcs.specs.Chains.{TailsIn, Chained}
 use Rattle.arcs.specs.Table.{distances_in}
 use Rattle.arcs.specs.Parts as network
@@ -34,27 +34,36 @@ use Rattle.arcs.specs.Legs.{no_legs, LegsIn}
 use Rattle.legs.specs.Several.{in_use, Several, LegsOfAll}
 use Rattle.components.specs.declared.Found.{Found}
 use Rattle.components.specs.Found.{Finds}
-use Rattle.planning.specs.declared.Components.{Components}
-use Rattle.planning.specs.Components.{components_of}
-use Rattle.planning.specs.Plans.{net_of, used_flags, NetworkOf, HopsBy, LegsBy, IsPlan}
+use Rattle.planning.specs.Plans.{net_of, used_flags, NetworkOf, HopsBy, LegsBy, Charted}
 use Rattle.planning.proofs.Networks.{flags_from, all-within, all-tails, net_parts, net_trail}
 
-module _ (p : Plant) (sound : Sound p) where
-  -- ---- the network, by the ends of the arcs and the arcs in use
+-- ---- the network, by the ends of the arcs and the arcs in use
 
-  module _ (tails heads : List ℕ) (ends : Ends p tails heads) (flags : List Bool) (flags_are : Flags (2 * max_links) (used p) flags) (net : Net) (net_is : net ≡ net_of p p.start) where
-    pub chains_asked : (net.labels ≤ 2 * max_links) × TailsIn net.labels tails flags
-    chains_asked = rw net_is (all-tails p sound tails heads ends flags flags_are p.start sound.start_in)
+module _ (e : ArcEnds) (flags : List Bool) (flags_are : Flags (2 * max_links) (used e.plant) flags) (net : Net) (net_is : net ≡ net_of e.plant e.plant.start) where
+  pub chains_asked : (net.labels ≤ 2 * max_links) × TailsIn net.labels e.tails flags
+  chains_asked = rw net_is (all-tails e.plant e.sound e.tails e.heads e.ends flags flags_are e.plant.start e.sound.start_in)
 
-    pub distances-asked : Within net tails heads flags
-    distances-asked = rw net_is (all-within p sound tails heads ends flags flags_are p.start sound.start_in)
+  pub distances-asked : Within net e.tails e.heads flags
+  distances-asked = rw net_is (all-within e.plant e.sound e.tails e.heads e.ends flags flags_are e.plant.start e.sound.start_in)
 
-  module _ (f : Found) (finds : Finds p f) (n : Network) (of : NetworkOf p f.used n) where
-    tables : (r : ℕ) → In r (roots p) → network.Parts (net_of p r) n.ends.tails n.ends.heads (used_flags p r) n.chains.first n.chains.after n.hops
+module _ (n : Network) where
+  abbrev p : Plant
+  p = n.ends.plant
+
+  sound : Sound p
+  sound = n.ends.sound
+
+  -- what the trail of each component is laid by
+  module _ (flags : List Bool) (flags_are : Flags (2 * max_links) (used p) flags) (of : NetworkOf flags n) where
+    pub tables : (r : ℕ) → In r (roots p) → network.Parts (net_of p r) n.ends.tails n.ends.heads (used_flags p r) n.chains.first n.chains.after n.hops
     tables =
-        net_parts p sound n.ends.tails n.ends.heads of.ends f.used finds.used_are n.chains.first n.chains.after
-        (subst (λ (k : Net). Chained k.labels (at n.ends.tails) (flag f.used) n.chains.first n.chains.after) of.net_is of.chained) n.hops
-        (subst (λ (k : Net). n.hops ≡ distances_in k n.ends.tails n.ends.heads f.used) of.net_is of.hops_are)
+        net_parts p sound n.ends.tails n.ends.heads n.ends.ends flags flags_are n.chains.first n.chains.after
+        (subst (λ (k : Net). Chained k.labels (at n.ends.tails) (flag flags) n.chains.first n.chains.after) of.net_is of.chained) n.hops
+        (subst (λ (k : Net). n.hops ≡ distances_in k n.ends.tails n.ends.heads flags) of.net_is of.hops_are)
+
+  module _ (f : Found) (finds : Finds p f) (of : NetworkOf f.used n) where
+    pub charted : Charted p f.count f.roots f.home f.bridges f.used
+    charted = record { count_is = finds.count_is; roots_are = finds.roots_are; homes = finds.homes; bridges_are = finds.bridges_are; used_are = finds.used_are }
 
     -- ---- the legs
 
@@ -91,48 +100,15 @@ module _ (p : Plant) (sound : Sound p) where
         few = omega (arith, ap length rs_are, roots_few p (sound_valid p sound) sound.start_in, sound.few_switches);
         parts = λ i h.
             subst (λ (o : Net). network.Parts o n.ends.tails n.ends.heads (flags_of i) n.chains.first n.chains.after n.hops) (sym (rooted-is i))
-            (tables (get_or (roots p) i 0) (get_d_in (roots p) i (omega (arith, ap length rs_are))));
+            (tables f.used finds.used_are of (get_or (roots p) i 0) (get_d_in (roots p) i (omega (arith, ap length rs_are))));
         room = subst (λ (k : List ℕ). sum (length k) (λ i. in_use n.net (flags_of i)) ≤ max_rules) (sym rs_are) room;
       }
 
       module _ (legs : AllLegs) (own : (w : Several n rs) → LegsOfAll n rs w.used legs.aims legs.list) where
-        legs_by : LegsBy p n.ends.tails n.ends.heads legs
+        pub legs_by : LegsBy n.ends legs
         unfolding legs-asked
         legs_by i h =
             subst (λ (o : Net). LegsIn o n.ends.tails n.ends.heads (flags_of i) legs.aims (get_or legs.list i no_legs)) (rooted-is i) (own legs-asked i (omega (arith, ap length rs_are)))
 
         pub hops_by : HopsBy p legs.list
-        hops_by i h = (legs_by i h).hops_are ∙ ap length (net_trail p sound n.ends.tails n.ends.heads of.ends (get_or (roots p) i 0))
-
-        -- ---- the plan as a whole
-
-        pub is_plan : (components : Components) (hops : ℕ) → components ≡ components_of p → hops ≡ length (trail_of p)
-            → IsPlan (record {
-              plant = p;
-              network = n;
-              count = f.count;
-              roots = f.roots;
-              home = f.home;
-              bridges = f.bridges;
-              used = f.used;
-              legs = legs;
-              components = components;
-              hops = hops;
-            })
-        is_plan components hops d e = record {
-          laying = record {
-            charted = record {
-              sound = sound;
-              net_is = of.net_is;
-              ends = of.ends;
-              count_is = finds.count_is;
-              roots_are = finds.roots_are;
-              homes = finds.homes;
-              bridges_are = finds.bridges_are;
-              used_are = finds.used_are;
-            };
-            tables = tables;
-            legs_are = legs_by;
-          };
-          measured = record { components_are = d; hops_are = e };
-        }
+        hops_by i h = (legs_by i h).hops_are ∙ ap length (net_trail p sound n.ends.tails n.ends.heads n.ends.ends (get_or (roots p) i 0))

@@ -32,7 +32,7 @@ use Rattle.round.specs.declared.Round.{Round}
 use Rattle.round.specs.Round.{labels_of, Labels}
 use Rattle.round.proofs.Follow.{left-length}
 use Rattle.planning.specs.declared.Plan.{Plan}
-use Rattle.planning.specs.Plans.{used_flags, Charted, Laying, LegsAt}
+use Rattle.planning.specs.Plans.{used_flags, LegsAt}
 use Rattle.planning.proofs.Networks.{net_trail}
 use Rattle.planning.proofs.Laid.{own_net, net_parts, net_legs}
 
@@ -109,36 +109,36 @@ module _ (f : ℕ → List ℕ) (rs : List ℕ) where
 
 -- ---- components by number
 
-module _ {x : Plan} (c : Charted x) where
-  pub numbered : {i : ℕ} → i < x.count → i < length (roots x.plant)
-  numbered h = omega (arith, c.count_is)
+module _ (x : Plan) where
+  pub numbered : {i : ℕ} → i < x.count → i < length (roots x.network.ends.plant)
+  numbered h = omega (arith, x.charted.count_is)
 
-  module _ {i : ℕ} (h : i < length (roots x.plant)) where
-    pub root_in : at x.roots i < x.plant.switches
+  module _ {i : ℕ} (h : i < length (roots x.network.ends.plant)) where
+    pub root_in : at x.roots i < x.network.ends.plant.switches
     root_in =
-        let r = get_or (roots x.plant) i 0 in
-        omega (arith, c.roots_are i h, listed_in x.plant (sound_valid x.plant c.sound) c.sound.start_in r (get_d_in (roots x.plant) i h))
+        let r = get_or (roots x.network.ends.plant) i 0 in
+        omega (arith, x.charted.roots_are i h, listed_in x.network.ends.plant (sound_valid x.network.ends.plant x.network.ends.sound) x.network.ends.sound.start_in r (get_d_in (roots x.network.ends.plant) i h))
 
 -- ---- trails
 
 -- that of component i, by its network
-module _ {x : Plan} (laying : Laying x) {i : ℕ} (h : i < length (roots x.plant)) where
+module _ (x : Plan) {i : ℕ} (h : i < length (roots x.network.ends.plant)) where
   abbrev r : ℕ
-  r = get_or (roots x.plant) i 0
+  r = get_or (roots x.network.ends.plant) i 0
 
-  pub legs_at : {legs : List ℕ} → let own = get_or x.legs.list i no_legs in legs ≡ slice own.from own.to x.legs.aims → LegsAt x i legs
-  legs_at is = record { are = subst (LegsOf (rooted x.network.net (at x.roots i)) x.network.ends.tails x.network.ends.heads (used_flags x.plant r)) (sym is) (net_legs x laying i h).are }
+  pub legs_at : {legs : List ℕ} → let own = get_or x.legs.list i no_legs in legs ≡ slice own.from own.to x.legs.aims → LegsAt x.network x.roots i legs
+  legs_at is = record { are = subst (LegsOf (rooted x.network.net (at x.roots i)) x.network.ends.tails x.network.ends.heads (used_flags x.network.ends.plant r)) (sym is) (net_legs x i h).are }
 
   -- and its legs
-  module _ {legs : List ℕ} (own : LegsAt x i legs) where
+  module _ {legs : List ℕ} (own : LegsAt x.network x.roots i legs) where
     pub trailing : Trailing x.network (at x.roots i) legs
-    trailing = record { used = used_flags x.plant r; parts = net_parts x laying i h; legs_are = own.are }
+    trailing = record { used = used_flags x.network.ends.plant r; parts = net_parts x i h; legs_are = own.are }
 
-    pub trail_is : trail_by trailing ≡ trail_from x.plant r
+    pub trail_is : trail_by trailing ≡ trail_from x.network.ends.plant r
     unfolding trailing
     trail_is =
-        ap (λ (n : Net). trail_in n x.network.ends.tails x.network.ends.heads (used_flags x.plant r)) (own_net x laying i h)
-        ∙ net_trail x.plant laying.charted.sound x.network.ends.tails x.network.ends.heads laying.charted.ends r
+        ap (λ (n : Net). trail_in n x.network.ends.tails x.network.ends.heads (used_flags x.network.ends.plant r)) (own_net x i h)
+        ∙ net_trail x.network.ends.plant x.network.ends.sound x.network.ends.tails x.network.ends.heads x.network.ends.ends r
 
 -- ---- round trails
 

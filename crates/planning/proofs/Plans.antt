@@ -44,18 +44,18 @@ module _ (s : List ℕ) (x : ℕ) where
       subst (λ (p : Plant). Sound p × (x < p.switches) × (answer (f p) ≡ given a)) (sym (result-given (planning_at s x) u.0 u.1)) (decode_sound s u.0 b h.0, h.1, u.2)
 
   -- by the result r of a plan
-  module _ (r : Result Plan Refusal) (q : answer_as (λ (x : Plan). x.plant) r ≡ answer (reading s)) where
+  module _ (r : Result Plan Refusal) (q : answer_as (λ (x : Plan). x.network.ends.plant) r ≡ answer (reading s)) where
     pub at_refused : (k : Refusal) → r ≡ Err k → answer (planning_at s x) ≡ refused (number_of k)
     unfolding planning_at
-    at_refused k e = err_then (λ (x : Plan). x.plant) (reading s) r q (λ p. check ((11, switch_out_of_range p x) ∷ []) p) k e
+    at_refused k e = err_then (λ (x : Plan). x.network.ends.plant) (reading s) r q (λ p. check ((11, switch_out_of_range p x) ∷ []) p) k e
 
-    module _ (y : Plan) (e : r ≡ Ok y) (v : Result Unit Refusal) (j : Judges ((11, leb y.plant.switches x) ∷ []) v) where
-      goes : answer (planning_at s x) ≡ trying ((11, leb y.plant.switches x) ∷ []) (given y.plant)
+    module _ (y : Plan) (e : r ≡ Ok y) (v : Result Unit Refusal) (j : Judges ((11, leb y.network.ends.plant.switches x) ∷ []) v) where
+      goes : answer (planning_at s x) ≡ trying ((11, leb y.network.ends.plant.switches x) ∷ []) (given y.network.ends.plant)
       unfolding planning_at switch_out_of_range
-      goes = ok_then (λ (x : Plan). x.plant) (reading s) r q (λ p. check ((11, leb p.switches x) ∷ []) p) y e
+      goes = ok_then (λ (x : Plan). x.network.ends.plant) (reading s) r q (λ p. check ((11, leb p.switches x) ∷ []) p) y e
 
       pub at_outside : (k : Refusal) → v ≡ Err k → answer (planning_at s x) ≡ refused (number_of k)
-      at_outside k d = goes ∙ turned_down ((11, leb y.plant.switches x) ∷ []) v j (given y.plant) k d
+      at_outside k d = goes ∙ turned_down ((11, leb y.network.ends.plant.switches x) ∷ []) v j (given y.network.ends.plant) k d
 
-      pub at_inside : (u : Unit) → v ≡ Ok u → answer (planning_at s x) ≡ given y.plant
-      at_inside u d = goes ∙ passed ((11, leb y.plant.switches x) ∷ []) v j (given y.plant) u d
+      pub at_inside : (u : Unit) → v ≡ Ok u → answer (planning_at s x) ≡ given y.network.ends.plant
+      at_inside u d = goes ∙ passed ((11, leb y.network.ends.plant.switches x) ∷ []) v j (given y.network.ends.plant) u d

@@ -1,11 +1,9 @@
--- Inner: what the parts of a plan are: each is what the definitions say of the plant, over all its components. Inner functions ask for it. Assumes nothing.
+-- Inner: what the parts of a plan are: each is what the definitions say of the plant, over all its components. A plan says it of its fields. Assumes nothing.
 use Rattle.std.specs.Prelude.{◌≡◌, Bool, List, map, ℕ, ◌*◌, ◌<◌, length, get_or}
 use Rattle.lists.specs.Arrays.{flag, at}
-use Rattle.lists.specs.Members.{In}
 use Rattle.lists.specs.Numbers.{range}
 use Rattle.plant.specs.declared.Plant.{Plant}
 use Rattle.limits.specs.Limits.{max_links}
-use Rattle.limits.specs.Sound.{Sound}
 use Rattle.walks.specs.Graph.{bridge, used_from, links_from}
 use Rattle.walks.specs.Components.{roots, component_of, used}
 use Rattle.walks.specs.Round.{round_from}
@@ -14,14 +12,14 @@ use Rattle.plan.specs.Plan.{trail_of}
 use Rattle.arcs.specs.declared.AllLegs.{AllLegs}
 use Rattle.arcs.specs.declared.Net.{Net}
 use Rattle.arcs.specs.declared.Legs.{Legs}
-use Rattle.arcs.specs.Net.{rooted, Ends}
+use Rattle.arcs.specs.declared.ArcEnds.{ArcEnds}
+use Rattle.arcs.specs.Net.{rooted}
 use Rattle.arcs.specs.declared.Network.{Network}
 use Rattle.arcs.specs.Chains.{Chained}
 use Rattle.arcs.specs.Table.{distances_in}
-use Rattle.arcs.specs.Parts as network
 use Rattle.arcs.specs.Flags.{Flags}
 use Rattle.arcs.specs.Legs.{no_legs, LegsOf, LegsIn}
-use Rattle.planning.specs.declared.Plan.{Plan}
+use Rattle.planning.specs.declared.Components.{Components}
 use Rattle.planning.specs.Components.{components_of}
 
 -- the network of a plant from the root r, and flags of its arcs in use from there, which no code holds
@@ -45,15 +43,14 @@ LinksBy p links = (i : ℕ) → i < length (roots p) → at links i ≡ links_fr
 abbrev pub HopsBy : Plant → List Legs → Type 0
 HopsBy p list = (i : ℕ) → i < length (roots p) → (get_or list i no_legs).hops ≡ length (trail_at p i)
 
-abbrev pub LegsBy : Plant → (tails heads : List ℕ) → AllLegs → Type 0
-LegsBy p tails heads legs =
-    (i : ℕ) → i < length (roots p)
-    → let r = get_or (roots p) i 0 in LegsIn (net_of p r) tails heads (used_flags p r) legs.aims (get_or legs.list i no_legs)
+abbrev pub LegsBy : ArcEnds → AllLegs → Type 0
+LegsBy ends legs =
+    (i : ℕ) → i < length (roots ends.plant)
+    → let r = get_or (roots ends.plant) i 0 in LegsIn (net_of ends.plant r) ends.tails ends.heads (used_flags ends.plant r) legs.aims (get_or legs.list i no_legs)
 
--- a network of the plant from its start, with the chains of the flagged arcs and the distances over them
-pub record NetworkOf (p : Plant) (flags : List Bool) (n : Network) : Type 0 where
-  pub net_is : n.net ≡ net_of p p.start
-  pub ends : Ends p n.ends.tails n.ends.heads
+-- a network is that of its plant from the start, with the chains of the flagged arcs and the distances over them
+pub record NetworkOf (flags : List Bool) (n : Network) : Type 0 where
+  pub net_is : n.net ≡ net_of n.ends.plant n.ends.plant.start
   pub chained : Chained n.net.labels (at n.ends.tails) (flag flags) n.chains.first n.chains.after
   pub hops_are : n.hops ≡ distances_in n.net n.ends.tails n.ends.heads flags
 
@@ -61,39 +58,19 @@ pub record NetworkOf (p : Plant) (flags : List Bool) (n : Network) : Type 0 wher
 abbrev pub HomesAre : Plant → List ℕ → Type 0
 HomesAre p home = (y : ℕ) → y < p.switches → at home y ≡ component_of p y
 
-module _ (x : Plan) where
-  -- the plant is sound, and these are its ends of arcs, components, bridges and arcs in use
-  pub record Charted : Type 0 where
-    pub sound : Sound x.plant
-    pub net_is : x.network.net ≡ net_of x.plant x.plant.start
-    pub ends : Ends x.plant x.network.ends.tails x.network.ends.heads
-    pub count_is : x.count ≡ length (roots x.plant)
-    pub roots_are : (i : ℕ) → i < length (roots x.plant) → at x.roots i ≡ get_or (roots x.plant) i 0
-    pub homes : HomesAre x.plant x.home
-    pub bridges_are : Flags max_links (bridge x.plant) x.bridges
-    pub used_are : Flags (2 * max_links) (used x.plant) x.used
+-- these are the components of the plant, its bridges and its arcs in use
+pub record Charted (p : Plant) (count : ℕ) (numbers home : List ℕ) (bridges arcs : List Bool) : Type 0 where
+  pub count_is : count ≡ length (roots p)
+  pub roots_are : (i : ℕ) → i < length (roots p) → at numbers i ≡ get_or (roots p) i 0
+  pub homes : HomesAre p home
+  pub bridges_are : Flags max_links (bridge p) bridges
+  pub used_are : Flags (2 * max_links) (used p) arcs
 
-  -- the components with their hops, and the hops of all
-  pub record Measured : Type 0 where
-    pub components_are : x.components ≡ components_of x.plant
-    pub hops_are : x.hops ≡ length (trail_of x.plant)
+-- these are the components with their hops, and the hops of all
+pub record Measured (p : Plant) (components : Components) (hops : ℕ) : Type 0 where
+  pub components_are : components ≡ components_of p
+  pub hops_are : hops ≡ length (trail_of p)
 
-  pub record OfPlant : Type 0 where
-    pub charted : Charted
-    pub measured : Measured
-
-  -- with the chains and the distances these are what the trail of each component is laid by
-  pub record Laying : Type 0 where
-    pub charted : Charted
-    pub tables : (r : ℕ) → In r (roots x.plant)
-        → network.Parts (net_of x.plant r) x.network.ends.tails x.network.ends.heads (used_flags x.plant r) x.network.chains.first x.network.chains.after x.network.hops
-    pub legs_are : LegsBy x.plant x.network.ends.tails x.network.ends.heads x.legs
-
-  -- these arcs are the legs of the trail of component i
-  pub record LegsAt (i : ℕ) (arcs : List ℕ) : Type 0 where
-    pub are : LegsOf (rooted x.network.net (at x.roots i)) x.network.ends.tails x.network.ends.heads (used_flags x.plant (get_or (roots x.plant) i 0)) arcs
-
-  -- the whole is the plan of a plant
-  pub record IsPlan : Type 0 where
-    pub laying : Laying
-    pub measured : Measured
+-- where the root of component i stands among these numbers: these arcs are the legs of its trail
+pub record LegsAt (n : Network) (numbers : List ℕ) (i : ℕ) (arcs : List ℕ) : Type 0 where
+  pub are : LegsOf (rooted n.net (at numbers i)) n.ends.tails n.ends.heads (used_flags n.ends.plant (get_or (roots n.ends.plant) i 0)) arcs

@@ -1,7 +1,7 @@
 // The plan of a listing, which every call that plans goes through. Inner: the calls are those of docs/CALLS.md.
 #![tactic(auto, using(crate::proofs::Charts::few_components, crate::proofs::OneAfterAnother::root_in))]
 
-ghost use Rattle.std.specs.Prelude.{◌≡◌, [], ℕ, ◌+◌, ◌*◌, ◌≤◌, ◌<◌, length, map, IfOk};
+ghost use Rattle.std.specs.Prelude.{◌≡◌, [], ℕ, ◌+◌, ◌*◌, ◌≤◌, ◌<◌, length, map};
 ghost use mathlib.Core.List.{flatten};
 ghost use Rattle.answers.specs.Checks.{answer};
 ghost use Rattle.answers.specs.Results.{answer_as};
@@ -10,14 +10,13 @@ ghost use Rattle.limits.specs.Sound.{Sound};
 ghost use Rattle.listing.specs.Listing.{reading};
 ghost use Rattle.walks.specs.Components.{roots, used, links_with};
 ghost use Rattle.plan.specs.Plan.{trail_of, round_of, table_of};
-ghost use Rattle.arcs.specs.Net.{Ends};
 ghost use Rattle.arcs.specs.Flags.{Flags};
 ghost use Rattle.components.specs.Found.{Finds};
 ghost use Rattle.trail.specs.Filled.{filled_with, Tells};
 ghost use Rattle.trail.specs.Ways.{Laid, TellsFrom};
 ghost use Rattle.round.specs.Round.{labels_of};
 ghost use Rattle.planning.specs.Components.{components_with, component_with, components_of};
-ghost use Rattle.planning.specs.Plans.{net_of, trail_at, round_at, NetworkOf, HomesAre, HopsBy, LinksBy, Charted, OfPlant, Laying, LegsAt, IsPlan};
+ghost use Rattle.planning.specs.Plans.{net_of, trail_at, round_at, NetworkOf, HomesAre, HopsBy, LinksBy, LegsBy, Charted, Measured, LegsAt};
 ghost use Rattle.planning.specs.OneAfterAnother.{LaysEach, TellsEach};
 ghost use Rattle.planning.specs.Planning.{planning_at};
 ghost use Rattle.planning.specs.Numbers.{numbers_of};
@@ -47,11 +46,10 @@ pub struct Components {
     pub list: [Component; Plant::PLACES],
 }
 
-// The plan of a plant: the plant, its network from its start, how many components there are, their roots, the component of each switch, the bridges, the arcs in use, the legs of
-// the trail of each component, the components with their hops, and the hops of all.
+// The plan of a plant: its network from its start, which holds the plant, how many components there are, their roots, the component of each switch, the bridges, the arcs in use, the legs of
+// the trail of each component, the components with their hops, and the hops of all. Each is what the definitions say of the plant.
 #[derive(Clone, Copy)]
 pub struct Plan {
-    pub plant: Plant,
     pub network: Network,
     pub count: u8,
     pub roots: [u8; Plant::PLACES],
@@ -61,6 +59,10 @@ pub struct Plan {
     pub legs: AllLegs,
     pub components: Components,
     pub hops: u16,
+    pub ghost network_is: { NetworkOf used network },
+    pub ghost charted: { Charted network.ends.plant count roots home bridges used },
+    pub ghost legs_are: { LegsBy network.ends legs },
+    pub ghost measured: { Measured network.ends.plant components hops },
 }
 
 // Switches, links in service, bridges, rules and hops of a plant.
@@ -90,25 +92,23 @@ impl Components {
 }
 
 // The sizes of a plant's network from a root.
-fn net_of(p: Plant, root: u8) -> Net
-    requires { Sound p }
-    ensures { result ≡ net_of p root }
+fn net_of(ends: &ArcEnds, root: u8) -> Net
+    ensures { result ≡ net_of ends.now.plant root }
 {
     Net {
-        switches: p.switches,
-        labels: 2 * p.count,
+        switches: ends.plant.switches,
+        labels: 2 * ends.plant.count,
         root,
     }
 }
 
 // The network of a plant from its start, by the ends of its arcs and flags of its arcs in use.
-fn network_of(p: Plant, ends: ArcEnds, flags: &[bool; Plant::LABELS]) -> Network
-    requires sound { Sound p }
-    requires ends_are { Ends p ends.tails ends.heads }
-    requires flags_are { Flags (2 * max_links) (used p) flags.now }
-    ensures { NetworkOf p flags.now result }
+fn network_of(ends: ArcEnds, flags: &[bool; Plant::LABELS]) -> Network
+    requires { Flags (2 * max_links) (used ends.plant) flags.now }
+    ensures ends_value { result.ends ≡ ends }
+    ensures network_is { NetworkOf flags.now result }
 {
-    let net = net_of(p, p.start);
+    let net = net_of(&ends, ends.plant.start);
     let chains = arcs::chains_of(&ends.tails, flags, net.labels);
     let hops = distance::distances(net, &ends, flags);
     Network {
@@ -120,11 +120,11 @@ fn network_of(p: Plant, ends: ArcEnds, flags: &[bool; Plant::LABELS]) -> Network
 }
 
 // The links in service of each component, by the component of each switch.
-fn links_by(p: Plant, home: &[u8; Plant::PLACES]) -> [u16; Plant::PLACES]
-    requires sound { Sound p }
-    requires homes { HomesAre p home.now }
-    ensures { LinksBy p result }
+fn links_by(ends: &ArcEnds, home: &[u8; Plant::PLACES]) -> [u16; Plant::PLACES]
+    requires { HomesAre ends.now.plant home.now }
+    ensures { LinksBy ends.now.plant result }
 {
+    let p = &ends.plant;
     let mut links = [0u16; Plant::PLACES];
     for link in &p.links[..usize::from(p.count)] {
         if in_service(*link) {
@@ -138,14 +138,13 @@ fn links_by(p: Plant, home: &[u8; Plant::PLACES]) -> [u16; Plant::PLACES]
 
 // The components of a plant, where the trail and the round trail of each begins and their hops, and the hops of all trails: by the components that were found, and the hops of the
 // legs of each.
-fn measured(p: Plant, f: &Found, legs: &AllLegs) -> (Components, u16)
-    requires sound { Sound p }
-    requires finds { Finds p f.now }
-    requires hops_by { HopsBy p legs.now.list }
-    ensures components_are { result.0 ≡ components_of p }
-    ensures hops_are { result.1 ≡ length (trail_of p) }
+fn measured(ends: &ArcEnds, f: &Found, legs: &AllLegs) -> (Components, u16)
+    requires finds { Finds ends.now.plant f.now }
+    requires hops_by { HopsBy ends.now.plant legs.now.list }
+    ensures components_are { result.0 ≡ components_of ends.now.plant }
+    ensures hops_are { result.1 ≡ length (trail_of ends.now.plant) }
 {
-    let links = links_by(p, &f.home);
+    let links = links_by(ends, &f.home);
     let mut components = Components::none();
     let mut begin: u16 = 0;
     let mut round: u16 = 0;
@@ -169,17 +168,15 @@ fn measured(p: Plant, f: &Found, legs: &AllLegs) -> (Components, u16)
 // The plan of a plant.
 fn planned(p: Plant) -> Plan
     requires { Sound p }
-    ensures plant_value { result.plant ≡ p }
-    ensures ready { IsPlan result }
+    ensures { result.network.ends.plant ≡ p }
 {
     let ends = arcs::ends_of(p);
-    let f = components::find(p, &ends);
-    let network = network_of(p, ends, &f.used);
+    let f = components::find(&ends);
+    let network = network_of(ends, &f.used);
     let roots = &f.roots[..usize::from(f.count)];
     let legs = legs::legs_of(&network, roots);
-    let (components, hops) = measured(p, &f, &legs);
+    let (components, hops) = measured(&network.ends, &f, &legs);
     Plan {
-        plant: p,
         network,
         count: f.count,
         roots: f.roots,
@@ -194,8 +191,7 @@ fn planned(p: Plant) -> Plan
 
 // The plan of a listing: refusals 1 to 8.
 pub fn plan_of(listing: &[u8]) -> Result<Plan, Refusal>
-    ensures plots { answer_as (λ (x : Plan). x.plant) result ≡ answer (reading listing.now) }
-    ensures ready { IfOk result (λ x. IsPlan x) }
+    ensures { answer_as (λ (x : Plan). x.network.ends.plant) result ≡ answer (reading listing.now) }
 {
     let p = reading::read(listing)?;
     Ok(planned(p))
@@ -203,11 +199,13 @@ pub fn plan_of(listing: &[u8]) -> Result<Plan, Refusal>
 
 // The plan of a listing that has the named switch: refusals 1 to 8, then 11.
 pub fn plan_at(listing: &[u8], switch: u8) -> Result<Plan, Refusal>
-    ensures plots { answer_as (λ (x : Plan). x.plant) result ≡ answer (planning_at listing.now switch) }
-    ensures ready { IfOk result (λ x. IsPlan x) }
+    ensures { answer_as (λ (x : Plan). x.network.ends.plant) result ≡ answer (planning_at listing.now switch) }
 {
     let x = plan_of(listing)?;
-    answers::judge(x.plant.switches <= switch, Refusal::SwitchOutOfRange)?;
+    answers::judge(
+        x.network.ends.plant.switches <= switch,
+        Refusal::SwitchOutOfRange,
+    )?;
     Ok(x)
 }
 
@@ -215,9 +213,8 @@ pub fn plan_at(listing: &[u8], switch: u8) -> Result<Plan, Refusal>
 
 // The component of a switch.
 pub fn component_with(x: &Plan, switch: u8) -> Component
-    requires of_plant { OfPlant x.now }
-    requires switch_lt_switches { switch < x.now.plant.switches }
-    ensures { result ≡ component_with x.now.plant switch }
+    requires { switch < x.now.network.ends.plant.switches }
+    ensures { result ≡ component_with x.now.network.ends.plant switch }
 {
     let i = usize::from(x.home[usize::from(switch)]);
     x.components.list[i]
@@ -225,10 +222,9 @@ pub fn component_with(x: &Plan, switch: u8) -> Component
 
 // E for a switch, the links in service of its component; a switch that is none has no link.
 pub fn links_with(x: &Plan, switch: u8) -> u16
-    requires { OfPlant x.now }
-    ensures { result ≡ links_with x.now.plant switch }
+    ensures { result ≡ links_with x.now.network.ends.plant switch }
 {
-    if switch < x.plant.switches {
+    if switch < x.network.ends.plant.switches {
         let c = component_with(x, switch);
         return c.round_hops / 2;
     }
@@ -239,9 +235,8 @@ pub fn links_with(x: &Plan, switch: u8) -> u16
 
 // The arcs that the legs of the trail of component i cross.
 fn legs_at<'a>(x: &'a Plan, i: usize) -> &'a [u16]
-    requires laying { Laying x.now }
-    requires i_in_bounds { i < length (roots x.now.plant) }
-    ensures { LegsAt x.now i result.now }
+    requires { i < length (roots x.now.network.ends.plant) }
+    ensures { LegsAt x.now.network x.now.roots i result.now }
 {
     let legs = x.legs.list[i];
     &x.legs.aims[usize::from(legs.from)..usize::from(legs.to)]
@@ -261,13 +256,12 @@ fn lay_each<F: Fn(usize, usize, &mut [u16]) -> usize>(count: u8, lay: F, buf: &m
 
 // The trails of a plan one after another into the front of a lent buffer that has room for them; the places after them keep their contents.
 pub fn lay(x: &Plan, buf: &mut [u16])
-    requires plan { IsPlan x.now }
-    requires plant_in_bounds { length (trail_of x.now.plant) ≤ length buf.old }
-    ensures { buf.new ≡ filled_with (trail_of x.now.plant) buf.old }
+    requires { length (trail_of x.now.network.ends.plant) ≤ length buf.old }
+    ensures { buf.new ≡ filled_with (trail_of x.now.network.ends.plant) buf.old }
 {
     let one = |i: usize, from: usize, b: &mut [u16]| -> usize
-        requires { Laying x.now × (i < length (roots x.now.plant)) × (from + length (trail_at x.now.plant i) ≤ length b.now) }
-        ensures { Laid (trail_at x.entry.now.plant i) b.entry.now from b.exit.now result }
+        requires { (i < length (roots x.now.network.ends.plant)) × (from + length (trail_at x.now.network.ends.plant i) ≤ length b.now) }
+        ensures { Laid (trail_at x.entry.now.network.ends.plant i) b.entry.now from b.exit.now result }
     { trail::lay(&x.network, x.roots[i], legs_at(x, i), b, from) };
     lay_each(x.count, one, buf);
 }
@@ -286,12 +280,11 @@ fn compare_each<F: Fn(usize, usize) -> Option<usize>>(count: u8, compare: F) -> 
 
 // Does the lent slice begin with the hops of the trails of a plan, one after another? Then how many they are.
 pub fn compare(x: &Plan, lent: &[u16]) -> Option<usize>
-    requires { IsPlan x.now }
-    ensures { Tells lent.now (trail_of x.now.plant) result }
+    ensures { Tells lent.now (trail_of x.now.network.ends.plant) result }
 {
     let one = |i: usize, from: usize| -> Option<usize>
-        requires { Laying x.now × (i < length (roots x.now.plant)) }
-        ensures { TellsFrom from lent.entry.now (trail_at x.entry.now.plant i) result }
+        requires { i < length (roots x.now.network.ends.plant) }
+        ensures { TellsFrom from lent.entry.now (trail_at x.entry.now.network.ends.plant i) result }
     { trail::compare(&x.network, x.roots[i], legs_at(x, i), lent, from) };
     compare_each(x.count, one)
 }
@@ -300,35 +293,32 @@ pub fn compare(x: &Plan, lent: &[u16]) -> Option<usize>
 
 // The round trail of component i.
 fn round_at(x: &Plan, i: usize) -> Round
-    requires charted { Charted x.now }
-    requires i_in_bounds { i < length (roots x.now.plant) }
-    ensures { labels_of result ≡ round_at x.now.plant i }
+    requires { i < length (roots x.now.network.ends.plant) }
+    ensures { labels_of result ≡ round_at x.now.network.ends.plant i }
 {
-    let v = visit::visit(x.plant, &x.network.ends, x.roots[i]);
-    round::round_of(x.plant, &x.network.ends, v)
+    let v = visit::visit(&x.network.ends, x.roots[i]);
+    round::round_of(&x.network.ends, v)
 }
 
 // The round trails of a plan one after another into the front of a lent buffer that has room for them; the places after them keep their contents.
 pub fn lay_round(x: &Plan, buf: &mut [u16])
-    requires charted { Charted x.now }
-    requires plant_in_bounds { length (round_of x.now.plant) ≤ length buf.old }
-    ensures { buf.new ≡ filled_with (round_of x.now.plant) buf.old }
+    requires { length (round_of x.now.network.ends.plant) ≤ length buf.old }
+    ensures { buf.new ≡ filled_with (round_of x.now.network.ends.plant) buf.old }
 {
     let one = |i: usize, from: usize, b: &mut [u16]| -> usize
-        requires { Charted x.now × (i < length (roots x.now.plant)) × (from + length (round_at x.now.plant i) ≤ length b.now) }
-        ensures { Laid (round_at x.entry.now.plant i) b.entry.now from b.exit.now result }
+        requires { (i < length (roots x.now.network.ends.plant)) × (from + length (round_at x.now.network.ends.plant i) ≤ length b.now) }
+        ensures { Laid (round_at x.entry.now.network.ends.plant i) b.entry.now from b.exit.now result }
     { round::lay(round_at(x, i), b, from) };
     lay_each(x.count, one, buf);
 }
 
 // Does the lent slice begin with the hops of the round trails of a plan, one after another? Then how many they are.
 pub fn compare_round(x: &Plan, lent: &[u16]) -> Option<usize>
-    requires { Charted x.now }
-    ensures { Tells lent.now (round_of x.now.plant) result }
+    ensures { Tells lent.now (round_of x.now.network.ends.plant) result }
 {
     let one = |i: usize, from: usize| -> Option<usize>
-        requires { Charted x.now × (i < length (roots x.now.plant)) }
-        ensures { TellsFrom from lent.entry.now (round_at x.entry.now.plant i) result }
+        requires { i < length (roots x.now.network.ends.plant) }
+        ensures { TellsFrom from lent.entry.now (round_at x.entry.now.network.ends.plant i) result }
     { round::compare(round_at(x, i), lent, from) };
     compare_each(x.count, one)
 }
@@ -337,8 +327,7 @@ pub fn compare_round(x: &Plan, lent: &[u16]) -> Option<usize>
 
 // The forwarding table of a plan.
 pub fn table_of(x: &Plan) -> Table
-    requires { Charted x.now }
-    ensures { result ≡ table_of x.now.plant }
+    ensures { result ≡ table_of x.now.network.ends.plant }
 {
     let n = &x.network;
     table::table_of(&n.ends.tails, &n.ends.heads, &x.used, n.net.labels)
@@ -346,14 +335,13 @@ pub fn table_of(x: &Plan) -> Table
 
 // The numbers of a plan.
 pub fn numbers_of(x: &Plan) -> Numbers
-    requires { OfPlant x.now }
-    ensures { result ≡ numbers_of x.now.plant }
+    ensures { result ≡ numbers_of x.now.network.ends.plant }
 {
     let bridges = uses::count_set(&x.bridges);
     let rules = uses::count_set(&x.used);
-    let links = arcs::links_in_service(x.plant);
+    let links = arcs::links_in_service(x.network.ends.plant);
     Numbers {
-        switches: x.plant.switches,
+        switches: x.network.ends.plant.switches,
         links,
         bridges: bridges as u16,
         rules: rules as u16,

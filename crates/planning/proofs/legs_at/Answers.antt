@@ -8,4 +8,4 @@ use Rattle.planning.proofs.legs_at.Goals as goal
 pub returns : goal.returns
 returns c =
     let own = get_or c.args.x.now.legs.list c.args.i no_legs in
-    legs_at c.requires.laying c.requires.i_in_bounds (rw (c.from.ensures, c.from-2.ensures) (sym (drop-take own.from own.to c.args.x.now.legs.aims)))
+    legs_at c.args.x.now c.requires (rw (c.from.ensures, c.from-2.ensures) (sym (drop-take own.from own.to c.args.x.now.legs.aims)))

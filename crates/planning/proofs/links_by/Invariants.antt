@@ -3,4 +3,4 @@ use Rattle.planning.proofs.Counting.{Counted}
 use Rattle.planning.proofs.links_by.Given as goal
 
 abbrev pub invariant-loop-link : goal.invariant-loop-link
-invariant-loop-link l = Counted l.fn.p l.link-index l.links
+invariant-loop-link l = Counted l.fn.ends.plant l.link-index l.links

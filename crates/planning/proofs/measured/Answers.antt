@@ -6,34 +6,34 @@ use Rattle.planning.proofs.Measuring.{Measuring, measuring_none, measuring_next,
 use Rattle.planning.proofs.measured.Goals as goal
 
 pub loop-i-init : goal.loop-i-init
-loop-i-init c = subst (λ (cs : Components). Measuring c.args.p 0 cs 0 0) (sym c.none-components.ensures) (measuring_none _)
+loop-i-init c = subst (λ (cs : Components). Measuring c.args.ends.now.plant 0 cs 0 0) (sym c.none-components.ensures) (measuring_none _)
 
 pub overflow_mul-both : goal.overflow_mul-both
 overflow_mul-both c =
-    let i_in : c.loop-i.i < length (roots c.args.p) = omega (arith, c.requires.finds.count_is) in
-    omega (arith, (few_hops _ c.requires.sound _ c.requires.finds _ i_in _ _ _ c.loop-i.invariant _ c.requires.hops_by _ c.links_by-links.ensures).1)
+    let i_in : c.loop-i.i < length (roots c.args.ends.now.plant) = omega (arith, c.requires.finds.count_is) in
+    omega (arith, (few_hops _ c.args.ends.now.sound _ c.requires.finds _ i_in _ _ _ c.loop-i.invariant _ c.requires.hops_by _ c.links_by-links.ensures).1)
 
 pub overflow_add-begin : goal.overflow_add-begin
 overflow_add-begin c =
-    let i_in : c.loop-i.i < length (roots c.args.p) = omega (arith, c.requires.finds.count_is) in
-    omega (arith, (few_hops _ c.requires.sound _ c.requires.finds _ i_in _ _ _ c.loop-i.invariant _ c.requires.hops_by _ c.links_by-links.ensures).0)
+    let i_in : c.loop-i.i < length (roots c.args.ends.now.plant) = omega (arith, c.requires.finds.count_is) in
+    omega (arith, (few_hops _ c.args.ends.now.sound _ c.requires.finds _ i_in _ _ _ c.loop-i.invariant _ c.requires.hops_by _ c.links_by-links.ensures).0)
 
 pub overflow_add-round : goal.overflow_add-round
 overflow_add-round c =
-    let i_in : c.loop-i.i < length (roots c.args.p) = omega (arith, c.requires.finds.count_is) in
-    omega (arith, (few_hops _ c.requires.sound _ c.requires.finds _ i_in _ _ _ c.loop-i.invariant _ c.requires.hops_by _ c.links_by-links.ensures).1)
+    let i_in : c.loop-i.i < length (roots c.args.ends.now.plant) = omega (arith, c.requires.finds.count_is) in
+    omega (arith, (few_hops _ c.args.ends.now.sound _ c.requires.finds _ i_in _ _ _ c.loop-i.invariant _ c.requires.hops_by _ c.links_by-links.ensures).1)
 
 pub loop-i-preserved : goal.loop-i-preserved
 loop-i-preserved c =
-    let i_in : c.loop-i.i < length (roots c.args.p) = omega (arith, c.requires.finds.count_is) in
-    measuring_next _ c.requires.sound _ c.requires.finds _ i_in _ _ _ c.loop-i.invariant _ c.requires.hops_by _ c.links_by-links.ensures
+    let i_in : c.loop-i.i < length (roots c.args.ends.now.plant) = omega (arith, c.requires.finds.count_is) in
+    measuring_next _ c.args.ends.now.sound _ c.requires.finds _ i_in _ _ _ c.loop-i.invariant _ c.requires.hops_by _ c.links_by-links.ensures
 
 pub returns : goal.returns
 returns c =
     let k = c.loop-i in
-    let e : k.i ≡ length (roots c.args.p) = omega (arith, c.requires.finds.count_is) in
-    let all = subst (λ (n : ℕ). Measuring c.args.p n k.components k.begin k.round) e k.invariant in
+    let e : k.i ≡ length (roots c.args.ends.now.plant) = omega (arith, c.requires.finds.count_is) in
+    let all = subst (λ (n : ℕ). Measuring c.args.ends.now.plant n k.components k.begin k.round) e k.invariant in
     record {
-      components_are = components_are _ c.requires.sound _ c.requires.finds _ _ _ all;
-      hops_are = hops_all _ c.requires.sound _ c.requires.finds _ _ _ all;
+      components_are = components_are _ c.args.ends.now.sound _ c.requires.finds _ _ _ all;
+      hops_are = hops_all _ c.args.ends.now.sound _ c.requires.finds _ _ _ all;
     }

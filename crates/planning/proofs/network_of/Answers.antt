@@ -3,7 +3,7 @@ use Rattle.planning.proofs.Drawing.{chains_asked, distances-asked}
 use Rattle.planning.proofs.network_of.Goals as goal
 
 pub chains_of-chains-requires-clause-tails_in : goal.chains_of-chains-requires-clause-tails_in
-chains_of-chains-requires-clause-tails_in c = (chains_asked _ c.requires.sound _ _ c.requires.ends_are _ c.requires.flags_are _ c.net_of-net.ensures).1
+chains_of-chains-requires-clause-tails_in c = (chains_asked c.args.ends _ c.requires _ c.net_of-net.ensures).1
 
 pub distances-hops-requires : goal.distances-hops-requires
-distances-hops-requires c = distances-asked _ c.requires.sound _ _ c.requires.ends_are _ c.requires.flags_are _ c.net_of-net.ensures
+distances-hops-requires c = distances-asked c.args.ends _ c.requires _ c.net_of-net.ensures

@@ -7,9 +7,9 @@ use Rattle.planning.proofs.fn.lay.one.Goals as goal
 pub lay-requires : goal.lay-requires
 lay-requires c =
     let own = c.legs_at.ensures in
-    record { trailing = trailing c.requires.0 c.requires.1 own; fits = omega (arith, ap length (trail_is c.requires.0 c.requires.1 own)) }
+    record { trailing = trailing c.captures.x.now c.requires.0 own; fits = omega (arith, ap length (trail_is c.captures.x.now c.requires.0 own)) }
 
 pub returns : goal.returns
 returns c =
     let own = c.legs_at.ensures in
-    subst (λ (w : List ℕ). Laid w c.args.b.now c.args.from c.lay.new.buf c.lay.result) (trail_is c.requires.0 c.requires.1 own) (c.lay.ensures (trailing c.requires.0 c.requires.1 own))
+    subst (λ (w : List ℕ). Laid w c.args.b.now c.args.from c.lay.new.buf c.lay.result) (trail_is c.captures.x.now c.requires.0 own) (c.lay.ensures (trailing c.captures.x.now c.requires.0 own))
