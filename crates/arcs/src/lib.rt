@@ -10,6 +10,7 @@ ghost use Rattle.walks.specs.Arcs.{opposite};
 ghost use Rattle.walks.specs.Graph.{live_links};
 ghost use Rattle.arcs.specs.Net.{rooted, Ends, AllArcs};
 ghost use Rattle.arcs.specs.Chains.{Chained, TailsIn};
+ghost use Rattle.arcs.specs.Shows.{TellsAll};
 
 use plant::{Plant, head_of, in_service, tail_of};
 
@@ -57,6 +58,14 @@ pub struct Visited {
     pub seen: [bool; Plant::PLACES],
     pub rank: [u8; Plant::PLACES],
     pub entered: [bool; Plant::MAX_LINKS],
+}
+
+// What the visits from the roots of all components tell together, beside the ends of the arcs that they went over.
+#[derive(Clone, Copy)]
+pub struct AllVisited<'a> {
+    pub ends: &'a ArcEnds,
+    pub visited: Visited,
+    pub ghost tells_all: { TellsAll ends.now.plant visited },
 }
 
 // The legs of a trail: the arcs that they cross at their ends stand in an array from place `from` to before place `to`, and the whole trail has `hops` hops. The last leg, back to

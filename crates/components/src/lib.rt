@@ -12,7 +12,7 @@ ghost use Rattle.visit.specs.Inner.{AllChained};
 ghost use Rattle.components.specs.Found.{Finds};
 ghost use Rattle.components.specs.Inner.{Apart, Covers};
 
-use arcs::{ArcEnds, Chains, Visited};
+use arcs::{AllVisited, ArcEnds, Chains, Visited};
 use plant::Plant;
 use std::array;
 
@@ -101,15 +101,16 @@ pub fn find(ends: &ArcEnds) -> Found
     let f = visit_all(ends, &chains);
     let rank = f.rank;
     let entered = f.entered;
-    let v = Visited {
+    let visited = Visited {
         root: ends.plant.start,
         next: ends.plant.switches,
         seen: [true; Plant::PLACES],
         rank,
         entered,
     };
-    let bridges = bridges::bridges_of(ends, v);
-    let used = uses::arcs_in_use(ends, v, &bridges);
+    let all = AllVisited { ends, visited };
+    let bridges = bridges::bridges_of(&all);
+    let used = uses::arcs_in_use(&all, &bridges);
     let roots = f.roots;
     let home = array::from_fn(|x| f.home[x].unwrap_or(0));
     Found {

@@ -8,11 +8,11 @@ ghost use Rattle.lists.specs.Arrays.{flag};
 ghost use Rattle.walks.specs.Graph.{bridge};
 ghost use Rattle.walks.specs.Components.{used};
 ghost use Rattle.walks.specs.Inner.{leading_from};
-ghost use Rattle.arcs.specs.Shows.{Visits, TellsAll};
+ghost use Rattle.arcs.specs.Shows.{Visits};
 ghost use Rattle.arcs.specs.Flags.{Flags, count_set};
 ghost use Rattle.uses.specs.Inner.{is_taken, taken_by};
 
-use arcs::{ArcEnds, Visited};
+use arcs::{AllVisited, ArcEnds, Visited};
 use plant::{Plant, in_service};
 
 // Is an arc taken whose tail and head the visit numbered so? Of a link with two both arcs are; of another entered link, the arc from earlier to later visited; of every
@@ -43,16 +43,11 @@ fn arcs_taken(ends: &ArcEnds, v: Visited, two: &[bool; Plant::MAX_LINKS]) -> [bo
 }
 
 // A flag for each label: is its arc in use? Both arcs of a bridge are: the flags of the bridges are given.
-pub fn arcs_in_use(
-    ends: &ArcEnds,
-    v: Visited,
-    b: &[bool; Plant::MAX_LINKS],
-) -> [bool; Plant::LABELS]
-    requires tells_all { TellsAll ends.now.plant v }
-    requires flags { Flags max_links (bridge ends.now.plant) b.now }
-    ensures { Flags (2 * max_links) (used ends.now.plant) result }
+pub fn arcs_in_use(all: &AllVisited, b: &[bool; Plant::MAX_LINKS]) -> [bool; Plant::LABELS]
+    requires { Flags max_links (bridge all.now.ends.now.plant) b.now }
+    ensures { Flags (2 * max_links) (used all.now.ends.now.plant) result }
 {
-    arcs_taken(ends, v, b)
+    arcs_taken(all.ends, all.visited, b)
 }
 
 // A flag for each label: is it the one by which the round trail crosses its link first? No link has two of them.

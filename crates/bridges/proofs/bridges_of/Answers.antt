@@ -10,10 +10,10 @@ use Rattle.bridges.proofs.bridges_of.Goals as goal
 
 pub returns : goal.returns
 returns c =
-    let h = c.requires in
-    let same = bridge-flag c.args.ends.now.sound h.tells_all c.covered_links-c.ensures in
+    let e = c.args.all.now.ends.now in
+    let same = bridge-flag e.sound c.args.all.now.tells_all c.covered_links-c.ensures in
     record {
       places = c.from_fn.ensures.items.long;
-      tells = λ i. made_all _ (λ j. flag c.args.v.entered j && not (flag c.covered_links-c.result j)) _ (λ x y q k. search (rules, tests)) _ max_links c.from_fn.ensures.items false
-          (λ j g. same j ∙ bridge-past c.args.ends.now.plant j (omega (arith, g, c.args.ends.now.sound.few_links))) i ∙ same i;
+      tells = λ i. made_all _ (λ j. flag c.args.all.now.visited.entered j && not (flag c.covered_links-c.result j)) _ (λ x y q k. search (rules, tests)) _ max_links c.from_fn.ensures.items false
+          (λ j g. same j ∙ bridge-past e.plant j (omega (arith, g, e.sound.few_links))) i ∙ same i;
     }

@@ -3,4 +3,4 @@ use Rattle.bridges.specs.Inner.{Covered}
 use Rattle.bridges.proofs.covered_links.Given as goal
 
 abbrev pub invariant-loop-k : goal.invariant-loop-k
-invariant-loop-k l = Covered l.ends.plant l.k l.c
+invariant-loop-k l = Covered l.all.ends.now.plant l.k l.c

@@ -8,11 +8,8 @@ use Rattle.arcs.proofs.Made.{made}
 use Rattle.components.proofs.Scanning.{tells_all, finds}
 use Rattle.components.proofs.find.Goals as goal
 
-pub bridges_of-bridges-requires : goal.bridges_of-bridges-requires
-bridges_of-bridges-requires c = record { tells_all = tells_all _ c.args.ends.now.sound _ c.visit_all-f.ensures _ _ }
-
-pub arcs_in_use-used-requires-clause-tells_all : goal.arcs_in_use-used-requires-clause-tells_all
-arcs_in_use-used-requires-clause-tells_all c = tells_all _ c.args.ends.now.sound _ c.visit_all-f.ensures _ _
+pub invariant_of-all : goal.invariant_of-all
+invariant_of-all c = record { tells_all = tells_all _ c.args.ends.now.sound _ c.visit_all-f.ensures _ _ }
 
 pub returns : goal.returns
 returns c =
