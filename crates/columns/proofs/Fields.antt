@@ -21,7 +21,7 @@ use Rattle.lists.proofs.Tests.{eq?, and_true}
 use Rattle.text.specs.Decimal.{digit, decimal, read_decimal, is_digit, is_decimal}
 use Rattle.text.specs.Lines.{space}
 use Rattle.text.proofs.DecimalLaws.{is_digit_lem, read-append, read-decimal, decimal-read, decimal-most, decimal-is, decimal-digits, read_below}
-use Rattle.columns.specs.Fields.{most_digits, spaces, right_in, left_in, spaces_before, after_spaces, is_short, is_number, number_in}
+use Rattle.columns.specs.Fields.{most_digits, spaces, right_in, spaces_before, after_spaces, is_short, is_number, number_in}
 
 -- ---- the spaces before a text
 
@@ -78,9 +78,6 @@ spaces-size n = length-replicate {A = ℕ} n space
 module _ (columns : ℕ) (text : List ℕ) where
   pub right-size : length (right_in columns text) ≡ (columns - length text) + length text
   right-size = omega (arith, length-append (spaces (columns - length text)) text, spaces-size (columns - length text))
-
-  pub left-size : length (left_in columns text) ≡ length text + (columns - length text)
-  left-size = omega (arith, length-append text (spaces (columns - length text)), spaces-size (columns - length text))
 
 -- ---- a number of at most three digits
 

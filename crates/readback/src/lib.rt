@@ -151,7 +151,7 @@ fn whole_lines(page: &[u8]) -> bool
     page.len() % LINE == 0 && 2 <= lines && lines <= Plant::PLACES + 1
 }
 
-// Is it of the form of a buying page?
+// Is it of the form of a buying page? One test after the other: those before say that the lines of the next are there and hold numbers.
 fn is_formed(page: &[u8]) -> bool
     ensures { result ≡ formed page.now }
 {

@@ -9,10 +9,6 @@ use borrow.Rule.Slice.PartMut.{put_mid}
 use Rattle.text.specs.Laid.{Laid}
 use Rattle.lists.proofs.Arrays.{sets-append}
 
--- no bytes
-pub laid_none : (b : List ℕ) (at : ℕ) → at ≤ length b → Laid b at [] b at
-laid_none b at h = record { buffer = refl; place = omega arith; within = h; front = sym (length-take-le at b h) }
-
 -- one byte
 pub laid-byte : (b : List ℕ) (at x : ℕ) → at < length b → Laid b at (x ∷ []) (set b at x) (at + 1)
 laid-byte b at x h =

@@ -4,17 +4,11 @@ use mathlib.Core.List.{List, [], ◌∷◌, ◌++◌, append-nil, append_assoc}
 use Prim.Native.Nat.{ℕ, zero, suc, ◌+◌, ◌≤◌, ◌<◌}
 use native.Mathlib.Numerals.{add-one}
 use native.Mathlib.Omega.{arith}
-use lib.ListN.{length, get_or, set, take, length-append}
+use lib.ListN.{length, get_or, take, length-append}
 use lib.Seq.{take-suc}
-use Rattle.text.specs.Decimal.{decimal}
-use Rattle.text.specs.Lines.{space, newline, each, spaced, spaced_all, line}
+use Rattle.text.specs.Lines.{newline, each, spaced_all, line}
 use Rattle.text.specs.Laid.{Room, Laid}
-use Rattle.text.proofs.LaidLaws.{laid_none, laid-byte, laid_same, laid_then}
-
--- ---- a number after a space
-
-pub spaced-laid : (b : List ℕ) (at n : ℕ) {c : List ℕ} {next : ℕ} → Room b at (spaced n) → Laid (set b at space) (at + 1) (decimal n) c next → Laid b at (spaced n) c next
-spaced-laid b at n room l = laid_then (laid-byte b at space (omega arith)) l
+use Rattle.text.proofs.LaidLaws.{laid_same, laid_then}
 
 -- ---- pieces, one by one
 
@@ -42,9 +36,6 @@ module _ {A : Type 0} (f : A → List ℕ) where
 pub record Turns {A : Type 0} (f : A → List ℕ) (b : List ℕ) (at : ℕ) (xs : List A) (n : ℕ) (c : List ℕ) (next i : ℕ) : Type 0 where
   pub count : i ≤ n
   pub laid : Laid b at (each f (take i xs)) c next
-
-pub turns-none : {A : Type 0} {f : A → List ℕ} {b : List ℕ} {at : ℕ} {xs : List A} {n : ℕ} → at ≤ length b → Turns f b at xs n b at 0
-turns-none {b = b} {at} room = record { count = omega arith; laid = laid_none b at room }
 
 module _ {A : Type 0} {f : A → List ℕ} {b : List ℕ} {at : ℕ} {xs : List A} {n : ℕ} {c : List ℕ} {next i : ℕ} (t : Turns f b at xs n c next i) where
   pub turns-all : n ≤ i → Laid b at (each f (take n xs)) c next

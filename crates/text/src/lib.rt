@@ -36,7 +36,7 @@ pub fn put_word(buf: &mut [u8], at: usize, word: &[u8]) -> usize
     end
 }
 
-// A number below 1000 in decimal: one, two or three digits.
+// A number below 1000 in decimal: one, two or three digits. They are laid at their place in the buffer; the library prints to a writer.
 pub fn put_short(buf: &mut [u8], at: usize, n: u32) -> usize
     requires { (n < 1000) × Room buf.old at (decimal n) }
     ensures { Laid buf.old at (decimal n) buf.new result }
