@@ -2,10 +2,8 @@
 use mathlib.Core.Path.{◌≡◌, sym, ap, ap₂, ◌∙◌}
 use mathlib.Core.Bool.{Bool}
 use mathlib.Core.List.{List, ◌++◌}
-use Prim.Native.Nat.{ℕ, ◌-◌}
-use native.Mathlib.Omega.{arith}
-use lib.ListN.{length, take, drop, length-drop}
-use lib.Seq.{take_all, length-take-le}
+use Prim.Native.Nat.{ℕ}
+use lib.ListN.{take, drop}
 use Rattle.std.proofs.Math.Nat.{div-one}
 use Rattle.lists.specs.Arrays.{flag}
 use Rattle.plant.specs.declared.Plant.{Plant}
@@ -28,25 +26,18 @@ use Rattle.packet.specs.Asked.{out_and_back}
 use Rattle.packet.proofs.Hops.{on_two}
 use Rattle.packet.proofs.Rules.{on_all}
 
--- ---- the part of a trail from a place on
-
-pub rest-length : (w : List ℕ) (k : ℕ) → length (take (length w - k) (drop k w)) ≡ length w - k
-rest-length w k = length-take-le (length w - k) (drop k w) (omega (arith, length-drop k w))
-
 pub injected_hops : (i : End) (s : ℕ) → i ≡ injected_at s → i.hops ≡ 0
 injected_hops i s e = ap (λ (d : End). d.hops) e
 
 -- ---- the ring, by a state byte for each n labels
 
 module _ (n : ℕ) (p : Plant) (rules : List Bool) (states : List ℕ) where
-  -- the ring of s: the stretch from its place, then the front
-  pub ring-is : (w : List ℕ) (s k : ℕ) (i e r : End) → k ≡ place_of p w s → i ≡ injected_at s → e ≡ goes_by n p rules states i (take (length w - k) (drop k w))
-      → r ≡ goes_by n p rules states e (take k w) → r ≡ goes_by n p rules states (injected_at s) (ring_of p w s)
+  -- the ring of s: what is from its place on, then the front
+  pub ring-is : (w : List ℕ) (s k : ℕ) (i e r : End) → k ≡ place_of p w s → i ≡ injected_at s → e ≡ goes_by n p rules states i (drop k w) → r ≡ goes_by n p rules states e (take k w)
+      → r ≡ goes_by n p rules states (injected_at s) (ring_of p w s)
   unfolding ring_of ring read_from
   ring-is w s k i e r at new a b =
-      let whole : take (length w - k) (drop k w) ≡ drop k w = take_all (length w - k) (drop k w) (omega (arith, length-drop k w)) in
-      on_two n p rules states i e r (drop k w) (take k w) (a ∙ ap (goes_by n p rules states i) whole) b
-      ∙ ap₂ (λ (j : End) (i : ℕ). goes_by n p rules states j (drop i w ++ take i w)) new at
+      on_two n p rules states i e r (drop k w) (take k w) a b ∙ ap₂ (λ (j : End) (i : ℕ). goes_by n p rules states j (drop i w ++ take i w)) new at
 
   -- out over two stretches and back
   pub on_four : (s : ℕ) (i e f g r : End) (x y : List ℕ) → i ≡ injected_at s → e ≡ goes_by n p rules states i x → f ≡ goes_by n p rules states e y

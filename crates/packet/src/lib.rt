@@ -15,10 +15,10 @@ ghost use Rattle.rings.specs.Round.{round_run};
 ghost use Rattle.order.specs.Labels.{OverArcs};
 ghost use Rattle.packet.specs.Runs.{end_of, injected_at, after_label, goes_by, goes_on};
 ghost use Rattle.packet.specs.Outcome.{outcome_of};
-ghost use Rattle.packet.specs.Asked.{CanRunBy, CanRun, CanProbe, CanRound, out_and_back};
+ghost use Rattle.packet.specs.Asked.{CanRunBy, CanRun, out_and_back};
 
-use arcs::opposite;
-use order::{front, place_of, span_of, stretch};
+use arcs::{ArcEnds, opposite};
+use order::{Ring, front, place_of, span_of, stretch};
 use plant::{Link, Plant, head_of, tail_of};
 use search::Outcome;
 
@@ -57,14 +57,15 @@ const OF_LINK: usize = 2;
 
 const OF_LABEL: usize = 1;
 
-// What packets run under: a plant, rules as flags of its labels, and a state byte for each N labels. The rules are for arcs of the plant, and its labels have their bytes.
-#[derive(Clone, Copy, Debug)]
+// What packets run under: a plant with the ends of its arcs, rules as flags of its labels, and a state byte for each N labels. The rules are for arcs of the plant, and its labels have
+// their bytes. The functions below take a ring with rules and states, and no course beside it: each would have the ends of the arcs.
+#[derive(Clone, Copy)]
 struct Course<'a, const N: usize> {
-    plant: &'a Plant,
+    ends: &'a ArcEnds,
     rules: &'a [bool; Plant::LABELS],
     states: &'a [u8],
     ghost some: { 1 ≤ N },
-    ghost can_run: { CanRunBy N plant.now rules.now states.now },
+    ghost can_run: { CanRunBy N ends.now.plant rules.now states.now },
 }
 
 // Does a packet at switch s cross link l by label a? There is a rule for the label at the switch that its arc leaves, and the label is up.
@@ -96,13 +97,14 @@ impl<'a, const N: usize> Course<'a, N> {
     fn hop(&self, e: End, a: u16) -> End
         requires going { e.ended ≡ true }
         requires hops_bound { e.hops + 1 ≤ usize.MAX }
-        ensures { end_of result ≡ goes_by N self.now.plant.now self.now.rules.now self.now.states.now (end_of e) (a ∷ []) }
+        ensures { end_of result ≡ goes_by N self.now.ends.now.plant self.now.rules.now self.now.states.now (end_of e) (a ∷ []) }
     {
+        let p = &self.ends.plant;
         let a = usize::from(a);
-        if 2 * usize::from(self.plant.count) <= a {
+        if 2 * usize::from(p.count) <= a {
             return after_label(e, false, e.last);
         }
-        let l = self.plant.links[a / 2];
+        let l = p.links[a / 2];
         let c = crosses(self.rules[a], self.states[a / N], l, a, e.last);
         after_label(e, c, head_of(l, a))
     }
@@ -110,7 +112,7 @@ impl<'a, const N: usize> Course<'a, N> {
     // A packet that came so far goes on over these labels, unless it is lost.
     fn run_out(&self, e: End, labels: &[u16]) -> End
         requires { e.hops + length labels.now ≤ usize.MAX }
-        ensures { end_of result ≡ goes_by N self.now.plant.now self.now.rules.now self.now.states.now (end_of e) labels.now }
+        ensures { end_of result ≡ goes_by N self.now.ends.now.plant self.now.rules.now self.now.states.now (end_of e) labels.now }
     {
         let mut at = e;
         for a in labels {
@@ -125,7 +127,7 @@ impl<'a, const N: usize> Course<'a, N> {
     // A packet that came so far goes back over these labels, unless it is lost: over the opposite arcs, from the last.
     fn run_back(&self, e: End, labels: &[u16]) -> End
         requires { e.hops + length labels.now ≤ usize.MAX }
-        ensures { end_of result ≡ goes_by N self.now.plant.now self.now.rules.now self.now.states.now (end_of e) (back labels.now) }
+        ensures { end_of result ≡ goes_by N self.now.ends.now.plant self.now.rules.now self.now.states.now (end_of e) (back labels.now) }
     {
         let mut at = e;
         for a in labels.iter().rev() {
@@ -139,18 +141,23 @@ impl<'a, const N: usize> Course<'a, N> {
 
     // A packet runs over the ring of switch s, which is the trail from the place of s on and then its front.
     fn run_ring(&self, s: u8, trail: &[u16]) -> End
-        requires { OverArcs self.now.plant.now trail.now }
-        ensures { end_of result ≡ goes_by N self.now.plant.now self.now.rules.now self.now.states.now (injected_at s) (ring_of self.now.plant.now trail.now s) }
+        requires { OverArcs self.now.ends.now.plant trail.now }
+        ensures { end_of result ≡ goes_by N self.now.ends.now.plant self.now.rules.now self.now.states.now (injected_at s) (ring_of self.now.ends.now.plant trail.now s) }
     {
-        let k = place_of(*self.plant, s, trail);
-        let e = self.run_out(injected(s), &trail[k..]);
-        self.run_out(e, &trail[..k])
+        let k = place_of(&Ring {
+            ends: self.ends,
+            switch: s,
+            trail,
+        });
+        let (front, rest) = trail.split_at(k);
+        let e = self.run_out(injected(s), rest);
+        self.run_out(e, front)
     }
 
     // From switch s out over x and then y, and back over the opposite arcs.
     fn there_and_back(&self, s: u8, x: &[u16], y: &[u16]) -> End
         requires { 2 * (length x.now + length y.now) ≤ usize.MAX }
-        ensures { end_of result ≡ goes_by N self.now.plant.now self.now.rules.now self.now.states.now (injected_at s) (out_and_back x.now y.now) }
+        ensures { end_of result ≡ goes_by N self.now.ends.now.plant self.now.rules.now self.now.states.now (injected_at s) (out_and_back x.now y.now) }
     {
         let e = self.run_out(injected(s), x);
         let f = self.run_out(e, y);
@@ -160,77 +167,79 @@ impl<'a, const N: usize> Course<'a, N> {
 }
 
 // A packet that came so far goes on with these labels, unless it is lost.
-pub fn run_on(p: Plant, rules: [bool; Plant::LABELS], states: &[u8], e: End, labels: &[u16]) -> End
-    requires can_run { CanRun p rules states.now }
+pub fn run_on(
+    ends: &ArcEnds,
+    rules: &[bool; Plant::LABELS],
+    states: &[u8],
+    e: End,
+    labels: &[u16],
+) -> End
+    requires can_run { CanRun ends.now.plant rules.now states.now }
     requires labels_bound { e.hops + length labels.now ≤ usize.MAX }
-    ensures { end_of result ≡ goes_on p rules states.now (end_of e) labels.now }
+    ensures { end_of result ≡ goes_on ends.now.plant rules.now states.now (end_of e) labels.now }
 {
     let course = Course::<OF_LINK> {
-        plant: &p,
-        rules: &rules,
+        ends,
+        rules,
         states,
     };
     course.run_out(e, labels)
 }
 
-// The full check: the packet runs under the forwarding table over the ring of switch s, by a state byte for each link.
-pub fn full_check(
-    p: Plant,
-    table: [bool; Plant::LABELS],
-    states: &[u8],
-    s: u8,
-    trail: &[u16],
-) -> End
-    requires { CanProbe p table states.now trail.now }
-    ensures { end_of result ≡ run (rules_for (flag table) (tail p)) (up_by_link states.now) (head p) s 0 (ring_of p trail.now s) }
+// The full check: the packet runs under the forwarding table over the ring of the switch, by a state byte for each link.
+pub fn full_check(ring: &Ring, table: &[bool; Plant::LABELS], states: &[u8]) -> End
+    requires { CanRun ring.now.ends.now.plant table.now states.now }
+    ensures { end_of result ≡ run (rules_for (flag table.now) (tail ring.now.ends.now.plant)) (up_by_link states.now) (head ring.now.ends.now.plant) ring.now.switch 0 (ring_of ring.now.ends.now.plant ring.now.trail.now ring.now.switch) }
 {
     let course = Course::<OF_LINK> {
-        plant: &p,
-        rules: &table,
+        ends: ring.ends,
+        rules: table,
         states,
     };
-    course.run_ring(s, trail)
+    course.run_ring(ring.switch, ring.trail)
 }
 
-// The round run: the packet runs under all rules over the ring of switch s on the round trail, by a state byte for each label.
-pub fn round_run(p: Plant, states: &[u8], s: u8, round: &[u16]) -> End
-    requires { CanRound p states.now round.now }
-    ensures { end_of result ≡ round_run p round.now s states.now }
+// The round run: the packet runs under all rules over the ring of the switch on the round trail, by a state byte for each label.
+pub fn round_run(ring: &Ring, states: &[u8]) -> End
+    requires { 2 * ring.now.ends.now.plant.count ≤ length states.now }
+    ensures { end_of result ≡ round_run ring.now.ends.now.plant ring.now.trail.now ring.now.switch states.now }
 {
-    let all = arcs::all_arcs(p);
+    let all = arcs::all_arcs(ring.ends);
     let course = Course::<OF_LABEL> {
-        plant: &p,
+        ends: ring.ends,
         rules: &all,
         states,
     };
-    course.run_ring(s, round)
+    course.run_ring(ring.switch, ring.trail)
 }
 
-// The run of probe m of switch s over so many links: the full check if m is their number; else out up to the first crossing of the m-th link of the order, and back,
+// The run of probe m of the switch over so many links: the full check if m is their number; else out up to the first crossing of the m-th link of the order, and back,
 // under all rules, those of the forwarding table and those that opposite arcs have of their own.
 pub fn probe_run(
-    p: Plant,
-    table: [bool; Plant::LABELS],
+    ring: &Ring,
+    table: &[bool; Plant::LABELS],
     states: &[u8],
-    s: u8,
-    trail: &[u16],
     links: u16,
     m: u16,
 ) -> End
-    requires can_probe { CanProbe p table states.now trail.now }
+    requires can_run { CanRun ring.now.ends.now.plant table.now states.now }
     requires le_m { 1 ≤ m }
     requires m_le_max_links { m ≤ max_links }
-    ensures { end_of result ≡ probe_run p (flag table) trail.now s links (up_by_link states.now) m }
+    ensures { end_of result ≡ probe_run ring.now.ends.now.plant (flag table.now) ring.now.trail.now ring.now.switch links (up_by_link states.now) m }
 {
     if m == links {
-        return full_check(p, table, states, s, trail);
+        return full_check(ring, table, states);
     }
-    let span = span_of(p, s, trail, m);
-    let all_rules = arcs::all_arcs(p);
+    let span = span_of(ring, m);
+    let all_rules = arcs::all_arcs(ring.ends);
     let course = Course::<OF_LINK> {
-        plant: &p,
+        ends: ring.ends,
         rules: &all_rules,
         states,
     };
-    course.there_and_back(s, stretch(trail, span), front(trail, span))
+    course.there_and_back(
+        ring.switch,
+        stretch(ring.trail, span),
+        front(ring.trail, span),
+    )
 }

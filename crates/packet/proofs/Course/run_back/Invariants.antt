@@ -5,4 +5,4 @@ use Rattle.packet.specs.Runs.{end_of, goes_by}
 use Rattle.packet.proofs.Course.run_back.Given as goal
 
 abbrev pub invariant-loop-a : goal.invariant-loop-a
-invariant-loop-a g l = (passed : List ℕ) × (l.a-iterator.iter.rest.now ++ passed ≡ l.labels) × (end_of l.at ≡ goes_by g.row.N l.self.plant.now l.self.rules.now l.self.states.now (end_of l.initial.at) (back passed))
+invariant-loop-a g l = (passed : List ℕ) × (l.a-iterator.iter.rest.now ++ passed ≡ l.labels) × (end_of l.at ≡ goes_by g.row.N l.self.ends.now.plant l.self.rules.now l.self.states.now (end_of l.initial.at) (back passed))

@@ -26,5 +26,5 @@ run_back-requires g c =
 
 pub returns : goal.returns
 returns g c =
-    on_four g.row.N c.args.self.now.plant.now c.args.self.now.rules.now c.args.self.now.states.now c.args.s (end_of c.injected.result) (end_of c.run_out-e.result) (end_of c.run_out-f.result) (end_of c.run_back-g.result) _
+    on_four g.row.N c.args.self.now.ends.now.plant c.args.self.now.rules.now c.args.self.now.states.now c.args.s (end_of c.injected.result) (end_of c.run_out-e.result) (end_of c.run_out-f.result) (end_of c.run_back-g.result) _
     c.args.x.now c.args.y.now c.injected.ensures c.run_out-e.ensures c.run_out-f.ensures c.run_back-g.ensures c.run_back.ensures
