@@ -1,4 +1,3 @@
-pub mod Chained
 pub mod Rings
 pub mod Gathering
 pub mod Spans

@@ -1,7 +1,7 @@
 // The ring of an injection switch in a lent trail: its place, the order of links by first crossing, and the outward labels of a probe as parts of the trail. Inner: the calls are those of docs/CALLS.md.
 #![tactic(auto)]
 
-ghost use Rattle.std.specs.Prelude.{◌≡◌, ◌==◌, ℕ, ◌+◌, ◌/◌, ◌≤◌, ◌<◌, ◌++◌, length, take, drop, position};
+ghost use Rattle.std.specs.Prelude.{◌≡◌, ℕ, ◌+◌, ◌/◌, ◌≤◌, ◌<◌, length, get_or, take, drop};
 ghost use Rattle.lists.specs.Members.{In};
 ghost use Rattle.limits.specs.Limits.{max_links};
 ghost use Rattle.limits.specs.Sound.{Sound};
@@ -47,6 +47,20 @@ pub fn place_of(p: Plant, s: u8, trail: &[u16]) -> usize
     trail.len()
 }
 
+// Label i of the trail read from place k to its end, then from its front. An iterator over the two parts takes more steps for each label.
+fn ring_label(trail: &[u16], k: usize, i: usize) -> u16
+    requires k_in_bounds { k ≤ length trail.now }
+    requires i_in_bounds { i < length trail.now }
+    ensures { result ≡ get_or (read_from k trail.now) i 0 }
+{
+    let rest = trail.len() - k;
+    if i < rest {
+        trail[k + i]
+    } else {
+        trail[i - rest]
+    }
+}
+
 // The links of the trail read from place k, each at its first crossing.
 fn order_from(trail: &[u16], k: usize) -> Order
     requires k_in_bounds { k ≤ length trail.now }
@@ -56,9 +70,8 @@ fn order_from(trail: &[u16], k: usize) -> Order
     let mut links = [0; Plant::MAX_LINKS];
     let mut seen = [false; Plant::MAX_LINKS];
     let mut count: u16 = 0;
-    let (front, rest) = trail.split_at(k);
-    for a in rest.iter().chain(front.iter()) {
-        let l = *a / 2;
+    for i in 0..trail.len() {
+        let l = ring_label(trail, k, i) / 2;
         if !seen[usize::from(l)] {
             seen[usize::from(l)] = true;
             links[usize::from(count)] = l;
@@ -78,23 +91,17 @@ pub fn order_of(p: Plant, s: u8, trail: &[u16]) -> Order
     order_from(trail, k)
 }
 
-// The number of the first label that crosses link l, of the labels v and then w.
-fn crossing(v: &[u16], w: &[u16], l: u16) -> Option<usize>
-    ensures { result ≡ position (λ a. a / 2 == l) (v.now ++ w.now) }
-{
-    v.iter().chain(w.iter()).position(|a| *a / 2 == l)
-}
-
 // How many labels of the trail read from place k there are up to the first crossing of link l, with it; all if it is not crossed.
 fn out_to(trail: &[u16], k: usize, l: u16) -> usize
     requires { k ≤ length trail.now }
     ensures { result ≡ length (up_to l (read_from k trail.now)) }
 {
-    let (front, rest) = trail.split_at(k);
-    match crossing(rest, front, l) {
-        Some(i) => i + 1,
-        None => trail.len(),
+    for i in 0..trail.len() {
+        if ring_label(trail, k, i) / 2 == l {
+            return i + 1;
+        }
     }
+    trail.len()
 }
 
 // Where the labels of the full check stand: the whole ring of switch s.
