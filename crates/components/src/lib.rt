@@ -8,13 +8,13 @@ ghost use Rattle.lists.specs.Tests.{choose};
 ghost use Rattle.limits.specs.Limits.{max_switches, max_links};
 ghost use Rattle.walks.specs.Components.{roots};
 ghost use Rattle.arcs.specs.Flags.{Flags};
-ghost use Rattle.visit.specs.Inner.{AllChained};
 ghost use Rattle.components.specs.Found.{Finds};
 ghost use Rattle.components.specs.Inner.{Apart, Covers};
 
-use arcs::{AllVisited, ArcEnds, Chains, Visited};
+use arcs::{AllVisited, ArcEnds, Visited};
 use plant::Plant;
 use std::array;
+use visit::AllChains;
 
 // The components: `count` of them with their roots, for each switch the number of its component, the bridges and the arcs in use. A place of no switch has 0.
 #[derive(Clone, Copy)]
@@ -58,13 +58,12 @@ fn pick<T: Copy>(seen: bool, new: T, old: T) -> T
 }
 
 // With the component of one root more, which none of those found before reaches.
-fn with_component(ends: &ArcEnds, chains: &Chains, f: Forest, root: u8) -> Forest
-    requires all_chained { AllChained ends.now.plant chains.now.first chains.now.after }
-    requires root_lt_switches { root < ends.now.plant.switches }
+fn with_component(all: &AllChains, f: Forest, root: u8) -> Forest
+    requires root_lt_switches { root < all.now.ends.now.plant.switches }
     requires count_lt_max_switches { f.count < max_switches }
-    ensures { (rs : List ℕ) → Covers ends.now.plant rs f → Apart ends.now.plant rs root → Covers ends.now.plant (rs ++ (root ∷ [])) result }
+    ensures { (rs : List ℕ) → Covers all.now.ends.now.plant rs f → Apart all.now.ends.now.plant rs root → Covers all.now.ends.now.plant (rs ++ (root ∷ [])) result }
 {
-    let v = visit::visit_by(ends, chains, root);
+    let v = visit::visit_by(all, root);
     let mut roots = f.roots;
     roots[f.count as usize] = root;
     let home = array::from_fn(|x| pick(v.seen[x], Some(f.count), f.home[x]));
@@ -80,14 +79,13 @@ fn with_component(ends: &ArcEnds, chains: &Chains, f: Forest, root: u8) -> Fores
 }
 
 // The visits of all components: of the start's, and then of that of each switch which is in none before it.
-fn visit_all(ends: &ArcEnds, chains: &Chains) -> Forest
-    requires all_chained { AllChained ends.now.plant chains.now.first chains.now.after }
-    ensures { Covers ends.now.plant (roots ends.now.plant) result }
+fn visit_all(all: &AllChains) -> Forest
+    ensures { Covers all.now.ends.now.plant (roots all.now.ends.now.plant) result }
 {
-    let mut f = with_component(ends, chains, nothing(), ends.plant.start);
-    for x in 0..ends.plant.switches {
+    let mut f = with_component(all, nothing(), all.ends.plant.start);
+    for x in 0..all.ends.plant.switches {
         if f.home[x as usize].is_none() {
-            f = with_component(ends, chains, f, x);
+            f = with_component(all, f, x);
         }
     }
     f
@@ -98,7 +96,7 @@ pub fn find(ends: &ArcEnds) -> Found
     ensures { Finds ends.now.plant result }
 {
     let chains = visit::all_chains(ends);
-    let f = visit_all(ends, &chains);
+    let f = visit_all(&chains);
     let rank = f.rank;
     let entered = f.entered;
     let visited = Visited {

@@ -10,6 +10,14 @@ ghost use Rattle.visit.specs.Inner.{SomeArcs, AllChained, enter_of, begin_of, At
 use arcs::{ArcEnds, Chains, Visited};
 use plant::Plant;
 
+// The chains of all arcs of a plant, which each visit of it goes by, beside the ends of the arcs.
+#[derive(Clone, Copy)]
+pub struct AllChains<'a> {
+    pub ends: &'a ArcEnds,
+    pub chains: Chains,
+    pub ghost all_chained: { AllChained ends.now.plant chains.first chains.after },
+}
+
 // Link l is entered, and the switch `to` is visited.
 fn enter(v: Visited, to: u8, l: usize) -> Visited
     requires to_lt_max_switches { to < max_switches }
@@ -64,27 +72,28 @@ fn begin(root: u8) -> Visited
     v
 }
 
-// The chains of all arcs of a plant, which each visit of it goes by.
-pub fn all_chains(ends: &ArcEnds) -> Chains
-    ensures { AllChained ends.now.plant result.first result.after }
+// The chains of all arcs of a plant.
+pub fn all_chains(ends: &ArcEnds) -> AllChains<'_>
+    ensures { result.ends.now ≡ ends.now }
 {
-    arcs::chains_of(&ends.tails, &arcs::all_arcs(ends), 2 * ends.plant.count)
+    let chains = arcs::chains_of(&ends.tails, &arcs::all_arcs(ends), 2 * ends.plant.count);
+    AllChains { ends, chains }
 }
 
 // The depth-first visit from a root by the chains of all arcs.
-pub fn visit_by(ends: &ArcEnds, chains: &Chains, root: u8) -> Visited
-    requires all_chained { AllChained ends.now.plant chains.now.first chains.now.after }
-    requires root_lt_switches { root < ends.now.plant.switches }
-    ensures { Visits ends.now.plant root result }
+pub fn visit_by(all: &AllChains, root: u8) -> Visited
+    requires { root < all.now.ends.now.plant.switches }
+    ensures { Visits all.now.ends.now.plant root result }
 {
-    visit_from(ends, chains, 2 * ends.plant.count, begin(root), root)
+    let n = 2 * all.ends.plant.count;
+    visit_from(all.ends, &all.chains, n, begin(root), root)
 }
 
 // The depth-first visit from a root.
 pub fn visit(ends: &ArcEnds, root: u8) -> Visited
-    requires root_lt_switches { root < ends.now.plant.switches }
+    requires { root < ends.now.plant.switches }
     ensures { Visits ends.now.plant root result }
 {
-    let chains = all_chains(ends);
-    visit_by(ends, &chains, root)
+    let all = all_chains(ends);
+    visit_by(&all, root)
 }
