@@ -25,8 +25,7 @@ hop-at-requires g c =
     let k = c.loop-a in
     let made = after-hops g.row.N c.args.self.now.plant.now c.args.self.now.rules.now c.args.self.now.states.now (end_of c.args.e) (end_of k.at) (back k.invariant.passed) k.invariant.came in
     let left = length-append c.next.new.self.iter.rest.now (c.in-Some.a.now ∷ []) in
-    let parts = length-append k.a-iterator.iter.rest.now k.invariant.passed in
-    (
+    let parts = length-append k.a-iterator.iter.rest.now k.invariant.passed in (
       omega arith,
       (k.invariant.going, omega (arith, made, back-length k.invariant.passed, ap length k.invariant.parts, parts, ap length c.in-Some.ensures.steps, left, c.requires)),
     )
