@@ -114,12 +114,15 @@ impl<'a, const N: usize> Course<'a, N> {
         requires { e.hops + length labels.now ≤ usize.MAX }
         ensures { end_of result ≡ goes_by N self.now.ends.now.plant self.now.rules.now self.now.states.now (end_of e) labels.now }
     {
+        if !e.ended {
+            return e;
+        }
         let mut at = e;
         for a in labels {
+            at = self.hop(at, *a);
             if !at.ended {
                 return at;
             }
-            at = self.hop(at, *a);
         }
         at
     }
@@ -129,12 +132,15 @@ impl<'a, const N: usize> Course<'a, N> {
         requires { e.hops + length labels.now ≤ usize.MAX }
         ensures { end_of result ≡ goes_by N self.now.ends.now.plant self.now.rules.now self.now.states.now (end_of e) (back labels.now) }
     {
+        if !e.ended {
+            return e;
+        }
         let mut at = e;
         for a in labels.iter().rev() {
+            at = self.hop(at, opposite(*a));
             if !at.ended {
                 return at;
             }
-            at = self.hop(at, opposite(*a));
         }
         at
     }
