@@ -1,16 +1,12 @@
 -- Refusals 14 and 15 as facts: what a sound state is, for itself and in a call with a listing of e links, and what a call answers by it. Assumes nothing.
-use mathlib.Core.Path.{◌≡◌, refl, sym, ◌∙◌}
+use mathlib.Core.Path.{◌≡◌, refl}
 use mathlib.Core.Bool.{true, false, ◌&&◌}
 use Prim.Native.Nat.{ℕ, ◌≤◌, ◌<◌}
 use native.Mathlib.Omega.{arith}
 use lib.Dec.{leb, ltb}
 use borrow.Author.Tests.{eqb-true, leb-true, ltb-true, eq-eqb, le-leb, lt-ltb}
 use Rattle.lists.proofs.Tests.{and_true, not_both}
-use Rattle.std.specs.Prelude.{Result, Err, IsErrAnd}
 use Rattle.answers.specs.Answers.{given, refused}
-use Rattle.answers.specs.Results.{answer_of, Judges}
-use Rattle.answers.specs.declared.Refusal.{Refusal}
-use Rattle.answers.proofs.Results.{exit, turned_down}
 use Rattle.answers.specs.Checks.{check, answer}
 use Rattle.limits.specs.Limits.{max_links}
 use Rattle.search.specs.declared.Search.{Search}
@@ -27,11 +23,6 @@ module _ {A : Type 0} (s : Search) (a : A) where
 
   pub answers-given : sound s ≡ true → ended s ≡ false → answer (check (call_checks s) a) ≡ given a
   answers-given e q = rw (e, q)
-
-  -- where it is refused, with the refusal of its conditions
-  pub answers-refused : (v : Result Unit Refusal) → Judges (call_checks s) v → (k : Refusal) → v ≡ Err k → (r : Result A Refusal) → IsErrAnd r (λ e. e ≡ k)
-      → answer_of r ≡ answer (check (call_checks s) a)
-  answers-refused v j k e r h = exit (λ x. x) r k h ∙ sym (turned_down (call_checks s) v j (given a) k e)
 
 -- ---- a sound state
 

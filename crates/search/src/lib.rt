@@ -2,8 +2,8 @@
 #![tactic(auto)]
 
 ghost use Rattle.std.specs.Prelude.{◌≡◌, true};
-ghost use Rattle.answers.specs.Checks.{answer};
-ghost use Rattle.answers.specs.Results.{answer_of, Judges};
+ghost use Rattle.answers.specs.Checks.{check, answer};
+ghost use Rattle.answers.specs.Results.{answer_of, answer_as};
 ghost use Rattle.search.specs.Search.{new_search, counts, halves, short, sound, sound_for, says, ended, wanted, lost_so_far, settles, narrowed, settled, once_more, next, call_checks, ask, give};
 
 use answers::Refusal;
@@ -44,6 +44,13 @@ pub struct Progress {
     pub state: Search,
     pub probes: usize,
     pub packets: usize,
+}
+
+// A search that was judged: refusal 14 does not meet it.
+#[derive(Clone, Copy)]
+struct Judged {
+    search: Search,
+    ghost is_sound: { sound search ≡ true },
 }
 
 impl Search {
@@ -101,18 +108,6 @@ impl Search {
         self.says() != Said::Open
     }
 
-    // The probe to send. A search that has ended wants none, and 0 stands for that, as in the definition `wanted`, which promises cite.
-    fn wanted(self) -> u16
-        requires { sound self ≡ true }
-        ensures { result ≡ wanted self }
-    {
-        match self {
-            Search::Checking(count, _) => count,
-            Search::Halving(low, high, _) => (low + high) / 2,
-            Search::AllUp | Search::Down(_) => 0,
-        }
-    }
-
     // The sendings lost so far of the probe that is wanted.
     fn lost_so_far(self) -> u8
         ensures { result ≡ lost_so_far self }
@@ -133,13 +128,52 @@ impl Search {
         }
     }
 
+    // Refusals 14 and 15 of a call to a search.
+    fn judge(self) -> Result<Judged, Refusal>
+        ensures { answer_as (λ j. j.search) result ≡ answer (check (call_checks self) self) }
+    {
+        if !self.sound() {
+            return Err(Refusal::SearchUnsound);
+        }
+        if self.ended() {
+            return Err(Refusal::SearchEnded);
+        }
+        Ok(Judged { search: self })
+    }
+
+    // The call for a probe.
+    pub fn ask(self) -> Result<u16, Refusal>
+        ensures { answer_of result ≡ answer (ask self) }
+    {
+        Ok(self.judge()?.wanted())
+    }
+
+    // The call that gives an outcome.
+    pub fn give(self, o: Outcome) -> Result<Search, Refusal>
+        ensures { answer_of result ≡ answer (give self o) }
+    {
+        Ok(self.judge()?.next(o))
+    }
+}
+
+impl Judged {
+    // The probe to send. A search that has ended wants none, and 0 stands for that, as in the definition `wanted`, which promises cite.
+    fn wanted(self) -> u16
+        ensures { result ≡ wanted self.search }
+    {
+        match self.search {
+            Search::Checking(count, _) => count,
+            Search::Halving(low, high, _) => (low + high) / 2,
+            Search::AllUp | Search::Down(_) => 0,
+        }
+    }
+
     // The state after the probe that is wanted counts as returned or lost; no sending of the next one is lost.
     fn settled(self, o: Outcome) -> Search
-        requires { sound self ≡ true }
-        ensures { result ≡ settled self o }
+        ensures { result ≡ settled self.search o }
     {
         let m = self.wanted();
-        match self {
+        match self.search {
             Search::Checking(count, _) => match o {
                 Outcome::Returned => Search::AllUp,
                 Outcome::Lost => narrowed(1, count, 0),
@@ -148,63 +182,30 @@ impl Search {
                 Outcome::Returned => narrowed(m + 1, high, 0),
                 Outcome::Lost => narrowed(low, m, 0),
             },
-            Search::AllUp | Search::Down(_) => self,
+            Search::AllUp | Search::Down(_) => self.search,
         }
     }
 
     // The state after one more of its sendings was lost, and the probe does not count yet.
     fn once_more(self) -> Search
-        requires { sound self ≡ true }
-        ensures { result ≡ once_more self }
+        ensures { result ≡ once_more self.search }
     {
-        match self {
+        match self.search {
             Search::Checking(count, lost) => Search::Checking(count, lost + 1),
             Search::Halving(low, high, lost) => Search::Halving(low, high, lost + 1),
-            Search::AllUp | Search::Down(_) => self,
+            Search::AllUp | Search::Down(_) => self.search,
         }
     }
 
     // The state after a sending of the probe that is wanted had an outcome.
     fn next(self, o: Outcome) -> Search
-        requires { sound self ≡ true }
-        ensures { result ≡ next self o }
+        ensures { result ≡ next self.search o }
     {
-        if self.settles(o) {
+        if self.search.settles(o) {
             self.settled(o)
         } else {
             self.once_more()
         }
-    }
-
-    // Refusals 14 and 15 of a call to a search.
-    fn judge(self) -> Result<(), Refusal>
-        ensures { Judges (call_checks self) result }
-    {
-        if !self.sound() {
-            return Err(Refusal::SearchUnsound);
-        }
-        if self.ended() {
-            return Err(Refusal::SearchEnded);
-        }
-        Ok(())
-    }
-
-    // The call for a probe.
-    #[tactic(auto, unfolding(crate::specs::Search::ask))]
-    pub fn ask(self) -> Result<u16, Refusal>
-        ensures { answer_of result ≡ answer (ask self) }
-    {
-        self.judge()?;
-        Ok(self.wanted())
-    }
-
-    // The call that gives an outcome.
-    #[tactic(auto, unfolding(crate::specs::Search::give))]
-    pub fn give(self, o: Outcome) -> Result<Search, Refusal>
-        ensures { answer_of result ≡ answer (give self o) }
-    {
-        self.judge()?;
-        Ok(self.next(o))
     }
 }
 
