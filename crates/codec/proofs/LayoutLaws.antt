@@ -1,15 +1,18 @@
 -- The fields of a part from field i on, and the loops that only measure: what is left gives what the whole gives. Assumes nothing.
 use mathlib.Core.Path.{◌≡◌, refl}
-use mathlib.Core.List.{List}
-use Prim.Native.Nat.{ℕ, ◌+◌, ◌-◌, ◌*◌, ◌/◌, ◌%◌, ◌^◌, ◌≤◌, ◌<◌}
+use mathlib.Core.List.{List, [], ◌∷◌}
+use Prim.Native.Nat.{ℕ, zero, suc, ◌+◌, ◌-◌, ◌*◌, ◌/◌, ◌%◌, ◌^◌, ◌≤◌, ◌<◌}
 use native.Mathlib.Nat.{pow-le-pow_right}
 use native.Mathlib.Omega.{arith}
+use borrow.Author.Tests.{leb-true}
+use lib.Dec.{leb}
 use lib.ListN.{length, get_or, drop, length-drop, drop_of_length-le}
 use Rattle.std.proofs.lemmas.List.{drop_more, at_drop_more}
-use Rattle.lists.proofs.Members.{each_at}
+use Rattle.lists.proofs.Tests.{and_true}
+use Rattle.lists.specs.Members.{all}
 use Rattle.codec.specs.declared.Field.{Field}
 use Rattle.codec.specs.Part.{taken, size, is_given, map_of}
-use Rattle.codec.specs.Layout.{Proper}
+use Rattle.codec.specs.Layout.{Narrow}
 use Rattle.codec.proofs.PartRoundTrip.{map_below}
 
 abbrev pub no_field : Field
@@ -19,8 +22,10 @@ no_field = record { width = 0; absent = 0 }
 abbrev pub field_at : List Field → ℕ → Field
 field_at fs i = get_or fs i no_field
 
-pub narrow_at : {fs : List Field} → Proper fs → (i : ℕ) → i < length fs → (field_at fs i).width ≤ 4
-narrow_at {fs} q i h = each_at (λ f. f.width ≤ 4) fs no_field q.narrow i h
+pub narrow_at : (fs : List Field) → Narrow fs → (i : ℕ) → i < length fs → (field_at fs i).width ≤ 4
+narrow_at [] q i h = absurd (omega arith)
+narrow_at (f ∷ fs) q zero h = leb-true f.width 4 (and_true (leb f.width 4) (all (λ f. leb f.width 4) fs) q).0
+narrow_at (f ∷ fs) q (suc i) h = narrow_at fs (and_true (leb f.width 4) (all (λ f. leb f.width 4) fs) q).1 i (omega arith)
 
 module _ (fs : List Field) (i m : ℕ) (h : i < length fs) where
   -- the bytes that the fields take

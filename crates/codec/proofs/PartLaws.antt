@@ -15,7 +15,7 @@ use Rattle.answers.specs.Answers.{Answer, given}
 use Rattle.answers.specs.Checks.{trying, answer}
 use Rattle.codec.specs.declared.Field.{Field}
 use Rattle.codec.specs.Part.{taken, value_of, size, rest, redundant, values, some_redundant, map_byte, map_missing, map_undefined, field_missing, field_redundant, field_values, after_part, part}
-use Rattle.codec.specs.Layout.{Proper}
+use Rattle.codec.specs.Layout.{Narrow}
 use Rattle.codec.proofs.LayoutLaws.{no_field, field_at, narrow_at, size-next}
 use Rattle.codec.proofs.PartRoundTrip.{taken-length}
 
@@ -36,13 +36,13 @@ module _ (fs : List Field) (s : List ℕ) (at map : ℕ) where
   module _ {vs : List ℕ} {next : ℕ} {b : Bool} {m i : ℕ} (r : Read fs s at map vs next b m i) where
     -- field i, of k bytes
     module _ (h : i < length fs) (k : ℕ) (size_is : k ≡ taken (field_at fs i) (m % 2)) where
-      pub read-near : Proper fs → next + k ≤ at + 1 + 4 * (i + 1)
-      read-near q = omega (arith, r.near, taken-length (field_at fs i) (m % 2), narrow_at q i h)
+      pub read-near : Narrow fs → next + k ≤ at + 1 + 4 * (i + 1)
+      read-near q = omega (arith, r.near, taken-length (field_at fs i) (m % 2), narrow_at fs q i h)
 
       there : drop (taken (field_at fs i) (m % 2)) (drop next s) ≡ drop (next + k) s
       there = drop-drop (taken (field_at fs i) (m % 2)) next s ∙ ap (λ (n : ℕ). drop (next + n) s) (sym size_is)
 
-      pub read_next : Proper fs → (v : ℕ) → v ≡ value_of (field_at fs i) (m % 2) (drop next s)
+      pub read_next : Narrow fs → (v : ℕ) → v ≡ value_of (field_at fs i) (m % 2) (drop next s)
           → (t : Bool) → t ≡ b || redundant (field_at fs i) (m % 2) (drop next s) → Read fs s at map (set vs i v) (next + k) t (m / 2) (i + 1)
       read_next q v value_is t e = record {
         long = length-set vs i v ∙ r.long;

@@ -6,7 +6,7 @@ ghost use Rattle.answers.specs.Checks.{answer};
 ghost use Rattle.answers.specs.Results.{answer_as};
 ghost use Rattle.codec.specs.Field.{number};
 ghost use Rattle.codec.specs.Part.{taken, value_of, redundant, size, rest, values, some_redundant, part};
-ghost use Rattle.codec.specs.Layout.{Proper, part_of};
+ghost use Rattle.codec.specs.Layout.{Narrow, part_of};
 
 use answers::{Refusal, judge};
 
@@ -15,6 +15,14 @@ use answers::{Refusal, judge};
 pub struct Field {
     pub width: usize,
     pub absent: u32,
+}
+
+// The fields of a part, by rising bit. A map byte has a bit for each, and a number of 32 bits has room for its bytes.
+#[derive(Clone, Copy, Debug, PartialEq, Eq)]
+pub struct Fields<const N: usize> {
+    pub list: [Field; N],
+    pub ghost few: { N ≤ 8 },
+    pub ghost narrow: { Narrow list },
 }
 
 // The values of a part with so many fields, by rising bit, and the place after it.
@@ -91,13 +99,12 @@ fn taken_by(f: Field, bit: usize) -> usize
 }
 
 // What this map tells of these fields.
-pub fn measure(fields: &[Field], map: usize) -> Extent
-    requires { Proper fields.now }
-    ensures { (result.size ≡ size map fields.now) × (result.rest ≡ rest map fields.now) × (result.size ≤ 4 * length fields.now) }
+pub fn measure<const N: usize>(fields: &Fields<N>, map: usize) -> Extent
+    ensures { (result.size ≡ size map fields.now.list) × (result.rest ≡ rest map fields.now.list) × (result.size ≤ 4 * N) }
 {
     let mut rest = map;
     let mut size = 0;
-    for f in fields {
+    for f in &fields.list {
         size += taken_by(*f, rest % 2);
         rest /= 2;
     }
@@ -109,18 +116,18 @@ fn read_fields<const N: usize>(
     s: &[u8],
     at: usize,
     map: usize,
-    fields: &[Field; N],
+    fields: &Fields<N>,
 ) -> (Part<N>, bool)
-    requires { Proper fields.now × (at < length s.now) }
-    ensures values_are { result.0.values ≡ values map fields.now (drop (at + 1) s.now) }
-    ensures next_is { result.0.next ≡ at + 1 + size map fields.now }
-    ensures redundant_is { result.1 ≡ some_redundant map fields.now (drop (at + 1) s.now) }
+    requires { at < length s.now }
+    ensures values_are { result.0.values ≡ values map fields.now.list (drop (at + 1) s.now) }
+    ensures next_is { result.0.next ≡ at + 1 + size map fields.now.list }
+    ensures redundant_is { result.1 ≡ some_redundant map fields.now.list (drop (at + 1) s.now) }
 {
     let mut values = [0; N];
     let mut next = at + 1;
     let mut redundant = false;
     let mut rest = map;
-    for (i, f) in fields.iter().enumerate() {
+    for (i, f) in fields.list.iter().enumerate() {
         let found = read_field(s, next, rest % 2, *f);
         values[i] = found.value;
         next += found.size;
@@ -134,10 +141,9 @@ fn read_fields<const N: usize>(
 pub fn read_part<const N: usize>(
     s: &[u8],
     at: usize,
-    fields: &[Field; N],
+    fields: &Fields<N>,
 ) -> Result<Part<N>, Refusal>
-    requires { Proper fields.now }
-    ensures { answer_as (part_of s.now) result ≡ answer (part fields.now (drop at s.now)) }
+    ensures { answer_as (part_of s.now) result ≡ answer (part fields.now.list (drop at s.now)) }
 {
     judge(s.len() <= at, Refusal::MapMissing)?;
     let map = usize::from(s[at]);

@@ -5,9 +5,8 @@ ghost use Rattle.std.specs.Prelude.{◌≡◌, ◌+◌, ◌*◌, ◌≤◌, leng
 ghost use Rattle.std.proofs.lemmas.List.Edits.{sets};
 ghost use Rattle.codec.specs.Field.{bytes_of};
 ghost use Rattle.codec.specs.Part.{is_given, field_bytes, map_of, body_of, part_bytes};
-ghost use Rattle.codec.specs.Layout.{Proper};
 
-use codec::{Field, measure};
+use codec::{Field, Fields, measure};
 
 // The bit of a field with this value.
 fn field_bit(f: Field, value: u32) -> u8
@@ -18,7 +17,7 @@ fn field_bit(f: Field, value: u32) -> u8
 
 // The map of a part with these values.
 fn part_map<const N: usize>(fields: &[Field; N], values: &[u32; N]) -> u8
-    requires { Proper fields.now }
+    requires { N ≤ 8 }
     ensures { result ≡ map_of fields.now values.now }
 {
     let mut m: u8 = 0;
@@ -30,11 +29,10 @@ fn part_map<const N: usize>(fields: &[Field; N], values: &[u32; N]) -> u8
 }
 
 // The bytes of a part with these values.
-pub fn part_size<const N: usize>(fields: &[Field; N], values: &[u32; N]) -> usize
-    requires { Proper fields.now }
-    ensures { (result ≡ length (part_bytes fields.now values.now)) × (result ≤ 4 * N + 1) }
+pub fn part_size<const N: usize>(fields: &Fields<N>, values: &[u32; N]) -> usize
+    ensures { (result ≡ length (part_bytes fields.now.list values.now)) × (result ≤ 4 * N + 1) }
 {
-    let extent = measure(fields, usize::from(part_map(fields, values)));
+    let extent = measure(fields, usize::from(part_map(&fields.list, values)));
     extent.size + 1
 }
 
@@ -85,13 +83,13 @@ fn put_fields<const N: usize>(
 pub fn put_part<const N: usize>(
     buf: &mut [u8],
     at: usize,
-    fields: &[Field; N],
+    fields: &Fields<N>,
     values: &[u32; N],
 ) -> usize
-    requires { Proper fields.now × (at + length (part_bytes fields.now values.now) ≤ length buf.old) }
-    ensures value { result ≡ at + length (part_bytes fields.now values.now) }
-    ensures buf_after { buf.new ≡ sets buf.old at (part_bytes fields.now values.now) }
+    requires { at + length (part_bytes fields.now.list values.now) ≤ length buf.old }
+    ensures value { result ≡ at + length (part_bytes fields.now.list values.now) }
+    ensures buf_after { buf.new ≡ sets buf.old at (part_bytes fields.now.list values.now) }
 {
-    buf[at] = part_map(fields, values);
-    put_fields(buf, at + 1, fields, values)
+    buf[at] = part_map(&fields.list, values);
+    put_fields(buf, at + 1, &fields.list, values)
 }

@@ -22,19 +22,11 @@ use Rattle.answers.proofs.Checks.{none-append, goes_on, stops, left-kept}
 use Rattle.answers.proofs.Results.{none_judged, passed, turned_down, and_judges}
 use Rattle.codec.specs.declared.Field.{Field}
 use Rattle.codec.specs.Part.{part_bytes}
-use Rattle.codec.specs.Layout.{Proper}
 use Rattle.listing.specs.Listing.{header_fields, link_fields, sound_link, links_of, header_bytes, link_values, link_bytes, links_bytes, encode}
 use Rattle.listing.specs.Writing.{plant_out_of_range, sound_links, sound_plant, buffer_short, writing, buffer_after}
 
--- ---- what the writer's parts ask of their fields
+-- ---- the bytes of a header and of a link, by their fields and values
 
-pub header-proper : Proper header_fields
-header-proper = record { few = omega arith; narrow = (omega arith, (omega arith, (omega arith, tt))) }
-
-pub link-proper : (before : Link) → Proper (link_fields before)
-link-proper before = record { few = omega arith; narrow = (omega arith, (omega arith, (omega arith, (omega arith, tt)))) }
-
--- the bytes of a header and of a link, by their fields and values
 module _ {fs : List Field} {vs : List ℕ} where
   pub header_by : (p : Plant) → fs ≡ header_fields → vs ≡ p.switches ∷ p.count ∷ p.start ∷ [] → part_bytes fs vs ≡ header_bytes p
   unfolding header_bytes

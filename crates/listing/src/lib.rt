@@ -10,7 +10,7 @@ ghost use Rattle.listing.specs.Steps.{plant_of, header_of, link_after, linked_of
 mod header;
 
 use answers::{Refusal, judge};
-use codec::{Field, read_part};
+use codec::{Field, Fields, read_part};
 pub use header::Header;
 use plant::{Link, Plant};
 
@@ -29,22 +29,26 @@ fn field(width: usize, absent: u32) -> Field
 }
 
 // The fields of a header: switch count, link count, start.
-pub fn header_fields() -> [Field; 3]
-    ensures { result ≡ header_fields }
+pub fn header_fields() -> Fields<3>
+    ensures { result.list ≡ header_fields }
 {
-    [field(1, 1), field(2, 0), field(1, 0)]
+    Fields {
+        list: [field(1, 1), field(2, 0), field(1, 0)],
+    }
 }
 
 // The fields of a link after the record `before`: first end, second end, tag, and of no bytes whether it is in service.
-pub fn link_fields(before: Link) -> [Field; 4]
-    ensures { result ≡ link_fields before }
+pub fn link_fields(before: Link) -> Fields<4>
+    ensures { result.list ≡ link_fields before }
 {
-    [
-        field(1, u32::from(before.first)),
-        field(1, u32::from(before.second)),
-        field(2, 0),
-        field(0, 1),
-    ]
+    Fields {
+        list: [
+            field(1, u32::from(before.first)),
+            field(1, u32::from(before.second)),
+            field(2, 0),
+            field(0, 1),
+        ],
+    }
 }
 
 // Refusal 5's condition on the values of a header.

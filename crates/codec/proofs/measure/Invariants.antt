@@ -4,8 +4,8 @@ use Rattle.codec.specs.Part.{size, rest}
 use Rattle.codec.proofs.measure.Given as goal
 
 abbrev pub invariant-loop-f : goal.invariant-loop-f
-invariant-loop-f l = record {
+invariant-loop-f g l = record {
   short : l.size ≤ 4 * l.f-index;
-  takes : l.size + size l.rest (drop l.f-index l.fields) ≡ size l.map l.fields;
-  leaves : rest l.rest (drop l.f-index l.fields) ≡ rest l.map l.fields;
+  takes : l.size + size l.rest (drop l.f-index l.fields.list) ≡ size l.map l.fields.list;
+  leaves : rest l.rest (drop l.f-index l.fields.list) ≡ rest l.map l.fields.list;
 }

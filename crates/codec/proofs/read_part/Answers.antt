@@ -6,7 +6,7 @@ use Rattle.codec.proofs.read_part.Goals as goal
 use Rattle.codec.proofs.read_part.Goals.{After-measure-extent}
 
 -- what is known of the map
-mapped : (g : given.Over) (c : After-measure-extent g) → Mapped c.args.s.now c.args.at c.args.fields.now c.from-map.result c.measure-extent.result.size c.measure-extent.result.rest
+mapped : (g : given.Over) (c : After-measure-extent g) → Mapped c.args.s.now c.args.at c.args.fields.now.list c.from-map.result c.measure-extent.result.size c.measure-extent.result.rest
 mapped g c = record {
   there = (none_judged _ _ c.in_ok-judge.ensures _ refl).0;
   is = c.from-map.ensures;

@@ -3,7 +3,7 @@ use Rattle.plant.specs.Links.{zero_link}
 use Rattle.encoder.proofs.PutLaws.{laid-room, laid_one}
 use Rattle.listing.specs.Listing.{link_bytes, links_bytes}
 use lib.ListN.{get_or}
-use Rattle.listing.proofs.WriteLaws.{link-proper, link_by, left-next}
+use Rattle.listing.proofs.WriteLaws.{link_by, left-next}
 use Rattle.writing.proofs.put_links.Goals as goal
 
 pub put_part-at-requires : goal.put_part-at-requires
@@ -16,12 +16,9 @@ put_part-at-requires c =
       omega arith,
       (
         omega arith,
-        (
-          rw c.link_fields.ensures (link-proper before),
-          rw (link_by before l c.link_fields.ensures c.link_values.ensures)
-              (laid-room _ _ _ _ (link_bytes before l) (links_bytes l (drop (i + 1) ls)) _ _ c.loop-l.invariant next
-              (rw c.links_held-l-items.ensures.links_are c.requires)),
-        ),
+        rw (link_by before l c.link_fields.ensures c.link_values.ensures)
+            (laid-room _ _ _ _ (link_bytes before l) (links_bytes l (drop (i + 1) ls)) _ _ c.loop-l.invariant next
+            (rw c.links_held-l-items.ensures.links_are c.requires)),
       ),
     )
 

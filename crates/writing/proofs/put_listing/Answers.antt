@@ -1,7 +1,7 @@
 use Rattle.std.proofs.Common.{arith}
 use Rattle.lists.proofs.Arrays.{laid}
 use Rattle.listing.specs.Listing.{header_bytes}
-use Rattle.listing.proofs.WriteLaws.{header-proper, header_by, encode-size, laid-listing}
+use Rattle.listing.proofs.WriteLaws.{header_by, encode-size, laid-listing}
 use Rattle.writing.proofs.put_listing.Goals as goal
 
 pub put_part-from-requires : goal.put_part-from-requires
@@ -9,10 +9,7 @@ put_part-from-requires c = (
   omega arith,
   (
     omega arith,
-    (
-      rw c.header_fields.ensures header-proper,
-      rw (header_by c.args.p.now c.header_fields.ensures c.header_values.ensures) (omega (arith, c.requires, encode-size c.args.p.now)),
-    ),
+    rw (header_by c.args.p.now c.header_fields.ensures c.header_values.ensures) (omega (arith, c.requires, encode-size c.args.p.now)),
   ),
 )
 
