@@ -1,6 +1,7 @@
 -- The buying page of a plan in a lent buffer: the spare is judged, then the room. Assumes nothing.
 use mathlib.Core.Path.{◌≡◌, refl, sym, ap, ◌∙◌}
 use mathlib.Core.List.{List, [], ◌∷◌, ◌++◌}
+use mathlib.Core.Logic.{◌⊎◌, inl, inr}
 use Prim.Native.Nat.{ℕ, ◌+◌, ◌*◌, ◌≤◌}
 use borrow.Author.Tests.{ltb-false}
 use lib.Dec.{ltb}
@@ -75,3 +76,9 @@ module _ (p : Plant) (spare : ℕ) (b : List ℕ) (r : Result Sheet Refusal) (q 
       pub room_refused : (k : Refusal) → w ≡ Err k → answer (quoting p spare b) ≡ refused (number_of k)
       unfolding writing_page
       room_refused k g = goes_on ∙ turned_down (writing_page s b).checks w room_judged (given (page_length s)) k g
+
+  -- so of the two, the spare before the room, the first that refuses is the call's refusal
+  pub quote_refused : (n : ℕ) → n ≡ line_columns * (p.switches + 1) → (w : Result Unit Refusal) → Judges ((18, ltb (length b) n) ∷ []) w
+      → (k : Refusal) → (r ≡ Err k) ⊎ ((s : Sheet) × (r ≡ Ok s) × (w ≡ Err k)) → refused (number_of k) ≡ answer (quoting p spare b)
+  quote_refused n f w j k (inl e) = sym (spare_refused k e)
+  quote_refused n f w j k (inr h) = sym (room_refused h.0 h.1 n f w j k h.2)
