@@ -4,26 +4,23 @@
 ghost use Rattle.std.specs.Prelude.{◌≡◌};
 ghost use Rattle.answers.specs.Checks.{answer};
 ghost use Rattle.answers.specs.Results.{answer_of};
-ghost use Rattle.limits.specs.Sound.{Sound};
-ghost use Rattle.planning.specs.Plans.{Charted};
 ghost use Rattle.quoting.specs.Quotes.{sheet_with, pricing, quoting};
 ghost use Rattle.quoting.specs.Answers.{quoted_out};
 
 use answers::{Refusal, judge_room};
+use arcs::ArcEnds;
 use planning::Plan;
-use plant::Plant;
 use senders::BySwitch;
 use sheet::Sheet;
 
 // The counts of a plant with these rules, for an order quantity.
-fn sheet_of(p: Plant, rules: BySwitch, quantity: u32) -> Sheet
-    requires { Sound p }
-    ensures { result ≡ sheet_with p rules quantity }
+fn sheet_of(ends: &ArcEnds, rules: BySwitch, quantity: u32) -> Sheet
+    ensures { result ≡ sheet_with ends.now.plant rules quantity }
 {
-    let links = ends::links_at_each(p);
+    let links = ends::links_at_each(ends);
     let counts = rules.counts;
     Sheet {
-        switches: p.switches,
+        switches: ends.plant.switches,
         rules: counts,
         links,
         total: rules.total,
@@ -33,23 +30,21 @@ fn sheet_of(p: Plant, rules: BySwitch, quantity: u32) -> Sheet
 
 // The counts of a plan with a spare in percent: refusal 17.
 pub fn price(x: &Plan, spare: u8) -> Result<Sheet, Refusal>
-    requires { Charted x.now }
-    ensures { answer_of result ≡ answer (pricing x.now.plant spare) }
+    ensures { answer_of result ≡ answer (pricing x.now.network.ends.plant spare) }
 {
     let table = planning::table_of(x);
     let rules = senders::by_switch(table);
     let n = quantity::order_quantity(rules.total, spare)?;
-    Ok(sheet_of(x.plant, rules, n))
+    Ok(sheet_of(&x.network.ends, rules, n))
 }
 
 // The buying page of a plan into the front of the lent buffer, and its length: refusals 17 and 18.
 pub fn put_page(x: &Plan, spare: u8, buffer: &mut [u8]) -> Result<usize, Refusal>
-    requires { Charted x.now }
-    ensures result_value { answer_of result ≡ answer (quoting x.now.plant spare buffer.old) }
-    ensures buffer_now { buffer.new ≡ quoted_out x.now.plant spare buffer.old }
+    ensures result_value { answer_of result ≡ answer (quoting x.now.network.ends.plant spare buffer.old) }
+    ensures buffer_now { buffer.new ≡ quoted_out x.now.network.ends.plant spare buffer.old }
 {
     let counts = price(x, spare)?;
-    let n = sheet::page_length(x.plant.switches);
+    let n = sheet::page_length(x.network.ends.plant.switches);
     judge_room(n, buffer.len(), Refusal::BuyingPageUnfit)?;
     sheet::put_page(counts, buffer);
     Ok(n)

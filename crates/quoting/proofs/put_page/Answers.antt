@@ -7,33 +7,33 @@ use Rattle.quoting.proofs.put_page.Goals as goal
 
 pub returns-in_err-counts-clause-result_value : goal.returns-in_err-counts-clause-result_value
 returns-in_err-counts-clause-result_value c =
-    exit (λ n. n) _ _ c.from_residual.ensures.1 ∙ sym (spare_refused c.args.x.now.plant c.args.spare c.args.buffer.now _ c.price.ensures _ c.in_err-counts.was)
+    exit (λ n. n) _ _ c.from_residual.ensures.1 ∙ sym (spare_refused c.args.x.now.network.ends.plant c.args.spare c.args.buffer.now _ c.price.ensures _ c.in_err-counts.was)
 
 pub returns-in_err-counts-clause-buffer_now : goal.returns-in_err-counts-clause-buffer_now
 returns-in_err-counts-clause-buffer_now c =
-    sym (out-kept c.args.x.now.plant c.args.spare c.args.buffer.now _ (spare_refused c.args.x.now.plant c.args.spare c.args.buffer.now _ c.price.ensures _ c.in_err-counts.was))
+    sym (out-kept c.args.x.now.network.ends.plant c.args.spare c.args.buffer.now _ (spare_refused c.args.x.now.network.ends.plant c.args.spare c.args.buffer.now _ c.price.ensures _ c.in_err-counts.was))
 
 pub returns-in_err-judge_room-clause-result_value : goal.returns-in_err-judge_room-clause-result_value
 returns-in_err-judge_room-clause-result_value c =
-    exit (λ n. n) _ _ c.from_residual-in_err-judge_room.ensures.1 ∙ sym (room_refused c.args.x.now.plant c.args.spare c.args.buffer.now _ c.price.ensures _ c.in_ok-counts.was _ c.page_length-n.ensures _ c.judge_room.ensures _ c.in_err-judge_room.was)
+    exit (λ n. n) _ _ c.from_residual-in_err-judge_room.ensures.1 ∙ sym (room_refused c.args.x.now.network.ends.plant c.args.spare c.args.buffer.now _ c.price.ensures _ c.in_ok-counts.was _ c.page_length-n.ensures _ c.judge_room.ensures _ c.in_err-judge_room.was)
 
 pub returns-in_err-judge_room-clause-buffer_now : goal.returns-in_err-judge_room-clause-buffer_now
 returns-in_err-judge_room-clause-buffer_now c =
-    sym (out-kept c.args.x.now.plant c.args.spare c.args.buffer.now _ (room_refused c.args.x.now.plant c.args.spare c.args.buffer.now _ c.price.ensures _ c.in_ok-counts.was _ c.page_length-n.ensures _ c.judge_room.ensures _ c.in_err-judge_room.was))
+    sym (out-kept c.args.x.now.network.ends.plant c.args.spare c.args.buffer.now _ (room_refused c.args.x.now.network.ends.plant c.args.spare c.args.buffer.now _ c.price.ensures _ c.in_ok-counts.was _ c.page_length-n.ensures _ c.judge_room.ensures _ c.in_err-judge_room.was))
 
 pub put_page-requires-clause-three_digits : goal.put_page-requires-clause-three_digits
 put_page-requires-clause-three_digits c =
-    (priced_shown c.args.x.now.plant c.requires.sound c.args.spare _ (priced c.args.x.now.plant c.args.spare c.args.buffer.now _ c.price.ensures _ c.in_ok-counts.was)).digits
+    (priced_shown c.args.x.now.network.ends.plant c.args.x.now.network.ends.sound c.args.spare _ (priced c.args.x.now.network.ends.plant c.args.spare c.args.buffer.now _ c.price.ensures _ c.in_ok-counts.was)).digits
 
 pub put_page-requires-clause-switches_le_max_switches : goal.put_page-requires-clause-switches_le_max_switches
 put_page-requires-clause-switches_le_max_switches c =
-    (priced_shown c.args.x.now.plant c.requires.sound c.args.spare _ (priced c.args.x.now.plant c.args.spare c.args.buffer.now _ c.price.ensures _ c.in_ok-counts.was)).few
+    (priced_shown c.args.x.now.network.ends.plant c.args.x.now.network.ends.sound c.args.spare _ (priced c.args.x.now.network.ends.plant c.args.spare c.args.buffer.now _ c.price.ensures _ c.in_ok-counts.was)).few
 
 pub put_page-requires-clause-s_in_bounds : goal.put_page-requires-clause-s_in_bounds
-put_page-requires-clause-s_in_bounds c = room-enough c.args.x.now.plant c.args.spare c.args.buffer.now _ c.price.ensures _ c.in_ok-counts.was _ c.page_length-n.ensures _ c.judge_room.ensures _ c.in_ok-judge_room.was
+put_page-requires-clause-s_in_bounds c = room-enough c.args.x.now.network.ends.plant c.args.spare c.args.buffer.now _ c.price.ensures _ c.in_ok-counts.was _ c.page_length-n.ensures _ c.judge_room.ensures _ c.in_ok-judge_room.was
 
 pub returns-clause-result_value : goal.returns-clause-result_value
-returns-clause-result_value c = sym (quote_given c.args.x.now.plant c.args.spare c.args.buffer.now _ c.price.ensures _ c.in_ok-counts.was _ c.page_length-n.ensures _ c.judge_room.ensures _ c.in_ok-judge_room.was)
+returns-clause-result_value c = sym (quote_given c.args.x.now.network.ends.plant c.args.spare c.args.buffer.now _ c.price.ensures _ c.in_ok-counts.was _ c.page_length-n.ensures _ c.judge_room.ensures _ c.in_ok-judge_room.was)
 
 pub returns-clause-buffer_now : goal.returns-clause-buffer_now
-returns-clause-buffer_now c = c.put_page.ensures ∙ quote_left c.args.x.now.plant c.args.spare c.args.buffer.now _ c.price.ensures _ c.in_ok-counts.was _ c.page_length-n.ensures _ c.judge_room.ensures _ c.in_ok-judge_room.was
+returns-clause-buffer_now c = c.put_page.ensures ∙ quote_left c.args.x.now.network.ends.plant c.args.spare c.args.buffer.now _ c.price.ensures _ c.in_ok-counts.was _ c.page_length-n.ensures _ c.judge_room.ensures _ c.in_ok-judge_room.was
