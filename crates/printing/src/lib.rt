@@ -7,7 +7,6 @@ ghost use Rattle.std.specs.Io.KnownBytes.{Appends};
 ghost use Rattle.answers.specs.Answers.{number_of};
 ghost use Rattle.limits.specs.Limits.{max_hops};
 ghost use Rattle.plan.specs.Plan.{trail_of};
-ghost use Rattle.planning.specs.Plans.{IsPlan};
 ghost use Rattle.text.specs.Lines.{summary_line, rule_line, rule_lines, trail_line, trail_lines, refusal_of};
 ghost use Rattle.text.specs.Sizes.{summary_most};
 ghost use Rattle.text.specs.Laid.{Room, Laid};
@@ -105,10 +104,9 @@ fn put_trails(list: &[Component], labels: &[u16], buf: &mut [u8], at: usize) -> 
 
 // The page of a plan at the front of a buffer that has room for as many hops as its trails have. The trails are laid into the lent labels first.
 fn put_plan(x: &Plan, labels: &mut [u16], buf: &mut [u8]) -> usize
-    requires plan { IsPlan x.now }
-    requires labels_room { length (trail_of x.now.plant) ≤ length labels.old }
-    requires page_room { page_room (length (trail_of x.now.plant)) ≤ length buf.old }
-    ensures { Laid buf.old 0 (plant_output x.now.plant) buf.new result }
+    requires labels_room { length (trail_of x.now.network.ends.plant) ≤ length labels.old }
+    requires page_room { page_room (length (trail_of x.now.network.ends.plant)) ≤ length buf.old }
+    ensures { Laid buf.old 0 (plant_output x.now.network.ends.plant) buf.new result }
 {
     planning::lay(x, labels);
     let t = planning::table_of(x);
@@ -134,10 +132,9 @@ fn print_plan<W: Write, const HOPS: usize, const BYTES: usize>(
     x: &Plan,
     listing: &[u8],
 ) -> io::Result<()>
-    requires plan { IsPlan x.now }
-    requires hops_bound { (length (trail_of x.now.plant) ≤ HOPS) × (HOPS ≤ max_hops) }
+    requires hops_bound { (length (trail_of x.now.network.ends.plant) ≤ HOPS) × (HOPS ≤ max_hops) }
     requires bytes_are { BYTES ≡ page_room HOPS }
-    requires output { plant_output x.now.plant ≡ printed listing.now }
+    requires output { plant_output x.now.network.ends.plant ≡ printed listing.now }
     ensures ok { OnOk result (Appends (W.contents out.old) (W.contents out.new) (printed listing.now)) }
     ensures err { OnErr result (AppendsFront (W.contents out.old) (W.contents out.new) (printed listing.now)) }
 {

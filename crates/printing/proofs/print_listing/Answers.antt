@@ -5,4 +5,4 @@ use Rattle.printing.proofs.print_listing.Goals as goal
 
 pub print_plan-requires-else-from-le-SHORT-clause-hops_bound :
     goal.print_plan-requires-else-from-le-SHORT-clause-hops_bound
-print_plan-requires-else-from-le-SHORT-clause-hops_bound g c = (omega (arith, hops-limit _ c.in-Ok.ensures.ready.laying.charted.sound), omega arith)
+print_plan-requires-else-from-le-SHORT-clause-hops_bound g c = (omega (arith, hops-limit _ c.in-Ok.x.network.ends.sound), omega arith)
