@@ -23,13 +23,13 @@ module _ (k : ℕ) (s : List ℕ) (x : ℕ) (v : Result Unit Refusal) (j : Judge
   unfolding sizing
   no_console n e = turned_down ((19, console_out_of_range k) ∷ []) v j (answer (reading s giving size)) n e
 
-  module _ (u : Unit) (e : v ≡ Ok u) (z : Result Plan Refusal) (q : answer_as (λ (y : Plan). y.plant) z ≡ answer (reading s)) where
+  module _ (u : Unit) (e : v ≡ Ok u) (z : Result Plan Refusal) (q : answer_as (λ (y : Plan). y.network.ends.plant) z ≡ answer (reading s)) where
     goes_by : answer (sizing k s x) ≡ answer (reading s giving size)
     unfolding sizing
     goes_by = passed ((19, console_out_of_range k) ∷ []) v j (answer (reading s giving size)) u e
 
-    pub sized_on : (y : Plan) → z ≡ Ok y → (l : ℕ) → l ≡ links_with y.plant x → given (y.plant.switches, l) ≡ answer (sizing k s x)
-    sized_on y f l i = ap (λ (m : ℕ). given (y.plant.switches, m)) i ∙ sym (goes_by ∙ ok_giving (λ (w : Plan). w.plant) (reading s) z q size y f)
+    pub sized_on : (y : Plan) → z ≡ Ok y → (l : ℕ) → l ≡ links_with y.network.ends.plant x → given (y.network.ends.plant.switches, l) ≡ answer (sizing k s x)
+    sized_on y f l i = ap (λ (m : ℕ). given (y.network.ends.plant.switches, m)) i ∙ sym (goes_by ∙ ok_giving (λ (w : Plan). w.network.ends.plant) (reading s) z q size y f)
 
     pub sized_off : (n : Refusal) → z ≡ Err n → answer (sizing k s x) ≡ refused (number_of n)
-    sized_off n f = goes_by ∙ err_giving (λ (w : Plan). w.plant) (reading s) z q size n f
+    sized_off n f = goes_by ∙ err_giving (λ (w : Plan). w.network.ends.plant) (reading s) z q size n f

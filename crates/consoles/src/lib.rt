@@ -23,7 +23,7 @@ fn size_of(console: u8, listing: &[u8], switch: u8) -> Result<Size, Refusal>
     let plan = planning::plan_of(listing)?;
     let links = planning::links_with(&plan, switch);
     Ok(Size {
-        switches: plan.plant.switches,
+        switches: plan.network.ends.plant.switches,
         links,
     })
 }

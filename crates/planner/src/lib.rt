@@ -119,7 +119,7 @@ pub fn lay_round_trail(listing: &[u8], buffer: &mut [u16]) -> Result<u16, Refusa
     ensures buffer_now { buffer.new ≡ round_laid_out listing.now buffer.old }
 {
     let plan = planning::plan_of(listing)?;
-    let hops = 2 * arcs::links_in_service(plan.plant);
+    let hops = 2 * arcs::links_in_service(plan.network.ends.plant);
     judge_room(usize::from(hops), buffer.len(), Refusal::TrailBufferShort)?;
     planning::lay_round(&plan, buffer);
     Ok(hops)

@@ -17,10 +17,10 @@ pub returns-in_err-plan : goal.returns-in_err-plan
 unfolding console_out_of_range
 returns-in_err-plan c =
     let known : Judges ((19, console_out_of_range c.args.console) ∷ []) c.judge.result = rw c.from-past.ensures at c.judge.ensures in
-    exit sized _ _ c.from_residual-in_err-plan.ensures.1 ∙ sym (sized_off c.args.console _ _ _ known _ c.in_ok-judge.was _ c.plan_of.ensures.plots _ c.in_err-plan.was)
+    exit sized _ _ c.from_residual-in_err-plan.ensures.1 ∙ sym (sized_off c.args.console _ _ _ known _ c.in_ok-judge.was _ c.plan_of.ensures _ c.in_err-plan.was)
 
 pub returns : goal.returns
 unfolding console_out_of_range
 returns c =
     let known : Judges ((19, console_out_of_range c.args.console) ∷ []) c.judge.result = rw c.from-past.ensures at c.judge.ensures in
-    sized_on c.args.console _ _ _ known _ c.in_ok-judge.was _ c.plan_of.ensures.plots _ c.in_ok-plan.was _ c.links_with-links.ensures
+    sized_on c.args.console _ _ _ known _ c.in_ok-judge.was _ c.plan_of.ensures _ c.in_ok-plan.was _ c.links_with-links.ensures

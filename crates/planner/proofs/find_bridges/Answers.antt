@@ -5,8 +5,8 @@ use Rattle.planner.proofs.find_bridges.Goals as goal
 
 pub returns-in_err-bridges : goal.returns-in_err-bridges
 unfolding bridging
-returns-in_err-bridges c = plan_refusing _ bridge_flags _ c.in_err-bridges.ensures.plots _ c.from_residual.ensures.1
+returns-in_err-bridges c = plan_refusing _ bridge_flags _ c.in_err-bridges.ensures _ c.from_residual.ensures.1
 
 pub returns : goal.returns
 unfolding bridging
-returns c = plan_giving _ bridge_flags _ c.in_ok-bridges.ensures.plots _ (flags_are _ _ c.in_ok-bridges.ensures.ready.laying.charted.bridges_are)
+returns c = plan_giving _ bridge_flags _ c.in_ok-bridges.ensures _ (flags_are _ _ c.in_ok-bridges.field-0.charted.bridges_are)

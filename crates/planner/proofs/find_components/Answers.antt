@@ -5,8 +5,8 @@ use Rattle.planner.proofs.find_components.Goals as goal
 
 pub returns-in_err-components : goal.returns-in_err-components
 unfolding parting
-returns-in_err-components c = plan_refusing _ components_of _ c.in_err-components.ensures.plots _ c.from_residual.ensures.1
+returns-in_err-components c = plan_refusing _ components_of _ c.in_err-components.ensures _ c.from_residual.ensures.1
 
 pub returns : goal.returns
 unfolding parting
-returns c = plan_giving _ components_of _ c.in_ok-components.ensures.plots _ c.in_ok-components.ensures.ready.measured.components_are
+returns c = plan_giving _ components_of _ c.in_ok-components.ensures _ c.in_ok-components.field-0.measured.components_are

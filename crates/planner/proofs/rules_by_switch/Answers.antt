@@ -12,30 +12,29 @@ use Rattle.plan.specs.Plan.{table_of}
 use Rattle.plan.specs.Totals.{Totals}
 use Rattle.plan.proofs.Totals.{placed, totals}
 use Rattle.planning.specs.declared.Plan.{Plan}
-use Rattle.planning.specs.Plans.{Charted}
 use Rattle.listing.specs.Listing.{reading}
 use Rattle.planner.specs.Calls.{tabling, counting}
 use Rattle.planner.proofs.Planned.{plan_giving, plan_refusing}
 use Rattle.planner.proofs.rules_by_switch.Goals as goal
 
 -- what is found of the plant that was planned adds up
-adds_up : (s : List ℕ) (x : Plan) (b : BySwitch) → answer (reading s) ≡ given x.plant → Charted x → b ≡ by_switch (table_of x.plant)
+adds_up : (s : List ℕ) (x : Plan) (b : BySwitch) → answer (reading s) ≡ given x.network.ends.plant → b ≡ by_switch (table_of x.network.ends.plant)
     → (p : Plant) → answer (reading s) ≡ given p → Totals p b
-adds_up s x b e f q p g =
-    subst (λ (k : Plant). Totals k b) (given-given x.plant p (sym e ∙ g)) (subst (Totals x.plant) (sym q) (totals x.plant f.sound))
+adds_up s x b e q p g =
+    subst (λ (k : Plant). Totals k b) (given-given x.network.ends.plant p (sym e ∙ g)) (subst (Totals x.network.ends.plant) (sym q) (totals x.network.ends.plant x.network.ends.sound))
 
 pub by_switch-rules-requires : goal.by_switch-rules-requires
-by_switch-rules-requires c = subst Placed (sym c.table_of-table.ensures) (placed _ c.in_ok-plan.ensures.ready.laying.charted.sound)
+by_switch-rules-requires c = subst Placed (sym c.table_of-table.ensures) (placed _ c.in_ok-plan.plan.network.ends.sound)
 
 pub returns-in_err-plan-clause-counts : goal.returns-in_err-plan-clause-counts
 unfolding tabling counting
-returns-in_err-plan-clause-counts c = plan_refusing _ (λ p. by_switch (table_of p)) _ c.in_err-plan.ensures.plots _ c.from_residual.ensures.1
+returns-in_err-plan-clause-counts c = plan_refusing _ (λ p. by_switch (table_of p)) _ c.in_err-plan.ensures _ c.from_residual.ensures.1
 
 pub returns-clause-counts : goal.returns-clause-counts
 unfolding tabling counting
 returns-clause-counts c =
-    plan_giving _ (λ p. by_switch (table_of p)) _ c.in_ok-plan.ensures.plots _ (c.by_switch-rules.ensures ∙ ap by_switch c.table_of-table.ensures)
+    plan_giving _ (λ p. by_switch (table_of p)) _ c.in_ok-plan.ensures _ (c.by_switch-rules.ensures ∙ ap by_switch c.table_of-table.ensures)
 
 pub returns-clause-adds_up : goal.returns-clause-adds_up
 returns-clause-adds_up c =
-    adds_up _ _ _ (sym c.in_ok-plan.ensures.plots) c.in_ok-plan.ensures.ready.laying.charted (c.by_switch-rules.ensures ∙ ap by_switch c.table_of-table.ensures)
+    adds_up _ c.in_ok-plan.plan _ (sym c.in_ok-plan.ensures) (c.by_switch-rules.ensures ∙ ap by_switch c.table_of-table.ensures)
