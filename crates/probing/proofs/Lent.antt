@@ -23,7 +23,7 @@ use Rattle.planning.specs.declared.Component.{Component}
 use Rattle.planning.specs.Components.{component_at, component_with}
 use Rattle.arcs.specs.Flags.{Flags}
 use Rattle.order.specs.Labels.{OverArcs}
-use Rattle.packet.specs.Asked.{CanRun, CanProbe, CanRound}
+use Rattle.packet.specs.Asked.{CanRun}
 use Rattle.std.specs.Prelude.{Ok}
 use Rattle.answers.specs.Answers.{given}
 use Rattle.answers.specs.Checks.{answer}
@@ -35,8 +35,6 @@ use Rattle.search.specs.declared.Said.TheVariants as said
 use Rattle.search.specs.Search.{says}
 use Rattle.search.specs.Answers.{SaysIn}
 use Rattle.search.proofs.Sound.{says_in}
-use Rattle.planning.specs.declared.Plan.{Plan}
-use Rattle.planning.specs.Plans.{OfPlant, IsPlan}
 use Rattle.planning.specs.Planning.{planning_at}
 use Rattle.planning.proofs.Plans.{at-given}
 use Rattle.judging.specs.Conditions.{hops_differ, search_unsound, lent_checks, round_checks}
@@ -59,10 +57,11 @@ begins-part w lent e b h i =
     ap (λ (l : List ℕ). take h (drop b l)) (sym (take-append-drop (length w) lent) ∙ ap (λ (l : List ℕ). l ++ drop (length w) lent) (hops-begin w lent e))
     ∙ part-front w (drop (length w) lent) b h i
 
-module _ (p : Plant) (ok : Sound p) where
-  pub can_run : (us : List Bool) (states : List ℕ) → Flags (2 * max_links) (used p) us → p.count ≤ length states → CanRun p us states
-  can_run us states f enough = record { sound = ok; arcs = λ a t. used_arc p a (true_T (used p a) (sym (f.tells a) ∙ t)); bytes = enough }
+-- by the arcs in use, with enough state bytes, a packet can run
+pub can_run : (p : Plant) (us : List Bool) (states : List ℕ) → Flags (2 * max_links) (used p) us → p.count ≤ length states → CanRun p us states
+can_run p us states f enough = record { arcs = λ a t. used_arc p a (true_T (used p a) (sym (f.tells a) ∙ t)); bytes = enough }
 
+module _ (p : Plant) (ok : Sound p) where
   -- ---- the component of a switch
 
   module _ (x : ℕ) (x_in : x < p.switches) where
@@ -103,17 +102,8 @@ module _ (p : Plant) (ok : Sound p) where
     pub own-arcs : (own : List ℕ) → own ≡ trail_with p x → OverArcs p own
     own-arcs own e = subst (OverArcs p) (sym e) (λ a h. used_arc p a (trail-used p ok x x_in a h))
 
-    -- ---- state bytes that refusals 12 and 13 let pass
-
-    pub can_probe : (us : List Bool) (states own : List ℕ) → Flags (2 * max_links) (used p) us → own ≡ trail_with p x → p.count ≤ length states → CanProbe p us states own
-    can_probe us states own f e enough = record { runs = can_run us states f enough; trail = own-arcs own e }
-
-    pub can_round : (states own : List ℕ) → own ≡ round_with p x → 2 * p.count ≤ length states → CanRound p states own
-    can_round states own e enough = record {
-      sound = ok;
-      bytes = enough;
-      trail = subst (OverArcs p) (sym e) (λ a h. (((rounds.round-from p ok (root_of p x) (root_among p ok x x_in)).each a).0 h).1);
-    }
+    pub round-arcs : (own : List ℕ) → own ≡ round_with p x → OverArcs p own
+    round-arcs own e = subst (OverArcs p) (sym e) (λ a h. (((rounds.round-from p ok (root_of p x) (root_among p ok x x_in)).each a).0 h).1)
 
     -- ---- what a sound search over its links says
 
@@ -126,9 +116,6 @@ module _ (p : Plant) (ok : Sound p) where
         go (said.Down k) g = (g.0, omega (arith, g.1, links-few p ok x x_in))
 
 -- ---- a plan
-
-pub of_plan : (x : Plan) → IsPlan x → OfPlant x
-of_plan x plan = record { charted = plan.laying.charted; measured = plan.measured }
 
 -- a plan at a switch has that switch
 pub planned_in : (s : List ℕ) (x : ℕ) (p : Plant) → given p ≡ answer (planning_at s x) → x < p.switches

@@ -6,17 +6,14 @@ ghost use Rattle.std.specs.Prelude.{◌≡◌, false, ◌≤◌, ◌<◌};
 ghost use Rattle.answers.specs.Results.{answer_as, answer_of};
 ghost use Rattle.answers.specs.Checks.{answer};
 ghost use Rattle.limits.specs.Limits.{max_links};
-ghost use Rattle.limits.specs.Sound.{Sound};
 ghost use Rattle.judging.specs.Conditions.{hops_differ};
-ghost use Rattle.order.specs.Labels.{OverArcs};
 ghost use Rattle.lists.specs.Arrays.{flag};
 ghost use Rattle.walks.specs.Components.{links_with, used};
 ghost use Rattle.plan.specs.Plan.{trail_of, trail_with, round_of, round_with};
 ghost use Rattle.rings.specs.Injection.{order_of};
 ghost use Rattle.choosing.specs.Choice.{hops_in};
-ghost use Rattle.planning.specs.Plans.{Charted, OfPlant, IsPlan};
 ghost use Rattle.order.specs.Span.{stretch_of, front_of};
-ghost use Rattle.packet.specs.Asked.{CanProbe};
+ghost use Rattle.packet.specs.Asked.{CanRun};
 ghost use Rattle.packet.specs.Runs.{end_of};
 ghost use Rattle.packet.specs.Outcome.{outcome_of};
 ghost use Rattle.search.specs.Search.{ask, give};
@@ -26,7 +23,7 @@ ghost use Rattle.probing.specs.Answers.{name_as, ChosenHops, OutwardParts, Perfo
 
 use answers::Refusal;
 use choosing::Choice;
-use order::{Order, Span};
+use order::{Order, Ring, Span};
 use packet::End;
 use planning::Plan;
 use plant::Plant;
@@ -53,10 +50,9 @@ pub fn outcome_of(end: End) -> Outcome
 
 // The trail of the component of a switch, as a part of the lent trails of all components.
 fn own_trail<'a>(plan: &Plan, switch: u8, trail: &'a [u16]) -> &'a [u16]
-    requires of_plant { OfPlant plan.now }
-    requires switch_lt_switches { switch < plan.now.plant.switches }
-    requires trail_value { trail.now ≡ trail_of plan.now.plant }
-    ensures { result.now ≡ trail_with plan.now.plant switch }
+    requires switch_lt_switches { switch < plan.now.network.ends.plant.switches }
+    requires trail_value { trail.now ≡ trail_of plan.now.network.ends.plant }
+    ensures { result.now ≡ trail_with plan.now.network.ends.plant switch }
 {
     let c = planning::component_with(plan, switch);
     order::part(trail, c.begin as usize, c.hops as usize)
@@ -64,10 +60,9 @@ fn own_trail<'a>(plan: &Plan, switch: u8, trail: &'a [u16]) -> &'a [u16]
 
 // Its round trail, as a part of the lent round trails of all components, which may have spare places.
 fn own_round<'a>(plan: &Plan, switch: u8, round: &'a [u16]) -> &'a [u16]
-    requires of_plant { OfPlant plan.now }
-    requires switch_lt_switches { switch < plan.now.plant.switches }
-    requires round_value { hops_differ (round_of plan.now.plant) round.now ≡ false }
-    ensures { result.now ≡ round_with plan.now.plant switch }
+    requires switch_lt_switches { switch < plan.now.network.ends.plant.switches }
+    requires round_value { hops_differ (round_of plan.now.network.ends.plant) round.now ≡ false }
+    ensures { result.now ≡ round_with plan.now.network.ends.plant switch }
 {
     let c = planning::component_with(plan, switch);
     order::part(round, c.round_begin as usize, c.round_hops as usize)
@@ -77,15 +72,14 @@ fn own_round<'a>(plan: &Plan, switch: u8, round: &'a [u16]) -> &'a [u16]
 
 // A packet runs under the forwarding table of a plan alone: refusal 13.
 fn run_in(plan: &Plan, switch: u8, labels: &[u16], states: &[u8]) -> Result<End, Refusal>
-    requires { Charted plan.now }
-    ensures { answer_as end_of result ≡ answer (run_in switch labels.now states.now plan.now.plant) }
+    ensures { answer_as end_of result ≡ answer (run_in switch labels.now states.now plan.now.network.ends.plant) }
 {
-    if judging::too_few(states, plan.plant.count) {
+    if judging::too_few(states, plan.network.ends.plant.count) {
         return Err(Refusal::StatesShort);
     }
     Ok(packet::run_on(
-        plan.plant,
-        plan.used,
+        &plan.network.ends,
+        &plan.used,
         states,
         packet::injected(switch),
         labels,
@@ -104,13 +98,17 @@ pub fn run(listing: &[u8], switch: u8, labels: &[u16], states: &[u8]) -> Result<
 
 // The full check in a plan: refusals 12 and 13.
 fn check_in(plan: &Plan, switch: u8, trail: &[u16], states: &[u8]) -> Result<End, Refusal>
-    requires is_plan { IsPlan plan.now }
-    requires switch_lt_switches { switch < plan.now.plant.switches }
-    ensures { answer_as end_of result ≡ answer (check_in switch trail.now states.now plan.now.plant) }
+    requires { switch < plan.now.network.ends.plant.switches }
+    ensures { answer_as end_of result ≡ answer (check_in switch trail.now states.now plan.now.network.ends.plant) }
 {
     judging::judge_lent(plan, trail, states)?;
     let own = own_trail(plan, switch, trail);
-    Ok(packet::full_check(plan.plant, plan.used, states, switch, own))
+    let ring = Ring {
+        ends: &plan.network.ends,
+        switch,
+        trail: own,
+    };
+    Ok(packet::full_check(&ring, &plan.used, states))
 }
 
 // The full check from a switch: refusals 1 to 8, 11, 12 and 13.
@@ -125,13 +123,17 @@ pub fn full_check(listing: &[u8], switch: u8, trail: &[u16], states: &[u8]) -> R
 
 // The round run over a lent round trail in a plan: refusals 12 and 13.
 fn round_in(plan: &Plan, switch: u8, round: &[u16], states: &[u8]) -> Result<End, Refusal>
-    requires of_plant { OfPlant plan.now }
-    requires switch_lt_switches { switch < plan.now.plant.switches }
-    ensures { answer_as end_of result ≡ answer (round_in switch round.now states.now plan.now.plant) }
+    requires { switch < plan.now.network.ends.plant.switches }
+    ensures { answer_as end_of result ≡ answer (round_in switch round.now states.now plan.now.network.ends.plant) }
 {
     judging::judge_round(plan, round, states)?;
     let own = own_round(plan, switch, round);
-    Ok(packet::round_run(plan.plant, states, switch, own))
+    let ring = Ring {
+        ends: &plan.network.ends,
+        switch,
+        trail: own,
+    };
+    Ok(packet::round_run(&ring, states))
 }
 
 // The round run from a switch, by a state byte for each label: refusals 1 to 8, 11, 12 and 13. The lent round trail may have spare places.
@@ -146,9 +148,8 @@ pub fn round_run(listing: &[u8], switch: u8, round: &[u16], states: &[u8]) -> Re
 
 // Of the trail and the round trail of the component of a switch in a plan, where the round trails of all are lent: refusal 12.
 fn choose_from(plan: &Plan, switch: u8, round: &[u16]) -> Result<Choice, Refusal>
-    requires of_plant { OfPlant plan.now }
-    requires switch_lt_switches { switch < plan.now.plant.switches }
-    ensures { answer_of result ≡ answer (choice_from switch round.now plan.now.plant) }
+    requires { switch < plan.now.network.ends.plant.switches }
+    ensures { answer_of result ≡ answer (choice_from switch round.now plan.now.network.ends.plant) }
 {
     let Some(_) = planning::compare_round(plan, round) else {
         return Err(Refusal::TrailDiffers);
@@ -164,9 +165,8 @@ fn choose_from(plan: &Plan, switch: u8, round: &[u16]) -> Result<Choice, Refusal
 
 // Of the lent trails and the lent round trails of all components in a plan: refusal 12 of either.
 fn choose_in(plan: &Plan, switch: u8, trail: &[u16], round: &[u16]) -> Result<Choice, Refusal>
-    requires is_plan { IsPlan plan.now }
-    requires switch_lt_switches { switch < plan.now.plant.switches }
-    ensures { answer_of result ≡ answer (choice_in switch trail.now round.now plan.now.plant) }
+    requires { switch < plan.now.network.ends.plant.switches }
+    ensures { answer_of result ≡ answer (choice_in switch trail.now round.now plan.now.network.ends.plant) }
 {
     let Some(_) = planning::compare(plan, trail) else {
         return Err(Refusal::TrailDiffers);
@@ -199,15 +199,19 @@ pub fn chosen<'a>(trail: &'a [u16], round: &'a [u16], choice: Choice) -> &'a [u1
 
 // The order of links in a plan: refusal 12.
 fn order_in(plan: &Plan, switch: u8, trail: &[u16]) -> Result<Order, Refusal>
-    requires is_plan { IsPlan plan.now }
-    requires switch_lt_switches { switch < plan.now.plant.switches }
-    ensures { answer_of result ≡ answer (order_in switch trail.now plan.now.plant) }
+    requires { switch < plan.now.network.ends.plant.switches }
+    ensures { answer_of result ≡ answer (order_in switch trail.now plan.now.network.ends.plant) }
 {
     if judging::differs(plan, trail) {
         return Err(Refusal::TrailDiffers);
     }
     let own = own_trail(plan, switch, trail);
-    Ok(order::order_of(plan.plant, switch, own))
+    let ring = Ring {
+        ends: &plan.network.ends,
+        switch,
+        trail: own,
+    };
+    Ok(order::order_of(&ring))
 }
 
 // The links of the component of a switch by first crossing from its place: refusals 1 to 8, 11 and 12.
@@ -221,42 +225,43 @@ pub fn order_of_links(listing: &[u8], switch: u8, trail: &[u16]) -> Result<Order
 // ---- the outward labels of the probe wanted
 
 // Where the outward labels of probe m over so many links stand in the trail of a component: the whole ring, if m is their number.
-fn span_in(p: Plant, switch: u8, own: &[u16], links: u16, m: u16) -> Span
-    requires sound { Sound p }
-    requires over_arcs { OverArcs p own.now }
-    requires own_value { own.now ≡ trail_with p switch }
-    requires links_value { links ≡ links_with p switch }
+fn span_in(ring: &Ring, links: u16, m: u16) -> Span
+    requires own_value { ring.now.trail.now ≡ trail_with ring.now.ends.now.plant ring.now.switch }
+    requires links_value { links ≡ links_with ring.now.ends.now.plant ring.now.switch }
     requires le_m { 1 ≤ m }
     requires m_le_max_links { m ≤ max_links }
-    ensures { result ≡ own_span p switch m }
+    ensures { result ≡ own_span ring.now.ends.now.plant ring.now.switch m }
 {
     if m == links {
-        return order::ring_span(p, switch, own);
+        return order::ring_span(ring);
     }
-    order::span_of(p, switch, own, m)
+    order::span_of(ring, m)
 }
 
 // Where they stand in the lent trails of all components.
 fn span_of(plan: &Plan, switch: u8, trail: &[u16], links: u16, m: u16) -> Span
-    requires of_plant { OfPlant plan.now }
-    requires switch_lt_switches { switch < plan.now.plant.switches }
-    requires trail_value { trail.now ≡ trail_of plan.now.plant }
-    requires links_value { links ≡ links_with plan.now.plant switch }
+    requires switch_lt_switches { switch < plan.now.network.ends.plant.switches }
+    requires trail_value { trail.now ≡ trail_of plan.now.network.ends.plant }
+    requires links_value { links ≡ links_with plan.now.network.ends.plant switch }
     requires le_m { 1 ≤ m }
     requires m_le_links { m ≤ links }
-    ensures { result ≡ out_span plan.now.plant switch m }
+    ensures { result ≡ out_span plan.now.network.ends.plant switch m }
 {
     let c = planning::component_with(plan, switch);
     let own = own_trail(plan, switch, trail);
-    let span = span_in(plan.plant, switch, own, links, m);
+    let ring = Ring {
+        ends: &plan.network.ends,
+        switch,
+        trail: own,
+    };
+    let span = span_in(&ring, links, m);
     order::shifted(span, c.begin as usize)
 }
 
 // The outward labels in a plan: refusals 12, 14 and 15.
 fn outward_in(plan: &Plan, switch: u8, trail: &[u16], search: Search) -> Result<Span, Refusal>
-    requires is_plan { IsPlan plan.now }
-    requires switch_lt_switches { switch < plan.now.plant.switches }
-    ensures { answer_of result ≡ answer (outward_in switch trail.now search plan.now.plant) }
+    requires { switch < plan.now.network.ends.plant.switches }
+    ensures { answer_of result ≡ answer (outward_in switch trail.now search plan.now.network.ends.plant) }
 {
     if judging::differs(plan, trail) {
         return Err(Refusal::TrailDiffers);
@@ -298,23 +303,21 @@ pub fn front<'a>(trail: &'a [u16], span: Span) -> &'a [u16]
 
 // The run of the probe wanted over the trail of a component with so many links, with enough state bytes: refusals 14 and 15.
 fn probe_over(
-    p: Plant,
-    table: [bool; Plant::LABELS],
-    switch: u8,
-    own: &[u16],
+    ring: &Ring,
+    table: &[bool; Plant::LABELS],
     states: &[u8],
     links: u16,
     search: Search,
 ) -> Result<End, Refusal>
-    requires can_probe { CanProbe p table states.now own.now }
-    requires table_value { flag table ≡ used p }
-    requires own_value { own.now ≡ trail_with p switch }
-    requires links_value { links ≡ links_with p switch }
+    requires can_run { CanRun ring.now.ends.now.plant table.now states.now }
+    requires table_value { flag table.now ≡ used ring.now.ends.now.plant }
+    requires own_value { ring.now.trail.now ≡ trail_with ring.now.ends.now.plant ring.now.switch }
+    requires links_value { links ≡ links_with ring.now.ends.now.plant ring.now.switch }
     requires links_le_max_links { links ≤ max_links }
-    ensures { answer_as end_of result ≡ answer (probe_over p switch states.now search) }
+    ensures { answer_as end_of result ≡ answer (probe_over ring.now.ends.now.plant ring.now.switch states.now search) }
 {
     let m = judging::probe_wanted(links, search)?;
-    Ok(packet::probe_run(p, table, states, switch, own, links, m))
+    Ok(packet::probe_run(ring, table, states, links, m))
 }
 
 // The run of the probe wanted in a plan: refusals 12 to 15.
@@ -325,14 +328,18 @@ fn probe_in(
     states: &[u8],
     search: Search,
 ) -> Result<End, Refusal>
-    requires is_plan { IsPlan plan.now }
-    requires switch_lt_switches { switch < plan.now.plant.switches }
-    ensures { answer_as end_of result ≡ answer (probe_in switch trail.now states.now search plan.now.plant) }
+    requires { switch < plan.now.network.ends.plant.switches }
+    ensures { answer_as end_of result ≡ answer (probe_in switch trail.now states.now search plan.now.network.ends.plant) }
 {
     judging::judge_lent(plan, trail, states)?;
     let own = own_trail(plan, switch, trail);
     let links = planning::links_with(plan, switch);
-    probe_over(plan.plant, plan.used, switch, own, states, links, search)
+    let ring = Ring {
+        ends: &plan.network.ends,
+        switch,
+        trail: own,
+    };
+    probe_over(&ring, &plan.used, states, links, search)
 }
 
 // The run of the probe that a search wants: refusals 1 to 8 and 11 to 15.
@@ -352,18 +359,16 @@ pub fn run_probe(
 // ---- the link named
 
 // What is named in the component of a switch with this trail by what a sound search says.
-fn name_of(p: Plant, switch: u8, own: &[u16], said: Said) -> Named
-    requires sound { Sound p }
-    requires over_arcs { OverArcs p own.now }
-    requires own_value { own.now ≡ trail_with p switch }
+fn name_of(ring: &Ring, said: Said) -> Named
+    requires own_value { ring.now.trail.now ≡ trail_with ring.now.ends.now.plant ring.now.switch }
     requires says_in { SaysIn max_links said }
-    ensures { name_as result ≡ named_in (order_of p (trail_with p switch) switch) said }
+    ensures { name_as result ≡ named_in (order_of ring.now.ends.now.plant (trail_with ring.now.ends.now.plant ring.now.switch) ring.now.switch) said }
 {
     match said {
         Said::Open => Named::Open,
         Said::AllUp => Named::AllUp,
         Said::Down(place) => {
-            let o = order::order_of(p, switch, own);
+            let o = order::order_of(ring);
             let j = (place - 1) as usize;
             Named::Link(o.links[j])
         }
@@ -372,9 +377,8 @@ fn name_of(p: Plant, switch: u8, own: &[u16], said: Said) -> Named
 
 // What a search names in a plan: refusals 12 and 14.
 fn name_in(plan: &Plan, switch: u8, trail: &[u16], search: Search) -> Result<Named, Refusal>
-    requires is_plan { IsPlan plan.now }
-    requires switch_lt_switches { switch < plan.now.plant.switches }
-    ensures { answer_as name_as result ≡ answer (name_in switch trail.now search plan.now.plant) }
+    requires { switch < plan.now.network.ends.plant.switches }
+    ensures { answer_as name_as result ≡ answer (name_in switch trail.now search plan.now.network.ends.plant) }
 {
     if judging::differs(plan, trail) {
         return Err(Refusal::TrailDiffers);
@@ -384,7 +388,12 @@ fn name_in(plan: &Plan, switch: u8, trail: &[u16], search: Search) -> Result<Nam
         return Err(Refusal::SearchUnsound);
     }
     let own = own_trail(plan, switch, trail);
-    Ok(name_of(plan.plant, switch, own, search.says()))
+    let ring = Ring {
+        ends: &plan.network.ends,
+        switch,
+        trail: own,
+    };
+    Ok(name_of(&ring, search.says()))
 }
 
 // The link that a search names from a switch: refusals 1 to 8, 11, 12 and 14.

@@ -5,13 +5,13 @@ use Rattle.probing.specs.Calls.{check_in, checking}
 use Rattle.probing.proofs.Lent.{planned_in}
 use Rattle.probing.proofs.full_check.Goals as goal
 
-pub check_in-requires-clause-switch_lt_switches : goal.check_in-requires-clause-switch_lt_switches
-check_in-requires-clause-switch_lt_switches c = planned_in _ _ _ c.in_ok-plan.ensures.plots
+pub check_in-requires : goal.check_in-requires
+check_in-requires c = planned_in _ _ _ c.in_ok-plan.ensures
 
 pub returns : goal.returns
 unfolding checking
-returns c = try_given (planning_at _ _) (check_in _ _ _) _ _ c.in_ok-plan.ensures.plots c.check_in.ensures
+returns c = try_given (planning_at _ _) (check_in _ _ _) _ _ c.in_ok-plan.ensures c.check_in.ensures
 
 pub returns-in_err-plan : goal.returns-in_err-plan
 unfolding checking
-returns-in_err-plan c = try_refused (planning_at _ _) (check_in _ _ _) _ _ _ c.from_residual.ensures.1 c.in_err-plan.ensures.plots
+returns-in_err-plan c = try_refused (planning_at _ _) (check_in _ _ _) _ _ _ c.from_residual.ensures.1 c.in_err-plan.ensures

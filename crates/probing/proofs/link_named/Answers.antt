@@ -5,13 +5,13 @@ use Rattle.probing.specs.Calls.{name_in, naming}
 use Rattle.probing.proofs.Lent.{planned_in}
 use Rattle.probing.proofs.link_named.Goals as goal
 
-pub name_in-requires-clause-switch_lt_switches : goal.name_in-requires-clause-switch_lt_switches
-name_in-requires-clause-switch_lt_switches c = planned_in _ _ _ c.in_ok-plan.ensures.plots
+pub name_in-requires : goal.name_in-requires
+name_in-requires c = planned_in _ _ _ c.in_ok-plan.ensures
 
 pub returns : goal.returns
 unfolding naming
-returns c = try_given (planning_at _ _) (name_in _ _ _) _ _ c.in_ok-plan.ensures.plots c.name_in.ensures
+returns c = try_given (planning_at _ _) (name_in _ _ _) _ _ c.in_ok-plan.ensures c.name_in.ensures
 
 pub returns-in_err-plan : goal.returns-in_err-plan
 unfolding naming
-returns-in_err-plan c = try_refused (planning_at _ _) (name_in _ _ _) _ _ _ c.from_residual.ensures.1 c.in_err-plan.ensures.plots
+returns-in_err-plan c = try_refused (planning_at _ _) (name_in _ _ _) _ _ _ c.from_residual.ensures.1 c.in_err-plan.ensures

@@ -14,9 +14,8 @@ returns-then-differs c = holds 12 _ _ (sym c.differs.ensures ∙ c.if-differs.tr
 pub own_trail-own-requires-clause-trail_value : goal.own_trail-own-requires-clause-trail_value
 own_trail-own-requires-clause-trail_value c = trail-same _ _ (sym c.differs.ensures ∙ c.if-differs.false)
 
-pub order_of-requires-clause-over_arcs : goal.order_of-requires-clause-over_arcs
-order_of-requires-clause-over_arcs c =
-    own-arcs c.args.plan.now.plant c.requires.is_plan.laying.charted.sound c.args.switch c.requires.switch_lt_switches _ c.own_trail-own.ensures
+pub invariant_of-ring : goal.invariant_of-ring
+invariant_of-ring c = record { over_arcs = own-arcs c.args.plan.now.network.ends.plant c.args.plan.now.network.ends.sound c.args.switch c.requires _ c.own_trail-own.ensures }
 
 pub returns : goal.returns
 returns c = ordered _ _ _ _ _ (sym c.differs.ensures ∙ c.if-differs.false) c.own_trail-own.ensures c.order_of.ensures

@@ -12,18 +12,18 @@ pub returns : goal.returns
 unfolding performing performed_in
 returns c =
     let cs = calls_in c.args.calls.now in
-    let plots = c.in_ok-plan.ensures.plots in
+    let plots = c.in_ok-plan.ensures in
     let r =
     try_giving (planning_at _ _) (performed_in _ cs) _ _ plots
     (c.perform.ensures ∙ ap (λ (e : ℕ). perform (begun e) cs) c.links_with-links.ensures)
     in
-    record { result_value = r; performs = performs _ _ cs _ (sym plots) c.in_ok-plan.ensures.ready.laying.charted.sound _ r }
+    record { result_value = r; performs = performs _ _ cs _ (sym plots) c.in_ok-plan.plan.network.ends.sound _ r }
 
 pub returns-in_err-plan : goal.returns-in_err-plan
 unfolding performing performed_in
 returns-in_err-plan c =
     let cs = calls_in c.args.calls.now in
     record {
-      result_value = try_no_giving (planning_at _ _) (performed_in _ cs) _ _ _ c.from_residual.ensures.1 c.in_err-plan.ensures.plots;
+      result_value = try_no_giving (planning_at _ _) (performed_in _ cs) _ _ _ c.from_residual.ensures.1 c.in_err-plan.ensures;
       performs = performs-none _ _ _ _ _ (exit _ _ _ c.from_residual.ensures.1);
     }

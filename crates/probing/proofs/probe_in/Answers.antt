@@ -3,20 +3,22 @@ use Rattle.std.proofs.Common.{sym, refl, ◌∙◌, arith}
 use Rattle.answers.proofs.Results.{exit, passed, turned_down}
 use Rattle.probing.specs.Calls.{probe_in}
 use Rattle.probing.proofs.Injection.{links-few}
-use Rattle.probing.proofs.Lent.{lent_same, lent_enough, can_probe}
+use Rattle.probing.proofs.Lent.{lent_same, lent_enough, can_run, own-arcs}
 use Rattle.probing.proofs.probe_in.Goals as goal
 
 pub own_trail-own-requires-clause-trail_value : goal.own_trail-own-requires-clause-trail_value
 own_trail-own-requires-clause-trail_value c = lent_same _ _ _ _ c.in_ok-judge_lent.ensures
 
-pub probe_over-requires-clause-can_probe : goal.probe_over-requires-clause-can_probe
-probe_over-requires-clause-can_probe c =
-    can_probe c.args.plan.now.plant c.requires.is_plan.laying.charted.sound c.args.switch c.requires.switch_lt_switches _ _ _ c.requires.is_plan.laying.charted.used_are c.own_trail-own.ensures
-    (lent_enough _ _ _ _ c.in_ok-judge_lent.ensures)
+pub invariant_of-ring : goal.invariant_of-ring
+invariant_of-ring c = record { over_arcs = own-arcs c.args.plan.now.network.ends.plant c.args.plan.now.network.ends.sound c.args.switch c.requires _ c.own_trail-own.ensures }
+
+pub probe_over-requires-clause-can_run : goal.probe_over-requires-clause-can_run
+probe_over-requires-clause-can_run c =
+    can_run c.args.plan.now.network.ends.plant _ _ c.args.plan.now.charted.used_are (lent_enough _ _ _ _ c.in_ok-judge_lent.ensures)
 
 pub probe_over-requires-clause-links_le_max_links : goal.probe_over-requires-clause-links_le_max_links
 probe_over-requires-clause-links_le_max_links c =
-    omega (arith, c.links_with-links.ensures, links-few c.args.plan.now.plant c.requires.is_plan.laying.charted.sound c.args.switch c.requires.switch_lt_switches)
+    omega (arith, c.links_with-links.ensures, links-few c.args.plan.now.network.ends.plant c.args.plan.now.network.ends.sound c.args.switch c.requires)
 
 pub returns : goal.returns
 unfolding probe_in

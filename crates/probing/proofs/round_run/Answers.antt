@@ -5,13 +5,13 @@ use Rattle.probing.specs.Calls.{round_in, round_running}
 use Rattle.probing.proofs.Lent.{planned_in}
 use Rattle.probing.proofs.round_run.Goals as goal
 
-pub round_in-requires-clause-switch_lt_switches : goal.round_in-requires-clause-switch_lt_switches
-round_in-requires-clause-switch_lt_switches c = planned_in _ _ _ c.in_ok-plan.ensures.plots
+pub round_in-requires : goal.round_in-requires
+round_in-requires c = planned_in _ _ _ c.in_ok-plan.ensures
 
 pub returns : goal.returns
 unfolding round_running
-returns c = try_given (planning_at _ _) (round_in _ _ _) _ _ c.in_ok-plan.ensures.plots c.round_in.ensures
+returns c = try_given (planning_at _ _) (round_in _ _ _) _ _ c.in_ok-plan.ensures c.round_in.ensures
 
 pub returns-in_err-plan : goal.returns-in_err-plan
 unfolding round_running
-returns-in_err-plan c = try_refused (planning_at _ _) (round_in _ _ _) _ _ _ c.from_residual.ensures.1 c.in_err-plan.ensures.plots
+returns-in_err-plan c = try_refused (planning_at _ _) (round_in _ _ _) _ _ _ c.from_residual.ensures.1 c.in_err-plan.ensures

@@ -5,13 +5,13 @@ use Rattle.probing.specs.Calls.{probe_in, probing}
 use Rattle.probing.proofs.Lent.{planned_in}
 use Rattle.probing.proofs.run_probe.Goals as goal
 
-pub probe_in-requires-clause-switch_lt_switches : goal.probe_in-requires-clause-switch_lt_switches
-probe_in-requires-clause-switch_lt_switches c = planned_in _ _ _ c.in_ok-plan.ensures.plots
+pub probe_in-requires : goal.probe_in-requires
+probe_in-requires c = planned_in _ _ _ c.in_ok-plan.ensures
 
 pub returns : goal.returns
 unfolding probing
-returns c = try_given (planning_at _ _) (probe_in _ _ _ _) _ _ c.in_ok-plan.ensures.plots c.probe_in.ensures
+returns c = try_given (planning_at _ _) (probe_in _ _ _ _) _ _ c.in_ok-plan.ensures c.probe_in.ensures
 
 pub returns-in_err-plan : goal.returns-in_err-plan
 unfolding probing
-returns-in_err-plan c = try_refused (planning_at _ _) (probe_in _ _ _ _) _ _ _ c.from_residual.ensures.1 c.in_err-plan.ensures.plots
+returns-in_err-plan c = try_refused (planning_at _ _) (probe_in _ _ _ _) _ _ _ c.from_residual.ensures.1 c.in_err-plan.ensures
