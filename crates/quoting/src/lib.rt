@@ -11,7 +11,7 @@ use answers::{Refusal, judge_room};
 use arcs::ArcEnds;
 use planning::Plan;
 use senders::BySwitch;
-use sheet::Sheet;
+use sheet::{Quote, Sheet};
 
 // The counts of a plant with these rules, for an order quantity.
 fn sheet_of(ends: &ArcEnds, rules: BySwitch, quantity: u32) -> Sheet
@@ -46,6 +46,6 @@ pub fn put_page(x: &Plan, spare: u8, buffer: &mut [u8]) -> Result<usize, Refusal
     let counts = price(x, spare)?;
     let n = sheet::page_length(x.network.ends.plant.switches);
     judge_room(n, buffer.len(), Refusal::BuyingPageUnfit)?;
-    sheet::put_page(counts, buffer);
+    sheet::put_page(&Quote { sheet: counts }, buffer);
     Ok(n)
 }

@@ -21,16 +21,13 @@ pub returns-in_err-judge_room-clause-buffer_now : goal.returns-in_err-judge_room
 returns-in_err-judge_room-clause-buffer_now c =
     sym (out-kept c.args.x.now.network.ends.plant c.args.spare c.args.buffer.now _ (room_refused c.args.x.now.network.ends.plant c.args.spare c.args.buffer.now _ c.price.ensures _ c.in_ok-counts.was _ c.page_length-n.ensures _ c.judge_room.ensures _ c.in_err-judge_room.was))
 
-pub put_page-requires-clause-three_digits : goal.put_page-requires-clause-three_digits
-put_page-requires-clause-three_digits c =
-    (priced_shown c.args.x.now.network.ends.plant c.args.x.now.network.ends.sound c.args.spare _ (priced c.args.x.now.network.ends.plant c.args.spare c.args.buffer.now _ c.price.ensures _ c.in_ok-counts.was)).digits
+pub invariant_of-put_page : goal.invariant_of-put_page
+invariant_of-put_page c =
+    let w = priced_shown c.args.x.now.network.ends.plant c.args.x.now.network.ends.sound c.args.spare _ (priced c.args.x.now.network.ends.plant c.args.spare c.args.buffer.now _ c.price.ensures _ c.in_ok-counts.was) in
+    record { few = w.few; three_digits = w.digits; }
 
-pub put_page-requires-clause-switches_le_max_switches : goal.put_page-requires-clause-switches_le_max_switches
-put_page-requires-clause-switches_le_max_switches c =
-    (priced_shown c.args.x.now.network.ends.plant c.args.x.now.network.ends.sound c.args.spare _ (priced c.args.x.now.network.ends.plant c.args.spare c.args.buffer.now _ c.price.ensures _ c.in_ok-counts.was)).few
-
-pub put_page-requires-clause-s_in_bounds : goal.put_page-requires-clause-s_in_bounds
-put_page-requires-clause-s_in_bounds c = room-enough c.args.x.now.network.ends.plant c.args.spare c.args.buffer.now _ c.price.ensures _ c.in_ok-counts.was _ c.page_length-n.ensures _ c.judge_room.ensures _ c.in_ok-judge_room.was
+pub put_page-requires : goal.put_page-requires
+put_page-requires c = room-enough c.args.x.now.network.ends.plant c.args.spare c.args.buffer.now _ c.price.ensures _ c.in_ok-counts.was _ c.page_length-n.ensures _ c.judge_room.ensures _ c.in_ok-judge_room.was
 
 pub returns-clause-result_value : goal.returns-clause-result_value
 returns-clause-result_value c = sym (quote_given c.args.x.now.network.ends.plant c.args.spare c.args.buffer.now _ c.price.ensures _ c.in_ok-counts.was _ c.page_length-n.ensures _ c.judge_room.ensures _ c.in_ok-judge_room.was)

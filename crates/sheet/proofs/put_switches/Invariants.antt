@@ -6,4 +6,4 @@ use Rattle.sheet.specs.Page.{switch_line}
 use Rattle.sheet.proofs.put_switches.Given as goal
 
 abbrev pub invariant-loop-x : goal.invariant-loop-x
-invariant-loop-x l = Laid l.fn.buf 0 (each (switch_line l.fn.s) (range 0 l.x)) l.buf l.next
+invariant-loop-x l = Laid l.fn.buf 0 (each (switch_line l.fn.quote.sheet) (range 0 l.x)) l.buf l.next
