@@ -66,7 +66,7 @@ fn number_at(s: &[u8], at: usize, width: usize) -> u32
     n
 }
 
-// The field that stands at `at`, by its bit.
+// The field that stands at `at`, by its bit. It is one field alone, so its width is said here.
 #[tactic(auto, unfolding(crate::specs::Part::taken, crate::specs::Part::value_of, crate::specs::Part::redundant))]
 fn read_field(s: &[u8], at: usize, bit: usize, f: Field) -> Found
     requires { (f.width ≤ 4) × (at + 4 < 2 ^ 64) }
@@ -89,7 +89,7 @@ fn read_field(s: &[u8], at: usize, bit: usize, f: Field) -> Found
     }
 }
 
-// The bytes that a field takes, by its bit.
+// The bytes that a field takes, by its bit. It is one field alone, so its width is said here.
 #[tactic(auto, unfolding(crate::specs::Part::taken))]
 fn taken_by(f: Field, bit: usize) -> usize
     requires { f.width ≤ 4 }

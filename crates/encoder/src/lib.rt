@@ -15,7 +15,7 @@ fn field_bit(f: Field, value: u32) -> u8
     if value == f.absent { 0 } else { 1 }
 }
 
-// The map of a part with these values.
+// The map of a part with these values: a byte has eight bits.
 fn part_map<const N: usize>(fields: &[Field; N], values: &[u32; N]) -> u8
     requires { N ≤ 8 }
     ensures { result ≡ map_of fields.now values.now }
