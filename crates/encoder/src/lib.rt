@@ -44,7 +44,7 @@ fn put_number(buf: &mut [u8], at: usize, width: usize, value: u32)
     let mut v = value;
     for i in 0..width {
         buf[at + i] = (v % 256) as u8;
-        v /= 256;
+        v = v / 256;
     }
 }
 
