@@ -46,8 +46,8 @@ pub struct Components {
     pub list: [Component; Plant::PLACES],
 }
 
-// The plan of a plant: its network from its start, which holds the plant, how many components there are, their roots, the component of each switch, the bridges, the arcs in use, the legs of
-// the trail of each component, the components with their hops, and the hops of all. Each is what the definitions say of the plant.
+// The plan of a plant: its network from its start, which holds the plant, how many components there are, their roots, the component of each switch, the bridges, the arcs in
+// use, the legs of the trail of each component, the components with their hops, and the hops of all. Each is what the definitions say of the plant.
 #[derive(Clone, Copy)]
 pub struct Plan {
     pub network: Network,

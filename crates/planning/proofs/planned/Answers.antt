@@ -38,6 +38,3 @@ invariant_of-result-clause-legs_are c =
     let finds = found _ _ c.find-f.ensures n c.network_of-network.ensures.ends_value in
     let whole = c.network_of-network.ensures.network_is in
     legs_by n _ finds whole _ (roots-are n _ finds whole _ c.from.ensures (omega arith)) _ c.legs_of-legs.ensures
-
-pub invariant_of-result-clause-measured : goal.invariant_of-result-clause-measured
-invariant_of-result-clause-measured c = record { components_are = c.measured-hops.ensures.components_are; hops_are = c.measured-hops.ensures.hops_are }
