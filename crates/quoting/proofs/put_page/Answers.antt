@@ -24,7 +24,7 @@ returns-in_err-judge_room-clause-buffer_now c =
 pub invariant_of-put_page : goal.invariant_of-put_page
 invariant_of-put_page c =
     let w = priced_shown c.args.x.now.network.ends.plant c.args.x.now.network.ends.sound c.args.spare _ (priced c.args.x.now.network.ends.plant c.args.spare c.args.buffer.now _ c.price.ensures _ c.in_ok-counts.was) in
-    record { few = w.few; three_digits = w.digits; }
+    record { few = w.few; three_digits = w.digits }
 
 pub put_page-requires : goal.put_page-requires
 put_page-requires c = room-enough c.args.x.now.network.ends.plant c.args.spare c.args.buffer.now _ c.price.ensures _ c.in_ok-counts.was _ c.page_length-n.ensures _ c.judge_room.ensures _ c.in_ok-judge_room.was
