@@ -4,7 +4,7 @@ use Prim.Native.Nat.{ℕ}
 use Rattle.plant.specs.declared.Plant.{Plant}
 use Rattle.answers.specs.Answers.{given}
 use Rattle.answers.specs.Checks.{answer}
-use Rattle.answers.proofs.Checks.{given-given}
+use Rattle.answers.proofs.Checks.{given-given, given-refused}
 use Rattle.senders.specs.declared.BySwitch.{BySwitch}
 use Rattle.senders.specs.Senders.{by_switch}
 use Rattle.senders.specs.Placed.{Placed}
@@ -29,6 +29,9 @@ by_switch-rules-requires c = subst Placed (sym c.table_of-table.ensures) (placed
 pub returns-in_err-plan-clause-counts : goal.returns-in_err-plan-clause-counts
 unfolding tabling counting
 returns-in_err-plan-clause-counts c = plan_refusing _ (λ p. by_switch (table_of p)) _ c.in_err-plan.ensures _ c.from_residual.ensures.1
+
+pub returns-in_err-plan-clause-adds_up : goal.returns-in_err-plan-clause-adds_up
+returns-in_err-plan-clause-adds_up c = λ p g. absurd (given-refused p _ (sym (c.in_err-plan.ensures ∙ g)))
 
 pub returns-clause-counts : goal.returns-clause-counts
 unfolding tabling counting
