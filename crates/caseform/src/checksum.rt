@@ -1,5 +1,6 @@
 // The checksum of a list of numbers: 0, and then for each number v in turn (31 h + v + 1) mod 65521. And what a lent buffer holds before the call.
 ghost use Rattle.std.specs.Prelude.{◌≡◌, ◌≤◌, length, take};
+ghost use Rattle.caseform.specs.Checksum.{ChecksumOf, FilledBy, held_before, one_more};
 
 use plant::{Link, Plant};
 use table::{Rule, Table};
@@ -10,16 +11,22 @@ const MODULUS: u32 = 65521;
 const MARK: u16 = 255;
 
 // The checksum with one number more.
-pub fn with(h: u32, v: u16) -> u32 {
+pub fn with(h: u32, v: u16) -> u32
+    ensures { result ≡ one_more h v }
+{
     (h % MODULUS * 31 + u32::from(v) + 1) % MODULUS
 }
 
 // The checksum of what h is the checksum of, and then the numbers.
-pub fn with_all<T: Copy + Into<u16>>(h: u32, numbers: &[T]) -> u32 {
+pub fn with_all<T: Copy + Into<u16>>(h: u32, numbers: &[T]) -> u32
+    ensures { ChecksumOf T.Into.converts h numbers.now result }
+{
     numbers.iter().fold(h, |h, v| with(h, (*v).into()))
 }
 
-pub fn of<T: Copy + Into<u16>>(numbers: &[T]) -> u32 {
+pub fn of<T: Copy + Into<u16>>(numbers: &[T]) -> u32
+    ensures { ChecksumOf T.Into.converts 0 numbers.now result }
+{
     with_all(0, numbers)
 }
 
@@ -67,11 +74,15 @@ fn with_rule(h: u32, r: Rule) -> u32 {
 }
 
 // What a place of a lent buffer holds before the call.
-fn before(i: usize) -> u8 {
+fn before(i: usize) -> u8
+    ensures { result ≡ held_before i }
+{
     ((i % 251 * 7 + 3) % 251) as u8
 }
 
-pub fn fill<T: Copy + From<u8>>(buffer: &mut [T]) {
+pub fn fill<T: Copy + From<u8>>(buffer: &mut [T])
+    ensures { FilledBy (λ i x. T.From.from_gives (held_before i) x) buffer.new }
+{
     for (i, place) in buffer.iter_mut().enumerate() {
         *place = T::from(before(i));
     }

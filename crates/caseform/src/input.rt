@@ -14,7 +14,9 @@ pub struct Input<'a> {
 }
 
 impl<'a> Input<'a> {
-    pub fn new(bytes: &'a [u8]) -> Input<'a> {
+    pub fn new(bytes: &'a [u8]) -> Input<'a>
+        ensures { result.rest.now ≡ bytes.now }
+    {
         Input { rest: bytes }
     }
 
@@ -60,7 +62,9 @@ impl<'a> Input<'a> {
     }
 
     // A set of eight bytes, low byte first.
-    pub fn set(&mut self) -> u64 {
+    pub fn set(&mut self) -> u64
+        ensures rest { self.new.rest.now ≡ drop 8 self.old.rest.now }
+    {
         let mut bytes = [0; 8];
         for byte in &mut bytes {
             *byte = self.byte();

@@ -1,6 +1,8 @@
 // Writes parts of a line. What was written before stays, also after an error.
-ghost use Rattle.std.specs.Prelude.{OnOk, OnErr, decimal};
+ghost use Rattle.std.specs.Prelude.{IfErr, OnOk, OnErr, decimal, length};
 ghost use Rattle.std.specs.Io.KnownBytes.{Appends};
+ghost use Rattle.caseform.specs.Checksum.{ChecksumOf};
+ghost use Rattle.caseform.specs.Shown.{refused, sized, spaced};
 ghost use Rattle.streams.specs.Streams.{AppendsFront, Grows};
 
 use crate::checksum;
@@ -30,7 +32,9 @@ pub fn number<W: Write>(out: &mut W, n: u64) -> io::Result<()>
 
 // Numbers, each after a space.
 pub fn spaced<W: Write>(out: &mut W, numbers: &[u64]) -> io::Result<()>
-    ensures { Grows (W.contents out.old) (W.contents out.new) }
+    ensures ok { OnOk result (Appends (W.contents out.old) (W.contents out.new) (spaced numbers.now)) }
+    ensures err { OnErr result (AppendsFront (W.contents out.old) (W.contents out.new) (spaced numbers.now)) }
+    ensures grows { Grows (W.contents out.old) (W.contents out.new) }
 {
     for n in numbers {
         word(out, b" ")?;
@@ -41,7 +45,9 @@ pub fn spaced<W: Write>(out: &mut W, numbers: &[u64]) -> io::Result<()>
 
 // A list of so many numbers with this checksum.
 pub fn sized<W: Write>(out: &mut W, count: u64, checksum: u32) -> io::Result<()>
-    ensures { Grows (W.contents out.old) (W.contents out.new) }
+    ensures ok { OnOk result (Appends (W.contents out.old) (W.contents out.new) (sized count checksum)) }
+    ensures err { OnErr result (AppendsFront (W.contents out.old) (W.contents out.new) (sized count checksum)) }
+    ensures grows { Grows (W.contents out.old) (W.contents out.new) }
 {
     number(out, count)?;
     word(out, b":")?;
@@ -50,13 +56,17 @@ pub fn sized<W: Write>(out: &mut W, count: u64, checksum: u32) -> io::Result<()>
 
 // A list of numbers, by its checksum.
 pub fn list<W: Write, T: Copy + Into<u16>>(out: &mut W, numbers: &[T]) -> io::Result<()>
-    ensures { Grows (W.contents out.old) (W.contents out.new) }
+    ensures shown { (h : _) × ChecksumOf T.Into.converts 0 numbers.now h × OnOk result (Appends (W.contents out.old) (W.contents out.new) (sized (length numbers.now) h))
+        × OnErr result (AppendsFront (W.contents out.old) (W.contents out.new) (sized (length numbers.now) h)) }
+    ensures grows { Grows (W.contents out.old) (W.contents out.new) }
 {
     sized(out, numbers.len() as u64, checksum::of(numbers))
 }
 
 fn refusal<W: Write>(out: &mut W, k: Refusal) -> io::Result<()>
-    ensures { Grows (W.contents out.old) (W.contents out.new) }
+    ensures ok { OnOk result (Appends (W.contents out.old) (W.contents out.new) (refused k)) }
+    ensures err { OnErr result (AppendsFront (W.contents out.old) (W.contents out.new) (refused k)) }
+    ensures grows { Grows (W.contents out.old) (W.contents out.new) }
 {
     word(out, b"refused")?;
     spaced(out, &[u64::from(k.number())])
@@ -70,7 +80,8 @@ pub fn answer<W: Write, T, F: FnOnce(&mut W, T) -> io::Result<()>>(
 ) -> io::Result<()>
     requires callable { F.IsAlwaysCallable show }
     requires grows { (w : _) (x : T) (r : _) (after : _) → F.post show w x r after → Grows (W.contents w.now) (W.contents after.now) }
-    ensures { Grows (W.contents out.old) (W.contents out.new) }
+    ensures refused { IfErr answer (λ k. OnOk result (Appends (W.contents out.old) (W.contents out.new) (refused k))) }
+    ensures grows { Grows (W.contents out.old) (W.contents out.new) }
 {
     match answer {
         Ok(x) => show(out, x),
