@@ -1,5 +1,6 @@
 // The arguments of a case, read one after the other. What lies past the end of the input counts as zeros.
 ghost use Rattle.std.specs.Prelude.{◌≡◌, ◌+◌, ◌*◌, ◌≤◌, [], length, get_or, slice_get, take, drop};
+ghost use Rattle.std.specs.Int.{from_le_bytes, w64};
 
 use plant::{Link, Plant};
 use search::{Outcome, Search};
@@ -63,6 +64,7 @@ impl<'a> Input<'a> {
 
     // A set of eight bytes, low byte first.
     pub fn set(&mut self) -> u64
+        ensures number { result ≡ from_le_bytes w64 self.old.rest.now }
         ensures rest { self.new.rest.now ≡ drop 8 self.old.rest.now }
     {
         let mut bytes = [0; 8];
