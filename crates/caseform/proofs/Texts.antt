@@ -50,16 +50,16 @@ spaced_more a b c d xs i h before space number =
     let n = get_or xs i 0 in
     let one = ap (λ l. spaced (take i xs) ++ (32 ∷ l)) (append-nil (decimal n)) in
     subst (Appends a d) (sym (ap spaced (take_more xs i 0 h) ∙ spaced_append (take i xs) (n ∷ []) ∙ one))
-        (Appends-trans a b d (spaced (take i xs)) (32 ∷ decimal n) before (Appends-trans b c d (32 ∷ []) (decimal n) space number))
+    (Appends-trans a b d (spaced (take i xs)) (32 ∷ decimal n) before (Appends-trans b c d (32 ∷ []) (decimal n) space number))
 
 pub space_fails : (a b c : Option (List ℕ)) (xs : List ℕ) (i : ℕ) → i < length xs → Appends a b (spaced (take i xs)) → AppendsFront b c (32 ∷ [])
     → AppendsFront a c (spaced xs)
 space_fails a b c xs i h before space =
     subst (λ l. AppendsFront a c l) (sym (spaced_split xs i h))
-        (front_after a b c (spaced (take i xs)) _ before (front_more b c (32 ∷ []) (decimal (get_or xs i 0) ++ spaced (drop (i + 1) xs)) space))
+    (front_after a b c (spaced (take i xs)) _ before (front_more b c (32 ∷ []) (decimal (get_or xs i 0) ++ spaced (drop (i + 1) xs)) space))
 
 pub number_fails : (a b c d : Option (List ℕ)) (xs : List ℕ) (i : ℕ) → i < length xs → Appends a b (spaced (take i xs)) → Appends b c (32 ∷ [])
     → AppendsFront c d (decimal (get_or xs i 0)) → AppendsFront a d (spaced xs)
 number_fails a b c d xs i h before space number =
     subst (λ l. AppendsFront a d l) (sym (spaced_split xs i h))
-        (front_after a b d (spaced (take i xs)) _ before (front_after b c d (32 ∷ []) _ space (front_more c d _ (spaced (drop (i + 1) xs)) number)))
+    (front_after a b d (spaced (take i xs)) _ before (front_after b c d (32 ∷ []) _ space (front_more c d _ (spaced (drop (i + 1) xs)) number)))

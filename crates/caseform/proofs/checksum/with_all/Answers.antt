@@ -6,5 +6,5 @@ use Rattle.caseform.proofs.checksum.with_all.Goals as goal
 pub returns : goal.returns
 returns g c = subst (λ l. ChecksumOf g.T.Into.converts c.args.h l c.fold.result) c.iter.ensures.rest
     (fold_over fronts (λ y. y.now) _ (λ xs r. ChecksumOf g.T.Into.converts c.args.h xs r) _
-        (λ xs a x b f' j k. (FoldsTo-push _ _ _ _ _ _ j (search rules), search rules))
-        _ _ _ _ (slice_gives c.iter.result) refl c.fold.ensures.ran)
+    (λ xs a x b f' j k. (FoldsTo-push _ _ _ _ _ _ j (search rules), search rules))
+    _ _ _ _ (slice_gives c.iter.result) refl c.fold.ensures.ran)

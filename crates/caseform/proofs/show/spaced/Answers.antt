@@ -24,6 +24,7 @@ pub returns-in_err-number-clause-grows : goal.returns-in_err-number-clause-grows
 returns-in_err-number-clause-grows g c = search (rules, grows_twice)
 
 pub loop-n-preserved : goal.loop-n-preserved
-loop-n-preserved g c =
-    (spaced_more _ _ _ _ c.args.numbers.now c.loop-n.n-index (search rules) c.loop-n.invariant.0 c.in_ok-word.ensures.ok c.in_ok-number.ensures.ok,
-        search (rules, grows_twice))
+loop-n-preserved g c = (
+  spaced_more _ _ _ _ c.args.numbers.now c.loop-n.n-index (search rules) c.loop-n.invariant.0 c.in_ok-word.ensures.ok c.in_ok-number.ensures.ok,
+  search (rules, grows_twice),
+)
