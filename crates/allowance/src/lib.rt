@@ -4,6 +4,7 @@
 ghost use Rattle.std.specs.Prelude.{◌≡◌};
 ghost use Rattle.allowance.specs.Allowance.{allowance};
 
+// The loop reads as the definition does: it ends at the first k that is enough.
 pub fn allowance(links: u16) -> u8
     ensures { result ≡ allowance links }
 {

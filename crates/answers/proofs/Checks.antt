@@ -6,13 +6,8 @@ use mathlib.Core.Bool.{Bool, true, false}
 use mathlib.Core.List.{List, [], ◌∷◌, ◌++◌}
 use Prim.Native.Nat.{ℕ}
 use native.Mathlib.Omega.{arith}
-use Rattle.answers.specs.Answers.{Answer, given, refused, refuse, ◌>>=◌, number_of}
-use Rattle.answers.specs.Verdicts.{verdict_answer, first_of}
+use Rattle.answers.specs.Answers.{Answer, given, refused, refuse, ◌>>=◌}
 use Rattle.answers.specs.Checks.{Conditions, NoneHolds, FirstHolds, trying, Checked, answer, ◌then◌, ◌giving◌, leaves}
-use Rattle.answers.specs.Verdicts.{Judges}
-use Rattle.answers.specs.declared.Refusal.{Refusal}
-use Rattle.answers.specs.declared.Verdict.{Verdict}
-use Rattle.answers.specs.declared.Verdict.TheVariants as verdict
 
 pub given-refused : {A : Type 0} (a : A) (n : ℕ) → given a ≡ refused n → ⊥
 given-refused a n e = let z : ◌≡◌ {A = ℕ} 0 1 = cc in omega arith
@@ -77,7 +72,7 @@ pub none-trying : {A : Type 0} (cs : Conditions) (a : Answer A) → NoneHolds cs
 none-trying [] a h = refl
 none-trying (c ∷ cs) a h = rw h.0 (none-trying cs a h.1)
 
-first-trying : {A : Type 0} (n : ℕ) (before after : Conditions) (a : Answer A) → NoneHolds before → trying (before ++ (n, true) ∷ after) a ≡ refused n
+pub first-trying : {A : Type 0} (n : ℕ) (before after : Conditions) (a : Answer A) → NoneHolds before → trying (before ++ (n, true) ∷ after) a ≡ refused n
 first-trying n before after a h = trying-append before ((n, true) ∷ after) a ∙ none-trying before (refused n) h
 
 trying-given : {A : Type 0} (cs : Conditions) (a : Answer A) (b : A) → trying cs a ≡ given b → NoneHolds cs × (a ≡ given b)
@@ -174,22 +169,3 @@ module _ {A B : Type 0} (c : Checked A) (f : A → B) where
 -- a refusal leaves what is lent as it was
 pub left-kept : {A B : Type 0} (f : A → B) (b : B) (a : Answer A) (n : ℕ) → a ≡ refused n → leaves f b a ≡ b
 left-kept f b a n e = rw e refl
-
--- ---- a verdict
-
-module _ (cs : Conditions) (v : Verdict) (j : Judges cs v) where
-  -- none of the conditions holds where it says accepted, and what comes after them is the answer
-  pub none_judged : v ≡ verdict.Accepted → NoneHolds cs
-  none_judged e = ((given-exactly cs tt tt).0 (sym j.first ∙ ap verdict_answer e)).0
-
-  pub passed : {A : Type 0} (a : Answer A) → v ≡ verdict.Accepted → trying cs a ≡ a
-  passed a e = none-trying cs a (none_judged e)
-
-  -- and where it says refused, that refusal is
-  pub turned_down : {A : Type 0} (a : Answer A) (k : Refusal) → v ≡ verdict.Refused k → trying cs a ≡ refused (number_of k)
-  turned_down a k e = let f = (refused-exactly cs tt (number_of k)).0 (sym j.first ∙ ap verdict_answer e) in rw f.tried (first-trying (number_of k) f.before f.after a f.none_before)
-
--- of two verdicts, the first that refuses is that of the conditions of both, one after the other
-pub first_judges : (cs ds : Conditions) (v w : Verdict) → Judges cs v → Judges ds w → Judges (cs ++ ds) (first_of v w)
-first_judges cs ds verdict.Accepted w j k = record { first = k.first ∙ sym (trying-append cs ds (given tt) ∙ passed cs verdict.Accepted j (trying ds (given tt)) refl) }
-first_judges cs ds (verdict.Refused n) w j k = record { first = sym (trying-append cs ds (given tt) ∙ turned_down cs (verdict.Refused n) j (trying ds (given tt)) n refl) }

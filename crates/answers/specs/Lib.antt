@@ -1,4 +1,4 @@
 pub mod Answers
-pub mod Verdicts
+pub mod Results
 pub mod Checks
 pub mod Tables

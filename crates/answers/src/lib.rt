@@ -1,13 +1,12 @@
-// What a call answers: the refusals by name, and the verdict that stands beside a value or is on a lent buffer.
+// What a call answers where it gives no result: the refusals by name, and the test of one condition.
 #![tactic(auto)]
 
 ghost use Rattle.std.specs.Prelude.{◌≡◌, ◌∷◌, [], ltb};
 ghost use Rattle.answers.specs.Answers.{number_of};
-ghost use Rattle.answers.specs.Verdicts.{first_of};
-ghost use Rattle.answers.specs.Verdicts.{Judges};
+ghost use Rattle.answers.specs.Results.{Judges};
 
 // The refusals, in the order of their numbers, 1 to 21. Each is named after its condition. The number 9 is unused: no call refuses a plant in several components.
-#[derive(Clone, Copy)]
+#[derive(Clone, Copy, Debug, PartialEq, Eq, Hash)]
 pub enum Refusal {
     MapMissing,
     MapUndefined,
@@ -60,35 +59,18 @@ impl Refusal {
     }
 }
 
-// Whether a call was accepted, beside the value that it answers.
-#[derive(Clone, Copy)]
-pub enum Verdict {
-    Accepted,
-    Refused(Refusal),
-}
-
-// Two verdicts, the one tried before the other: the refusal of the first that refuses.
-pub fn first_of(v: Verdict, w: Verdict) -> Verdict
-    ensures { result ≡ first_of v w }
-{
-    match v {
-        Verdict::Accepted => w,
-        Verdict::Refused(k) => Verdict::Refused(k),
-    }
-}
-
-// The verdict of one condition: this refusal if it holds.
-pub fn judge(holds: bool, k: Refusal) -> Verdict
+// Refused with this if the condition holds.
+pub fn judge(holds: bool, k: Refusal) -> Result<(), Refusal>
     ensures { Judges ((number_of k, holds) ∷ []) result }
 {
     if holds {
-        return Verdict::Refused(k);
+        return Err(k);
     }
-    Verdict::Accepted
+    Ok(())
 }
 
-// The verdict on a lent buffer with this length, where so many bytes are to be laid: this refusal if it is shorter.
-pub fn judge_room(size: usize, room: usize, k: Refusal) -> Verdict
+// A lent buffer with this length, where so many bytes are to be laid: refused with this if it is shorter.
+pub fn judge_room(size: usize, room: usize, k: Refusal) -> Result<(), Refusal>
     ensures { Judges ((number_of k, ltb room size) ∷ []) result }
 {
     judge(room < size, k)

@@ -6,3 +6,4 @@ pub mod Entries
 pub mod Ways
 pub mod Ends
 pub mod Entered
+pub mod Made

@@ -10,6 +10,7 @@ ghost use Rattle.walks.specs.Arcs.{opposite};
 ghost use Rattle.walks.specs.Graph.{live_links};
 ghost use Rattle.arcs.specs.Net.{rooted, Ends, AllArcs};
 ghost use Rattle.arcs.specs.Chains.{Chained, TailsIn};
+ghost use Rattle.arcs.specs.Shows.{TellsAll};
 
 use plant::{Plant, head_of, in_service, tail_of};
 
@@ -21,18 +22,31 @@ pub struct Net {
     pub root: u8,
 }
 
-// The tails and the heads of the arcs, by their labels.
+// A sound plant, and the tails and the heads of its arcs, by their labels.
 #[derive(Clone, Copy)]
 pub struct ArcEnds {
+    pub plant: Plant,
     pub tails: [u8; Plant::LABELS],
     pub heads: [u8; Plant::LABELS],
+    pub ghost sound: { Sound plant },
+    pub ghost ends: { Ends plant tails heads },
 }
 
-// The first arc of each switch, and after each arc the next of the same switch, by rising label. The number of labels stands for none.
+// The first arc of each switch, and after each arc the next of the same switch, by rising label. The number of labels stands for none, as in the chains' definition
+// (specs/Chains.antt): a label from there on ends a chain.
 #[derive(Clone, Copy)]
 pub struct Chains {
     pub first: [u16; Plant::PLACES],
     pub after: [u16; Plant::LABELS],
+}
+
+// A network as the functions of the trail take it: its sizes, the ends of its arcs, the chains of its arcs in use, and the fewest hops over these from each switch to each.
+#[derive(Clone, Copy)]
+pub struct Network {
+    pub net: Net,
+    pub ends: ArcEnds,
+    pub chains: Chains,
+    pub hops: [[u8; Plant::PLACES]; Plant::PLACES],
 }
 
 // How far a visit from `root` has come: `next` switches are visited, `seen` tells which, `rank` numbers them from 0 in the order of the visit, and `entered` tells
@@ -44,6 +58,14 @@ pub struct Visited {
     pub seen: [bool; Plant::PLACES],
     pub rank: [u8; Plant::PLACES],
     pub entered: [bool; Plant::MAX_LINKS],
+}
+
+// What the visits from the roots of all components tell together, beside the ends of the arcs that they went over.
+#[derive(Clone, Copy)]
+pub struct AllVisited<'a> {
+    pub ends: &'a ArcEnds,
+    pub visited: Visited,
+    pub ghost tells_all: { TellsAll ends.now.plant visited },
 }
 
 // The legs of a trail: the arcs that they cross at their ends stand in an array from place `from` to before place `to`, and the whole trail has `hops` hops. The last leg, back to
@@ -66,59 +88,49 @@ pub struct AllLegs {
 pub fn net_from(net: Net, root: u8) -> Net
     ensures { result ≡ rooted net root }
 {
-    Net {
-        switches: net.switches,
-        labels: net.labels,
-        root,
-    }
+    Net { root, ..net }
 }
 
 // The switch that each arc leaves, and the one that it reaches.
 pub fn ends_of(p: Plant) -> ArcEnds
     requires { Sound p }
-    ensures { Ends p result.tails result.heads }
+    ensures { result.plant ≡ p }
 {
     let mut tails = [0u8; Plant::LABELS];
     let mut heads = [0u8; Plant::LABELS];
-    let n = 2 * p.count as usize;
-    let mut a: usize = 0;
-    while a < n {
+    for a in 0..2 * usize::from(p.count) {
         let l = p.links[a / 2];
         tails[a] = tail_of(l, a);
         heads[a] = head_of(l, a);
-        a += 1;
     }
-    ArcEnds { tails, heads }
+    ArcEnds {
+        plant: p,
+        tails,
+        heads,
+    }
 }
 
-// E, the number of links in service. What is no place of a plant has no mark.
+// E, the number of links in service. What is no place of a plant has no mark. By a loop, since a filter's count takes six times as long.
 pub fn links_in_service(p: Plant) -> u16
     ensures { result ≡ live_links p }
 {
-    let n = p.count;
     let mut e: u16 = 0;
-    let mut l: u16 = 0;
-    while l < n {
+    for l in 0..p.count {
         let i = l as usize;
         if Plant::MAX_LINKS <= i || in_service(p.links[i]) {
             e += 1;
         }
-        l += 1;
     }
     e
 }
 
 // A flag for each label: is its link in service?
-pub fn all_arcs(p: Plant) -> [bool; Plant::LABELS]
-    requires { Sound p }
-    ensures { AllArcs p result }
+pub fn all_arcs(ends: &ArcEnds) -> [bool; Plant::LABELS]
+    ensures { AllArcs ends.now.plant result }
 {
-    let n = 2 * p.count as usize;
     let mut r = [false; Plant::LABELS];
-    let mut a: usize = 0;
-    while a < n {
-        r[a] = in_service(p.links[a / 2]);
-        a += 1;
+    for a in 0..2 * usize::from(ends.plant.count) {
+        r[a] = in_service(ends.plant.links[a / 2]);
     }
     r
 }
@@ -138,11 +150,9 @@ pub fn chains_of(tails: &[u8; Plant::LABELS], flags: &[bool; Plant::LABELS], n: 
 {
     let mut first = [n; Plant::PLACES];
     let mut after = [n; Plant::LABELS];
-    let mut a = n as usize;
-    while 0 < a {
-        a -= 1;
+    for a in (0..usize::from(n)).rev() {
         if flags[a] {
-            let x = tails[a] as usize;
+            let x = usize::from(tails[a]);
             after[a] = first[x];
             first[x] = a as u16;
         }

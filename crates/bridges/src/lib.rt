@@ -5,143 +5,88 @@ ghost use Rattle.std.specs.Prelude.{◌≡◌, true, false, ◌+◌, ◌<◌};
 ghost use Rattle.lists.specs.Arrays.{at, flag};
 ghost use Rattle.plant.specs.Links.{live};
 ghost use Rattle.limits.specs.Limits.{max_links};
-ghost use Rattle.limits.specs.Sound.{Sound};
 ghost use Rattle.walks.specs.Graph.{bridge};
-ghost use Rattle.arcs.specs.Net.{Ends};
-ghost use Rattle.arcs.specs.Shows.{TellsAll};
 ghost use Rattle.arcs.specs.Flags.{Flags};
 ghost use Rattle.bridges.specs.Inner.{EntryLinks, Covered, across_of};
 
-use arcs::Visited;
+use arcs::{AllVisited, ArcEnds};
 use plant::{Plant, in_service};
+use std::array;
 
 // The link by which each switch was entered. Of the two ends of an entered link, the one with the higher number was entered by it.
-fn entry_links(
-    p: Plant,
-    tails: &[u8; Plant::LABELS],
-    heads: &[u8; Plant::LABELS],
-    v: Visited,
-) -> [usize; Plant::PLACES]
-    requires sound { Sound p }
-    requires ends { Ends p tails.now heads.now }
-    requires tells_all { TellsAll p v }
-    ensures { EntryLinks p max_links result }
+fn entry_links(all: &AllVisited) -> [usize; Plant::PLACES]
+    ensures { EntryLinks all.now.ends.now.plant max_links result }
 {
     let mut up = [0usize; Plant::PLACES];
-    let mut l: usize = 0;
-    while l < p.count as usize {
-        if v.entered[l] {
-            let x = tails[2 * l] as usize;
-            let y = heads[2 * l] as usize;
-            if v.rank[x] < v.rank[y] {
+    for l in 0..all.ends.plant.count as usize {
+        if all.visited.entered[l] {
+            let x = all.ends.tails[2 * l] as usize;
+            let y = all.ends.heads[2 * l] as usize;
+            if all.visited.rank[x] < all.visited.rank[y] {
                 up[y] = l;
             } else {
                 up[x] = l;
             }
         }
-        l += 1;
     }
     up
 }
 
 // The end of link l away from the switch `from`, which is one of its two.
-fn across(tails: &[u8; Plant::LABELS], heads: &[u8; Plant::LABELS], l: usize, from: u8) -> u8
+fn across(ends: &ArcEnds, l: usize, from: u8) -> u8
     requires { l < max_links }
-    ensures { result ≡ across_of (at tails.now) (at heads.now) l from }
+    ensures { result ≡ across_of (at ends.now.tails) (at ends.now.heads) l from }
 {
-    let x = tails[2 * l];
-    if x == from {
-        return heads[2 * l];
-    }
-    x
+    let x = ends.tails[2 * l];
+    if x == from { ends.heads[2 * l] } else { x }
 }
 
 // The flags of the links on a cycle, with those of the cycle that link k closes: it is in service and was not entered. From the two ends of k, the one with the higher
 // number goes back over the link by which it was entered, until the two meet. The sum of their numbers falls.
-fn climb(
-    p: Plant,
-    tails: &[u8; Plant::LABELS],
-    heads: &[u8; Plant::LABELS],
-    v: Visited,
-    up: &[usize; Plant::PLACES],
-    c: &mut [bool; Plant::MAX_LINKS],
-    k: usize,
-)
-    requires sound { Sound p }
-    requires ends { Ends p tails.now heads.now }
-    requires tells_all { TellsAll p v }
-    requires entry_links { EntryLinks p max_links up.now }
+fn climb(all: &AllVisited, up: &[usize; Plant::PLACES], c: &mut [bool; Plant::MAX_LINKS], k: usize)
+    requires entry_links { EntryLinks all.now.ends.now.plant max_links up.now }
     requires k_lt_max_links { k < max_links }
-    requires covered { Covered p k c.old }
-    requires in_service { live p k ≡ true }
-    requires not_entered { flag v.entered k ≡ false }
-    ensures { Covered p (k + 1) c.new }
+    requires covered { Covered all.now.ends.now.plant k c.old }
+    requires in_service { live all.now.ends.now.plant k ≡ true }
+    requires not_entered { flag all.now.visited.entered k ≡ false }
+    ensures { Covered all.now.ends.now.plant (k + 1) c.new }
 {
-    let mut x = tails[2 * k];
-    let mut y = heads[2 * k];
+    let mut x = all.ends.tails[2 * k];
+    let mut y = all.ends.heads[2 * k];
     while x != y {
         let i = x as usize;
         let j = y as usize;
-        if v.rank[i] < v.rank[j] {
+        if all.visited.rank[i] < all.visited.rank[j] {
             let l = up[j];
             c[l] = true;
-            y = across(tails, heads, l, y);
+            y = across(all.ends, l, y);
         } else {
             let l = up[i];
             c[l] = true;
-            x = across(tails, heads, l, x);
+            x = across(all.ends, l, x);
         }
     }
 }
 
 // A flag for each link: is it entered, and on a cycle that another link closes?
-fn covered_links(
-    p: Plant,
-    tails: &[u8; Plant::LABELS],
-    heads: &[u8; Plant::LABELS],
-    v: Visited,
-    up: &[usize; Plant::PLACES],
-) -> [bool; Plant::MAX_LINKS]
-    requires sound { Sound p }
-    requires ends { Ends p tails.now heads.now }
-    requires tells_all { TellsAll p v }
-    requires entry_links { EntryLinks p max_links up.now }
-    ensures { Covered p max_links result }
+fn covered_links(all: &AllVisited, up: &[usize; Plant::PLACES]) -> [bool; Plant::MAX_LINKS]
+    requires entry_links { EntryLinks all.now.ends.now.plant max_links up.now }
+    ensures { Covered all.now.ends.now.plant max_links result }
 {
     let mut c = [false; Plant::MAX_LINKS];
-    let n = p.count as usize;
-    let mut k: usize = 0;
-    while k < n {
-        if in_service(p.links[k]) {
-            if !v.entered[k] {
-                climb(p, tails, heads, v, up, &mut c, k);
-            }
+    for k in 0..all.ends.plant.count as usize {
+        if in_service(all.ends.plant.links[k]) && !all.visited.entered[k] {
+            climb(all, up, &mut c, k);
         }
-        k += 1;
     }
     c
 }
 
 // A flag for each link: is it a bridge? Such a link was entered, and is on no cycle.
-pub fn bridges_of(
-    p: Plant,
-    tails: &[u8; Plant::LABELS],
-    heads: &[u8; Plant::LABELS],
-    v: Visited,
-) -> [bool; Plant::MAX_LINKS]
-    requires sound { Sound p }
-    requires ends { Ends p tails.now heads.now }
-    requires tells_all { TellsAll p v }
-    ensures { Flags max_links (bridge p) result }
+pub fn bridges_of(all: &AllVisited) -> [bool; Plant::MAX_LINKS]
+    ensures { Flags max_links (bridge all.now.ends.now.plant) result }
 {
-    let up = entry_links(p, tails, heads, v);
-    let c = covered_links(p, tails, heads, v, &up);
-    let mut b = [false; Plant::MAX_LINKS];
-    let n = p.count as usize;
-    let mut l: usize = 0;
-    while l < n {
-        b[l] = v.entered[l] && !c[l];
-        l += 1;
-    }
-    b
+    let up = entry_links(all);
+    let c = covered_links(all, &up);
+    array::from_fn(|l| all.visited.entered[l] & !c[l])
 }

@@ -1,9 +1,9 @@
 // The checksum of a list of numbers: 0, and then for each number v in turn (31 h + v + 1) mod 65521. And what a lent buffer holds before the call.
-ghost use Rattle.std.specs.Prelude.{◌≤◌};
+ghost use Rattle.std.specs.Prelude.{◌≡◌, ◌≤◌, length, take};
+ghost use Rattle.caseform.specs.Checksum.{ChecksumOf, FilledBy, held_before, one_more};
 
-use order::Order;
 use plant::{Link, Plant};
-use table::Table;
+use table::{Rule, Table};
 
 const MODULUS: u32 = 65521;
 
@@ -11,133 +11,79 @@ const MODULUS: u32 = 65521;
 const MARK: u16 = 255;
 
 // The checksum with one number more.
-pub fn with(h: u32, v: u16) -> u32 {
-    (h % MODULUS * 31 + v as u32 + 1) % MODULUS
+pub fn with(h: u32, v: u16) -> u32
+    ensures { result ≡ one_more h v }
+{
+    (h % MODULUS * 31 + u32::from(v) + 1) % MODULUS
 }
 
-pub fn of_bytes(s: &[u8]) -> u32 {
-    let mut h: u32 = 0;
-    let mut i: usize = 0;
-    while i < s.len() {
-        h = with(h, s[i] as u16);
-        i += 1;
-    }
-    h
+// The checksum of what h is the checksum of, and then the numbers.
+pub fn with_all<T: Copy + Into<u16>>(h: u32, numbers: &[T]) -> u32
+    ensures { ChecksumOf T.Into.converts h numbers.now result }
+{
+    numbers.iter().fold(h, |h, v| with(h, (*v).into()))
 }
 
-// The checksum of what h is the checksum of, and then the labels.
-pub fn with_labels(h0: u32, s: &[u16]) -> u32 {
-    let mut h = h0;
-    let mut i: usize = 0;
-    while i < s.len() {
-        h = with(h, s[i]);
-        i += 1;
-    }
-    h
+pub fn of<T: Copy + Into<u16>>(numbers: &[T]) -> u32
+    ensures { ChecksumOf T.Into.converts 0 numbers.now result }
+{
+    with_all(0, numbers)
+}
+
+// The first n of a list, or all if there are fewer.
+pub fn front<T>(list: &[T], n: usize) -> &[T]
+    ensures { result.now ≡ take n list.now }
+{
+    &list[..n.min(list.len())]
 }
 
 // The checksum with first end, second end and tag of a link, and then with the number of the mark if it is out of service.
 fn with_link(h: u32, l: Link) -> u32 {
-    let k = with(with(with(h, l.first as u16), l.second as u16), l.tag);
+    let k = with_all(h, &[u16::from(l.first), u16::from(l.second), l.tag]);
     if l.out_of_service { with(k, MARK) } else { k }
 }
 
-// The numbers of each link.
-pub fn of_links(p: Plant) -> u32 {
-    let n = p.count as usize;
-    let mut h: u32 = 0;
-    let mut i: usize = 0;
-    while i < Plant::MAX_LINKS {
-        if i < n {
-            h = with_link(h, p.links[i]);
-        }
-        i += 1;
-    }
-    h
-}
-
-// How many numbers a link has.
-fn numbers_of(l: Link) -> u64
-    ensures { result ≤ 4 }
+// The links in use.
+fn links(p: &Plant) -> &[Link]
+    ensures { length result.now ≤ Plant.MAX_LINKS }
 {
-    if l.out_of_service {
-        return 4;
-    }
-    3
+    front(&p.links, usize::from(p.count))
 }
 
-// How many those of all links are.
-pub fn numbers_of_links(p: Plant) -> u64 {
-    let n = p.count as usize;
-    let mut k: u64 = 0;
-    let mut i: usize = 0;
-    while i < Plant::MAX_LINKS {
-        let more = numbers_of(p.links[i]);
-        if i < n {
-            k += more;
-        }
-        i += 1;
-    }
-    k
+// The numbers of each link.
+pub fn of_links(p: &Plant) -> u32 {
+    links(p).iter().fold(0, |h, l| with_link(h, *l))
 }
 
-// The first n flags.
-pub fn of_flags(flags: [bool; Plant::MAX_LINKS], n: usize) -> u32 {
-    let mut h: u32 = 0;
-    let mut i: usize = 0;
-    while i < Plant::MAX_LINKS {
-        if i < n {
-            h = with(h, flags[i] as u16);
-        }
-        i += 1;
-    }
-    h
+// How many those of all links are: three each, and the mark.
+pub fn numbers_of_links(p: &Plant) -> u64 {
+    let links = links(p);
+    let marks = links.iter().filter(|l| l.out_of_service).count();
+    3 * links.len() as u64 + marks as u64
 }
 
 // Sending switch, label and receiving switch of each rule.
-pub fn of_rules(t: Table) -> u32 {
-    let n = t.count as usize;
-    let mut h: u32 = 0;
-    let mut i: usize = 0;
-    while i < Plant::MAX_RULES {
-        if i < n {
-            let r = t.rules[i];
-            h = with(with(with(h, r.from as u16), r.label), r.to as u16);
-        }
-        i += 1;
-    }
-    h
+pub fn of_rules(t: &Table) -> u32 {
+    front(&t.rules, usize::from(t.count))
+        .iter()
+        .fold(0, |h, r| with_rule(h, *r))
 }
 
-// The first n labels, or all if there are fewer.
-fn front<'a>(s: &'a [u16], n: usize) -> &'a [u16] {
-    if s.len() < n {
-        return s;
-    }
-    &s[0..n]
-}
-
-pub fn of_order(o: Order) -> u32 {
-    with_labels(0, front(&o.links, o.count as usize))
+fn with_rule(h: u32, r: Rule) -> u32 {
+    with_all(h, &[u16::from(r.from), r.label, u16::from(r.to)])
 }
 
 // What a place of a lent buffer holds before the call.
-fn before(i: usize) -> u8 {
+fn before(i: usize) -> u8
+    ensures { result ≡ held_before i }
+{
     ((i % 251 * 7 + 3) % 251) as u8
 }
 
-pub fn fill_bytes(buffer: &mut [u8]) {
-    let mut i: usize = 0;
-    while i < buffer.len() {
-        buffer[i] = before(i);
-        i += 1;
-    }
-}
-
-pub fn fill_labels(buffer: &mut [u16]) {
-    let mut i: usize = 0;
-    while i < buffer.len() {
-        buffer[i] = before(i) as u16;
-        i += 1;
+pub fn fill<T: Copy + From<u8>>(buffer: &mut [T])
+    ensures { FilledBy (λ i x. T.From.from_gives (held_before i) x) buffer.new }
+{
+    for (i, place) in buffer.iter_mut().enumerate() {
+        *place = T::from(before(i));
     }
 }

@@ -1,210 +1,171 @@
-// The arguments of a case, at a place of the input. What lies past the end of the input counts as zeros, and a place past it as its end.
-ghost use Rattle.std.specs.Prelude.{◌≡◌, ◌+◌, ◌≤◌, length};
-ghost use Rattle.streams.specs.Streams.{IsPrefixLen};
+// The arguments of a case, read one after the other. What lies past the end of the input counts as zeros.
+ghost use Rattle.std.specs.Prelude.{◌≡◌, ◌+◌, ◌*◌, ◌≤◌, [], length, get_or, slice_get, take, drop};
+ghost use Rattle.std.specs.Int.{from_le_bytes, w64};
 
 use plant::{Link, Plant};
 use search::{Outcome, Search};
 
 // More than any two-byte number.
-const PLACES: usize = 256 * 256;
+pub const PLACES: usize = 256 * 256;
 
-// A place for each byte of a buffer.
-pub fn byte_places() -> [u8; PLACES]
-    ensures { PLACES ≡ length result }
-{
-    [0; PLACES]
+// What is left of the input.
+#[derive(Drop)]
+pub struct Input<'a> {
+    pub rest: &'a [u8],
 }
 
-// A place for each label of a list or a buffer.
-pub fn label_places() -> [u16; PLACES]
-    ensures { PLACES ≡ length result }
-{
-    [0; PLACES]
-}
-
-// Places for the labels of a packet that is longer than any list.
-pub fn packet_places() -> [u16; 2 * PLACES]
-    ensures { PLACES + PLACES ≡ length result }
-{
-    [0; 2 * PLACES]
-}
-
-// So many bytes on.
-pub fn past(s: &[u8], at: usize, n: usize) -> usize {
-    let all = s.len();
-    if all <= at {
-        return all;
+impl<'a> Input<'a> {
+    pub fn new(bytes: &'a [u8]) -> Input<'a>
+        ensures { result.rest.now ≡ bytes.now }
+    {
+        Input { rest: bytes }
     }
-    if all - at <= n {
-        return all;
+
+    // As many of n bytes as there are.
+    fn take(&mut self, n: usize) -> &'a [u8]
+        ensures taken { result.now ≡ take n self.old.rest.now }
+        ensures rest { self.new.rest.now ≡ drop n self.old.rest.now }
+    {
+        let (taken, rest) = self.rest.split_at(n.min(self.rest.len()));
+        self.rest = rest;
+        taken
     }
-    at + n
-}
 
-pub fn byte(s: &[u8], at: usize) -> u8 {
-    if at < s.len() {
-        return s[at];
+    // The next byte, if there is one: the call of a case.
+    pub fn next(&mut self) -> Option<u8>
+        ensures byte { result ≡ slice_get self.old.rest.now 0 }
+        ensures rest { self.new.rest.now ≡ drop 1 self.old.rest.now }
+    {
+        self.take(1).first().copied()
     }
-    0
-}
 
-// A number of two bytes, low byte first.
-pub fn number(s: &[u8], at: usize) -> u16 {
-    let low = byte(s, at) as u16;
-    let high = byte(s, past(s, at, 1)) as u16;
-    low + 256 * high
-}
-
-// As many of n bytes from a place on as there are.
-fn part<'a>(s: &'a [u8], at: usize, n: usize) -> &'a [u8] {
-    let all = s.len();
-    if all <= at {
-        return &s[..0];
+    // Nothing more is read.
+    pub fn end(&mut self)
+        ensures { self.new.rest.now ≡ [] }
+    {
+        self.rest = &[];
     }
-    if all - at <= n {
-        return &s[at..];
+
+    pub fn byte(&mut self) -> u8
+        ensures byte { result ≡ get_or self.old.rest.now 0 0 }
+        ensures rest { self.new.rest.now ≡ drop 1 self.old.rest.now }
+    {
+        self.next().unwrap_or(0)
     }
-    let to = at + n;
-    &s[at..to]
-}
 
-// A byte string: a two-byte length, and the bytes.
-pub fn string<'a>(s: &'a [u8], at: usize) -> &'a [u8] {
-    part(s, past(s, at, 2), number(s, at) as usize)
-}
+    // A number of two bytes, low byte first.
+    pub fn number(&mut self) -> u16
+        ensures number { result ≡ get_or self.old.rest.now 0 0 + 256 * get_or self.old.rest.now 1 0 }
+        ensures rest { self.new.rest.now ≡ drop 2 self.old.rest.now }
+    {
+        let low = u16::from(self.byte());
+        low + 256 * u16::from(self.byte())
+    }
 
-pub fn past_string(s: &[u8], at: usize) -> usize {
-    past(s, past(s, at, 2), number(s, at) as usize)
-}
-
-// A list of labels, a two-byte count and two bytes each, to the front of the lent places; how many there are, or as many as there is place for.
-pub fn labels(s: &[u8], at: usize, places: &mut [u16]) -> usize
-    ensures { IsPrefixLen result places.new }
-{
-    let n = number(s, at) as usize;
-    let mut from = past(s, at, 2);
-    let mut i: usize = 0;
-    while i < places.len() {
-        if n <= i {
-            return i;
+    // A set of eight bytes, low byte first.
+    pub fn set(&mut self) -> u64
+        ensures number { result ≡ from_le_bytes w64 self.old.rest.now }
+        ensures rest { self.new.rest.now ≡ drop 8 self.old.rest.now }
+    {
+        let mut bytes = [0; 8];
+        for byte in &mut bytes {
+            *byte = self.byte();
         }
-        places[i] = number(s, from);
-        from = past(s, from, 2);
-        i += 1;
+        u64::from_le_bytes(bytes)
     }
-    i
+
+    // A byte string: a two-byte length, and the bytes.
+    pub fn string(&mut self) -> &'a [u8]
+        ensures { result.now ≡ take (get_or self.old.rest.now 0 0 + 256 * get_or self.old.rest.now 1 0) (drop 2 self.old.rest.now) }
+    {
+        let n = self.number();
+        self.take(usize::from(n))
+    }
+
+    // A list of labels, a two-byte count and two bytes each, to the front of the lent places: these, or as many as there is place for.
+    pub fn labels<'b>(&mut self, places: &'b mut [u16]) -> &'b [u16]
+        ensures { length result.now ≤ length places.old }
+    {
+        let n = usize::from(self.number());
+        let mut list = Input::new(self.take(2 * n));
+        let count = n.min(places.len());
+        let labels = &mut places[..count];
+        for label in labels.iter_mut() {
+            *label = list.number();
+        }
+        labels
+    }
+
+    pub fn search(&mut self) -> Search {
+        let kind = self.byte();
+        let a = self.number();
+        let b = self.number();
+        let lost = self.byte();
+        match kind {
+            0 => Search::Checking(a, lost),
+            1 => Search::Halving(a, b, lost),
+            2 => Search::AllUp,
+            _ => Search::Down(a),
+        }
+    }
+
+    // An outcome that is given to a search: lost if the byte is 0.
+    pub fn outcome(&mut self) -> Outcome {
+        match self.byte() {
+            0 => Outcome::Lost,
+            _ => Outcome::Returned,
+        }
+    }
+
+    fn link(&mut self) -> Link {
+        Link {
+            first: self.byte(),
+            second: self.byte(),
+            tag: self.number(),
+            out_of_service: false,
+        }
+    }
+
+    // Switches, links, start, and the link places that are given.
+    pub fn plant(&mut self) -> Plant {
+        let mut p = Plant::with(self.byte(), self.number(), self.byte());
+        let n = usize::from(self.number());
+        let mut given = Input::new(self.take(4 * n));
+        for link in p.links.iter_mut().take(n) {
+            *link = given.link();
+        }
+        p
+    }
+
+    // A plant, and a byte string with a byte for each link place that is given: out of service if it is not 0.
+    pub fn marked_plant(&mut self) -> Plant {
+        let mut p = self.plant();
+        for (link, mark) in p.links.iter_mut().zip(self.string()) {
+            link.out_of_service = *mark != 0;
+        }
+        p
+    }
 }
 
-pub fn past_labels(s: &[u8], at: usize) -> usize {
-    past(s, past(s, at, 2), 2 * (number(s, at) as usize))
-}
-
-// A list of labels to the lent places from one of them on; the place after it, or the end of the places.
+// The list to the lent places from one of them on, as much of it as there is place for; the place after it.
 fn copy(list: &[u16], places: &mut [u16], at: usize) -> usize
     requires { at ≤ length places.old }
-    ensures { IsPrefixLen result places.new }
+    ensures { result ≤ length places.new }
 {
-    let mut to = at;
-    let mut i: usize = 0;
-    while i < list.len() {
-        if places.len() <= to {
-            return to;
-        }
-        places[to] = list[i];
-        to += 1;
-        i += 1;
-    }
+    let n = list.len().min(places.len() - at);
+    let to = at + n;
+    places[at..to].copy_from_slice(&list[..n]);
     to
 }
 
-// The labels of the one list so many times over, and then those of the other, to the front of the lent places; how many these are, or as many as there is place for.
-pub fn packet(list: &[u16], times: u16, more: &[u16], places: &mut [u16]) -> usize
-    ensures { IsPrefixLen result places.new }
+// The labels of the one list so many times over, and then those of the other, to the front of the lent places: these, or as many as there is place for.
+pub fn packet<'a>(list: &[u16], times: u16, more: &[u16], places: &'a mut [u16]) -> &'a [u16]
+    ensures { length result.now ≤ length places.old }
 {
-    let mut at: usize = 0;
-    let mut i: u16 = 0;
-    while i < times {
+    let mut at = 0;
+    for _ in 0..times {
         at = copy(list, places, at);
-        i += 1;
     }
-    copy(more, places, at)
-}
-
-pub fn search(s: &[u8], at: usize) -> Search {
-    let kind = byte(s, at);
-    let a = number(s, past(s, at, 1));
-    let b = number(s, past(s, at, 3));
-    let lost = byte(s, past(s, at, 5));
-    match kind {
-        0 => Search::Checking(a, lost),
-        1 => Search::Halving(a, b, lost),
-        2 => Search::AllUp,
-        _ => Search::Down(a),
-    }
-}
-
-pub fn past_search(s: &[u8], at: usize) -> usize {
-    past(s, at, 6)
-}
-
-// An outcome that is given to a search: lost if the byte is 0.
-pub fn outcome(s: &[u8], at: usize) -> Outcome {
-    if byte(s, at) == 0 {
-        Outcome::Lost
-    } else {
-        Outcome::Returned
-    }
-}
-
-fn link(s: &[u8], at: usize) -> Link {
-    Link {
-        first: byte(s, at),
-        second: byte(s, past(s, at, 1)),
-        tag: number(s, past(s, at, 2)),
-        out_of_service: false,
-    }
-}
-
-// Switches, links, start, and the link places that are given.
-pub fn plant(s: &[u8], at: usize) -> Plant {
-    let count = number(s, past(s, at, 1));
-    let start = byte(s, past(s, at, 3));
-    let n = number(s, past(s, at, 4)) as usize;
-    let mut from = past(s, at, 6);
-    let mut p = Plant::with(byte(s, at), count, start);
-    let mut i: usize = 0;
-    while i < Plant::MAX_LINKS {
-        if i < n {
-            p.links[i] = link(s, from);
-            from = past(s, from, 4);
-        }
-        i += 1;
-    }
-    p
-}
-
-pub fn past_plant(s: &[u8], at: usize) -> usize {
-    past(s, past(s, at, 6), 4 * (number(s, past(s, at, 4)) as usize))
-}
-
-// The plant with those link places out of service whose byte is not 0.
-fn marked(plant: Plant, marks: &[u8]) -> Plant {
-    let mut p = plant;
-    let mut i: usize = 0;
-    while i < Plant::MAX_LINKS {
-        if i < marks.len() {
-            p.links[i].out_of_service = marks[i] != 0;
-        }
-        i += 1;
-    }
-    p
-}
-
-// A plant, and a byte string with a byte for each link place that is given.
-pub fn marked_plant(s: &[u8], at: usize) -> Plant {
-    marked(plant(s, at), string(s, past_plant(s, at)))
-}
-
-pub fn past_marked_plant(s: &[u8], at: usize) -> usize {
-    past_string(s, past_plant(s, at))
+    at = copy(more, places, at);
+    &places[..at]
 }

@@ -4,12 +4,12 @@
 
 ghost use Rattle.streams.specs.Streams.{Grows};
 
-use answers::Verdict;
+use caseform::input::{Input, PLACES};
 use caseform::{checksum, input, show};
 use choosing::Choice;
 use order::{Order, Span};
 use packet::End;
-use probing::{Named, Outward, Ran, Shorter};
+use probing::Named;
 use search::Outcome;
 use std::io;
 use std::io::Write;
@@ -19,41 +19,15 @@ fn show_end<W: Write>(out: &mut W, word: &[u8], e: End) -> io::Result<()>
     ensures { Grows (W.contents out.old) (W.contents out.new) }
 {
     show::word(out, word)?;
-    show::next(out, e.hops as u64)?;
-    show::next(out, e.last as u64)
+    show::spaced(out, &[e.hops as u64, u64::from(e.last)])
 }
 
 // What a run tells.
-fn show_run<W: Write>(out: &mut W, r: Ran) -> io::Result<()>
+fn show_run<W: Write>(out: &mut W, e: End) -> io::Result<()>
     ensures { Grows (W.contents out.old) (W.contents out.new) }
 {
-    match r {
-        Ran::To(e) => {
-            if e.ended {
-                show_end(out, b"ended", e)
-            } else {
-                show_end(out, b"lost", e)
-            }
-        }
-        Ran::Refused(k) => show::refusal(out, k),
-    }
-}
-
-fn run<W: Write>(
-    out: &mut W,
-    listing: &[u8],
-    switch: u8,
-    labels: &[u16],
-    s: &[u8],
-    at: usize,
-) -> io::Result<usize>
-    ensures { Grows (W.contents out.old) (W.contents out.new) }
-{
-    show_run(
-        out,
-        probing::run(listing, switch, labels, input::string(s, at)),
-    )?;
-    Ok(input::past_string(s, at))
+    let word: &[u8] = if e.ended { b"ended" } else { b"lost" };
+    show_end(out, word, e)
 }
 
 // The labels so many times over, and then those of another list.
@@ -62,115 +36,47 @@ fn long_run<W: Write>(
     listing: &[u8],
     switch: u8,
     labels: &[u16],
-    s: &[u8],
-    at: usize,
-) -> io::Result<usize>
+    input: &mut Input,
+) -> io::Result<()>
     ensures { Grows (W.contents out.old) (W.contents out.new) }
 {
-    let second = input::past(s, at, 2);
-    let mut more = input::label_places();
-    let m = input::labels(s, second, &mut more);
-    let mut packet = input::packet_places();
-    let n = input::packet(labels, input::number(s, at), &more[..m], &mut packet);
-    run(
+    let times = input.number();
+    let mut places = [0u16; PLACES];
+    let more = input.labels(&mut places);
+    let mut long_places = [0u16; 2 * PLACES];
+    let packet = input::packet(labels, times, more, &mut long_places);
+    show::answer(
         out,
-        listing,
-        switch,
-        &packet[..n],
-        s,
-        input::past_labels(s, second),
+        probing::run(listing, switch, packet, input.string()),
+        show_run,
     )
 }
 
-fn show_outcome<W: Write>(out: &mut W, o: Outcome, e: End) -> io::Result<()>
+// What a probe tells, by its outcome.
+fn show_probe<W: Write>(out: &mut W, e: End) -> io::Result<()>
     ensures { Grows (W.contents out.old) (W.contents out.new) }
 {
-    match o {
+    match probing::outcome_of(e) {
         Outcome::Returned => show_end(out, b"returned", e),
         Outcome::Lost => show_end(out, b"lost", e),
     }
 }
 
-// What a probe tells, by its outcome.
-fn show_probe<W: Write>(out: &mut W, r: Ran) -> io::Result<()>
-    ensures { Grows (W.contents out.old) (W.contents out.new) }
-{
-    match r {
-        Ran::To(e) => show_outcome(out, probing::outcome_of(e), e),
-        Ran::Refused(k) => show::refusal(out, k),
-    }
-}
-
-fn full_check<W: Write>(
-    out: &mut W,
-    listing: &[u8],
-    switch: u8,
-    trail: &[u16],
-    s: &[u8],
-    at: usize,
-) -> io::Result<usize>
-    ensures { Grows (W.contents out.old) (W.contents out.new) }
-{
-    show_probe(
-        out,
-        probing::full_check(listing, switch, trail, input::string(s, at)),
-    )?;
-    Ok(input::past_string(s, at))
-}
-
-fn round_run<W: Write>(
-    out: &mut W,
-    listing: &[u8],
-    switch: u8,
-    round: &[u16],
-    s: &[u8],
-    at: usize,
-) -> io::Result<usize>
-    ensures { Grows (W.contents out.old) (W.contents out.new) }
-{
-    show_probe(
-        out,
-        probing::round_run(listing, switch, round, input::string(s, at)),
-    )?;
-    Ok(input::past_string(s, at))
-}
-
-fn show_kind<W: Write>(out: &mut W, choice: Choice) -> io::Result<()>
-    ensures { Grows (W.contents out.old) (W.contents out.new) }
-{
-    match choice {
-        Choice::Trail(_, _) => show::word(out, b"trail "),
-        Choice::Round(_, _) => show::word(out, b"round "),
-    }
-}
-
 // Which of the two lent trails was chosen, and its hops.
-fn show_choice<'a, W: Write>(
+fn show_choice<W: Write>(
     out: &mut W,
-    trail: &'a [u16],
-    round: &'a [u16],
+    trail: &[u16],
+    round: &[u16],
     choice: Choice,
 ) -> io::Result<()>
     ensures { Grows (W.contents out.old) (W.contents out.new) }
 {
-    show_kind(out, choice)?;
-    let hops = probing::chosen(trail, round, choice);
-    show::list(out, hops.len() as u64, checksum::with_labels(0, hops))
-}
-
-// The choice between two lent trails, or its refusal.
-fn show_shorter<'a, W: Write>(
-    out: &mut W,
-    trail: &'a [u16],
-    round: &'a [u16],
-    r: Shorter,
-) -> io::Result<()>
-    ensures { Grows (W.contents out.old) (W.contents out.new) }
-{
-    match r {
-        Shorter::Of(choice) => show_choice(out, trail, round, choice),
-        Shorter::Refused(k) => show::refusal(out, k),
-    }
+    let word: &[u8] = match choice {
+        Choice::Trail(_, _) => b"trail ",
+        Choice::Round(_, _) => b"round ",
+    };
+    show::word(out, word)?;
+    show::list(out, probing::chosen(trail, round, choice))
 }
 
 // The labels are the trail; the round trail is a second list.
@@ -179,36 +85,24 @@ fn shorter_trail<W: Write>(
     listing: &[u8],
     switch: u8,
     trail: &[u16],
-    s: &[u8],
-    at: usize,
-) -> io::Result<usize>
+    input: &mut Input,
+) -> io::Result<()>
     ensures { Grows (W.contents out.old) (W.contents out.new) }
 {
-    let mut round = input::label_places();
-    let n = input::labels(s, at, &mut round);
-    let r = probing::shorter_trail(listing, switch, trail, &round[..n]);
-    show_shorter(out, trail, &round[..n], r)?;
-    Ok(input::past_labels(s, at))
+    let mut places = [0u16; PLACES];
+    let round = input.labels(&mut places);
+    let choice = probing::shorter_trail(listing, switch, trail, round);
+    show::answer(
+        out,
+        choice,
+        |out, choice| show_choice(out, trail, round, choice),
+    )
 }
 
 fn show_order<W: Write>(out: &mut W, o: Order) -> io::Result<()>
     ensures { Grows (W.contents out.old) (W.contents out.new) }
 {
-    show::list(out, o.count as u64, checksum::of_order(o))
-}
-
-fn order<W: Write>(out: &mut W, listing: &[u8], switch: u8, trail: &[u16]) -> io::Result<()>
-    ensures { Grows (W.contents out.old) (W.contents out.new) }
-{
-    let r = probing::order_of_links(listing, switch, trail);
-    let v = r.verdict;
-    match v {
-        Verdict::Accepted => {
-            let o = r.order;
-            show_order(out, o)
-        }
-        Verdict::Refused(k) => show::refusal(out, k),
-    }
+    show::list(out, checksum::front(&o.links, usize::from(o.count)))
 }
 
 // The two parts of the lent trail, one after the other.
@@ -217,54 +111,8 @@ fn show_parts<W: Write>(out: &mut W, trail: &[u16], span: Span) -> io::Result<()
 {
     let stretch = probing::stretch(trail, span);
     let front = probing::front(trail, span);
-    let h = checksum::with_labels(checksum::with_labels(0, stretch), front);
-    show::list(out, stretch.len() as u64 + front.len() as u64, h)
-}
-
-fn show_outward<W: Write>(out: &mut W, trail: &[u16], r: Outward) -> io::Result<()>
-    ensures { Grows (W.contents out.old) (W.contents out.new) }
-{
-    match r {
-        Outward::Parts(span) => show_parts(out, trail, span),
-        Outward::Refused(k) => show::refusal(out, k),
-    }
-}
-
-fn outward<W: Write>(
-    out: &mut W,
-    listing: &[u8],
-    switch: u8,
-    trail: &[u16],
-    s: &[u8],
-    at: usize,
-) -> io::Result<usize>
-    ensures { Grows (W.contents out.old) (W.contents out.new) }
-{
-    show_outward(
-        out,
-        trail,
-        probing::outward_labels(listing, switch, trail, input::search(s, at)),
-    )?;
-    Ok(input::past_search(s, at))
-}
-
-fn run_probe<W: Write>(
-    out: &mut W,
-    listing: &[u8],
-    switch: u8,
-    trail: &[u16],
-    s: &[u8],
-    at: usize,
-) -> io::Result<usize>
-    ensures { Grows (W.contents out.old) (W.contents out.new) }
-{
-    let states = input::string(s, at);
-    let from = input::past_string(s, at);
-    show_probe(
-        out,
-        probing::run_probe(listing, switch, trail, states, input::search(s, from)),
-    )?;
-    Ok(input::past_search(s, from))
+    let h = checksum::with_all(checksum::of(stretch), front);
+    show::sized(out, stretch.len() as u64 + front.len() as u64, h)
 }
 
 fn show_named<W: Write>(out: &mut W, r: Named) -> io::Result<()>
@@ -273,76 +121,58 @@ fn show_named<W: Write>(out: &mut W, r: Named) -> io::Result<()>
     match r {
         Named::Link(l) => {
             show::word(out, b"link")?;
-            show::next(out, l as u64)
+            show::spaced(out, &[u64::from(l)])
         }
         Named::AllUp => show::word(out, b"none"),
         Named::Open => show::word(out, b"open"),
-        Named::Refused(k) => show::refusal(out, k),
     }
 }
 
-fn link_named<W: Write>(
-    out: &mut W,
-    listing: &[u8],
-    switch: u8,
-    trail: &[u16],
-    s: &[u8],
-    at: usize,
-) -> io::Result<usize>
+// Writes the answer of one of these calls to the arguments that are next in the input. What was written before stays, also after an error.
+pub fn answer<W: Write>(out: &mut W, call: u8, input: &mut Input) -> io::Result<()>
     ensures { Grows (W.contents out.old) (W.contents out.new) }
 {
-    show_named(
-        out,
-        probing::link_named(listing, switch, trail, input::search(s, at)),
-    )?;
-    Ok(input::past_search(s, at))
-}
-
-// Writes the answer of one of these calls, whose own arguments are at a place; the place after them.
-fn answer_with<W: Write>(
-    out: &mut W,
-    call: u8,
-    listing: &[u8],
-    switch: u8,
-    labels: &[u16],
-    s: &[u8],
-    at: usize,
-) -> io::Result<usize>
-    ensures { Grows (W.contents out.old) (W.contents out.new) }
-{
+    let listing = input.string();
+    let switch = input.byte();
+    let mut places = [0u16; PLACES];
+    let labels = input.labels(&mut places);
     match call {
-        7 => run(out, listing, switch, labels, s, at),
-        8 => full_check(out, listing, switch, labels, s, at),
-        9 => {
-            order(out, listing, switch, labels)?;
-            Ok(at)
-        }
-        10 => outward(out, listing, switch, labels, s, at),
-        11 => run_probe(out, listing, switch, labels, s, at),
-        21 => long_run(out, listing, switch, labels, s, at),
-        26 => round_run(out, listing, switch, labels, s, at),
-        27 => shorter_trail(out, listing, switch, labels, s, at),
-        _ => link_named(out, listing, switch, labels, s, at),
+        7 => show::answer(
+            out,
+            probing::run(listing, switch, labels, input.string()),
+            show_run,
+        ),
+        8 => show::answer(
+            out,
+            probing::full_check(listing, switch, labels, input.string()),
+            show_probe,
+        ),
+        9 => show::answer(
+            out,
+            probing::order_of_links(listing, switch, labels),
+            show_order,
+        ),
+        10 => show::answer(
+            out,
+            probing::outward_labels(listing, switch, labels, input.search()),
+            |out, span| show_parts(out, labels, span),
+        ),
+        11 => show::answer(
+            out,
+            probing::run_probe(listing, switch, labels, input.string(), input.search()),
+            show_probe,
+        ),
+        21 => long_run(out, listing, switch, labels, input),
+        26 => show::answer(
+            out,
+            probing::round_run(listing, switch, labels, input.string()),
+            show_probe,
+        ),
+        27 => shorter_trail(out, listing, switch, labels, input),
+        _ => show::answer(
+            out,
+            probing::link_named(listing, switch, labels, input.search()),
+            show_named,
+        ),
     }
-}
-
-// Writes the answer of one of these calls with its arguments at a place; the place after them. What was written before stays, also after an error.
-pub fn answer<W: Write>(out: &mut W, call: u8, s: &[u8], at: usize) -> io::Result<usize>
-    ensures { Grows (W.contents out.old) (W.contents out.new) }
-{
-    let listing = input::string(s, at);
-    let second = input::past_string(s, at);
-    let switch = input::byte(s, second);
-    let third = input::past(s, second, 1);
-    let mut labels = input::label_places();
-    let n = input::labels(s, third, &mut labels);
-    answer_with(
-        out,
-        call,
-        listing,
-        switch,
-        &labels[..n],
-        s,
-        input::past_labels(s, third),
-    )
 }

@@ -53,61 +53,46 @@
 
 mod searches;
 
-ghost use Rattle.std.specs.Prelude.{◌≡◌, ◌≤◌, length};
+ghost use Rattle.std.specs.Prelude.{◌≡◌, length};
 ghost use Rattle.streams.specs.Streams.{Grows};
 
-use caseform::{input, show};
+use caseform::input::Input;
+use caseform::show;
 use std::io;
 use std::io::Write;
 
 // The most bytes of input that are read.
 const INPUT: usize = 2450000;
 
-// Writes the answer of the case at a place; the place after it. A byte that is no call ends the input.
-fn answer<W: Write>(out: &mut W, s: &[u8], at: usize) -> io::Result<usize>
+// Writes the answer of a call to the arguments that are next in the input. A byte that is no call ends the input. A call goes by its number, which has one arm: an enum of
+// the calls would only say the table above once more.
+fn answer<W: Write>(out: &mut W, call: u8, input: &mut Input) -> io::Result<()>
     ensures { Grows (W.contents out.old) (W.contents out.new) }
 {
-    let call = input::byte(s, at);
-    let from = input::past(s, at, 1);
-    if call < 7 {
-        return caseplans::answer(out, call, s, from);
+    match call {
+        7..=12 | 21 | 26 | 27 => casepackets::answer(out, call, input),
+        13..=17 | 20 => searches::answer(out, call, input),
+        30..=32 => casedesks::answer(out, call, input),
+        _ => caseplans::answer(out, call, input),
     }
-    if call < 13 || call == 21 || call == 26 || call == 27 {
-        return casepackets::answer(out, call, s, from);
-    }
-    if 30 <= call && call < 33 {
-        return casedesks::answer(out, call, s, from);
-    }
-    if call == 18 || call == 19 || 22 <= call {
-        return caseplans::answer(out, call, s, from);
-    }
-    searches::answer(out, call, s, from)
 }
 
-// The later of two places.
-fn later(a: usize, b: usize) -> usize
-    ensures { a ≤ result }
-{
-    if a < b {
-        return b;
-    }
-    a
-}
-
-// Writes the answers of all cases. Each has one byte at least. What was written before stays, also after an error.
+// Writes the answers of all cases. Each takes one byte at least, so there are no more cases than bytes. What was written before stays, also after an error.
 fn answer_all<W: Write>(out: &mut W, s: &[u8]) -> io::Result<()>
     ensures { Grows (W.contents out.old) (W.contents out.new) }
 {
-    let mut at: usize = 0;
-    while at < s.len() {
-        let next = answer(out, s, at)?;
-        at = later(at + 1, next);
+    let mut input = Input::new(s);
+    for _ in s {
+        let Some(call) = input.next() else {
+            return Ok(());
+        };
+        answer(out, call, &mut input)?;
         show::word(out, b"\n")?;
     }
     Ok(())
 }
 
-// Places for the input.
+// Places for the input: a function of its own, so that their number stands alone where the input is read.
 fn space() -> [u8; INPUT]
     ensures { INPUT ≡ length result }
 {

@@ -5,7 +5,7 @@ ghost use Rattle.std.specs.Prelude.{◌≡◌};
 ghost use Rattle.choosing.specs.Choice.{choice_of, hops_in};
 
 // The trail that has fewer hops, document 01's or the round trail: where they begin in the lent one, and how many they are.
-#[derive(Clone, Copy)]
+#[derive(Clone, Copy, Debug, PartialEq, Eq)]
 pub enum Choice {
     Trail(usize, usize),
     Round(usize, usize),
@@ -17,9 +17,10 @@ pub fn fewer(i: usize, trail: usize, j: usize, round: usize) -> Choice
     ensures { result ≡ choice_of i trail j round }
 {
     if round < trail {
-        return Choice::Round(j, round);
+        Choice::Round(j, round)
+    } else {
+        Choice::Trail(i, trail)
     }
-    Choice::Trail(i, trail)
 }
 
 // The hops of the lent trail that was chosen, as a part of it: as much as is there.

@@ -60,35 +60,22 @@ number-next w (suc j) (b ∷ s) = number-next w j s
 module _ (s : List ℕ) (at width : ℕ) where
   -- n is the number in the bytes of the field from its byte i on
   pub record From (i n : ℕ) : Type 0 where
-    pub within : i ≤ width
     pub is : n ≡ number (take (width - i) (drop (at + i) s))
     pub fits : n < (2 ^ 8) ^ (width - i)
 
-  pub from_end : From width 0
-  from_end = let e : width - width ≡ 0 = omega arith in record { within = omega arith; is = rw e refl; fits = rw e (omega arith) }
-
   -- one byte further down
-  pub from_next : (i n b : ℕ) → 0 < i → b ≡ get_or s (at + (i - 1)) 0 → b < 2 ^ 8 → From i n → From (i - 1) (n * 256 + b)
-  from_next i n b h e small f =
-      let k : width - (i - 1) ≡ suc (width - i) = omega (arith, f.within) in
+  pub from_next : (i n b : ℕ) → 0 < i → i ≤ width → b ≡ get_or s (at + (i - 1)) 0 → b < 2 ^ 8 → From i n → From (i - 1) (n * 256 + b)
+  from_next i n b h w e small f =
+      let k : width - (i - 1) ≡ suc (width - i) = omega arith in
       let j : suc (at + (i - 1)) ≡ at + i = omega arith in
       let m : n * 256 + b ≡ b + n * 256 = omega arith in
       record {
-        within = omega (arith, f.within);
         is = rw (k, number-next (width - i) (at + (i - 1)) s, j, m, e, f.is);
         fits = rw (k, m) (one_more (width - i) b n small f.fits);
       }
 
-  pub from_start : (i n : ℕ) → i ≤ 0 → From i n → n ≡ number (take width (drop at s))
-  from_start i n h f =
-      let z : i ≡ 0 = omega arith in
-      let k : width - 0 ≡ width = omega arith in
-      let j : at + 0 ≡ at = omega arith in
-      rw (z, k, j) at f.is
-
   -- before the last of at most four bytes there is room for one more in 32 bits
   pub from_room : (i n : ℕ) → width ≤ 4 → 0 < i → From i n → n < 2 ^ 24
   from_room i n few h f =
-      let w : i ≤ width = f.within in
       let m : (2 ^ 8) ^ (width - i) ≤ (2 ^ 8) ^ 3 = pow-le-pow_right (omega arith) {i = width - i} {j = 3} (omega arith) in
       omega (arith, f.fits)

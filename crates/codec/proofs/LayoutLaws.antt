@@ -1,72 +1,58 @@
--- A layout from its field i on, and the loops that only measure: what is left gives what the whole gives. Assumes nothing.
-use mathlib.Core.Path.{◌≡◌, refl, ap}
+-- The fields of a part from field i on, and the loops that only measure: what is left gives what the whole gives. Assumes nothing.
+use mathlib.Core.Path.{◌≡◌, refl}
 use mathlib.Core.List.{List, [], ◌∷◌}
-use Prim.Native.Nat.{ℕ, ◌+◌, ◌-◌, ◌*◌, ◌/◌, ◌%◌, ◌^◌, ◌≤◌, ◌<◌}
+use Prim.Native.Nat.{ℕ, zero, suc, ◌+◌, ◌-◌, ◌*◌, ◌/◌, ◌%◌, ◌^◌, ◌≤◌, ◌<◌}
 use native.Mathlib.Nat.{pow-le-pow_right}
 use native.Mathlib.Omega.{arith}
-use lib.ListN.{length, get_or, drop, length-drop}
-use lib.Seq.{get_or-take, length-take-le}
-use Rattle.lists.proofs.Members.{each_at}
+use borrow.Author.Tests.{leb-true}
+use lib.Dec.{leb}
+use lib.ListN.{length, get_or, drop, length-drop, drop_of_length-le}
+use Rattle.std.proofs.lemmas.List.{drop_more, at_drop_more}
+use Rattle.lists.proofs.Tests.{and_true}
+use Rattle.lists.specs.Members.{all}
 use Rattle.codec.specs.declared.Field.{Field}
-use Rattle.codec.specs.declared.Layout.{Layout}
-use Rattle.codec.specs.Part.{taken, size, rest, is_given, map_of}
-use Rattle.codec.specs.Layout.{fields_of, Proper}
-use Rattle.codec.proofs.Taken.{drop-next, taken_next, taken_end}
+use Rattle.codec.specs.Part.{taken, size, is_given, map_of}
+use Rattle.codec.specs.Layout.{Narrow}
 use Rattle.codec.proofs.PartRoundTrip.{map_below}
 
 abbrev pub no_field : Field
 no_field = record { width = 0; absent = 0 }
 
 -- the field in place i
-abbrev pub field_at : Layout → ℕ → Field
-field_at l i = get_or l.fields i no_field
+abbrev pub field_at : List Field → ℕ → Field
+field_at fs i = get_or fs i no_field
 
--- m is the map of the fields from i on, for a part with the values vs
-abbrev pub MapFrom : Layout → List ℕ → ℕ → ℕ → Type 0
-MapFrom l vs i m = (i ≤ l.count) × (m ≡ map_of (drop i (fields_of l)) (drop i vs))
+pub narrow_at : (fs : List Field) → Narrow fs → (i : ℕ) → i < length fs → (field_at fs i).width ≤ 4
+narrow_at [] q i h = absurd (omega arith)
+narrow_at (f ∷ fs) q zero h = leb-true f.width 4 (and_true (leb f.width 4) (all (λ f. leb f.width 4) fs) q).0
+narrow_at (f ∷ fs) q (suc i) h = narrow_at fs (and_true (leb f.width 4) (all (λ f. leb f.width 4) fs) q).1 i (omega arith)
 
-module _ {most : ℕ} {l : Layout} (q : Proper most l) where
-  pub fields-long : length (fields_of l) ≡ l.count
-  fields-long = length-take-le l.count l.fields (omega (arith, q.places, q.few))
+module _ (fs : List Field) (i m : ℕ) (h : i < length fs) where
+  -- the bytes that the fields take
+  pub size-next : size m (drop i fs) ≡ taken (field_at fs i) (m % 2) + size (m / 2) (drop (i + 1) fs)
+  size-next = at_drop_more (size m) fs i no_field h
 
-  module _ (i : ℕ) where
-    pub fields-next : i < l.count → drop i (fields_of l) ≡ field_at l i ∷ drop (i + 1) (fields_of l)
-    fields-next h = taken_next l.fields l.count i (omega (arith, q.places, q.few)) no_field h
+-- ---- the map, from the high bit down: m is the map of the fields from i on, for a part with the values vs
 
-    pub fields_end : l.count ≤ i → drop i (fields_of l) ≡ []
-    fields_end h = taken_end l.fields l.count i (omega (arith, q.places, q.few)) h
+abbrev pub MapFrom : List Field → List ℕ → ℕ → ℕ → Type 0
+MapFrom fs vs i m = m ≡ map_of (drop i fs) (drop i vs)
 
-    pub narrow_at : i < l.count → (field_at l i).width ≤ 4
-    narrow_at h = rw (get_or-take l.count l.fields i no_field h) at (each_at (λ f. f.width ≤ 4) (fields_of l) no_field q.narrow i (omega (arith, fields-long)))
+pub map_end : (fs : List Field) (vs : List ℕ) (i : ℕ) → length fs ≤ i → MapFrom fs vs i 0
+map_end fs vs i h = rw (drop_of_length-le fs {i = i} h) refl
 
-    -- ---- the bytes that the fields take, and what they leave of the map
+module _ (fs : List Field) (vs : List ℕ) (i m : ℕ) (r : MapFrom fs vs i m) (some : 0 < i) where
+  -- before the last of at most eight bits there is room for one more in a byte
+  pub map-room : length fs ≤ 8 → m < 2 ^ 7
+  map-room few =
+      omega (
+        arith,
+        r,
+        map_below (drop i fs) (drop i vs),
+        pow-le-pow_right {n = 2} (omega arith) {i = length (drop i fs)} {j = 7} (simp length-drop (omega arith)),
+      )
 
-    module _ (m : ℕ) (h : i < l.count) where
-      pub size-next : size m (drop i (fields_of l)) ≡ taken (field_at l i) (m % 2) + size (m / 2) (drop (i + 1) (fields_of l))
-      size-next = ap (size m) (fields-next h)
-
-      pub rest-next : rest m (drop i (fields_of l)) ≡ rest (m / 2) (drop (i + 1) (fields_of l))
-      rest-next = ap (rest m) (fields-next h)
-
-  -- ---- the map, from the high bit down
-
-  module _ (vs : List ℕ) where
-    pub map_end : MapFrom l vs l.count 0
-    map_end = (omega arith, rw (fields_end l.count (omega arith)) refl)
-
-    module _ (i m : ℕ) (r : MapFrom l vs i m) (h : 0 < i) where
-      -- before the last of at most eight bits there is room for one more in a byte
-      pub map-room : m < 2 ^ 7
-      map-room =
-          omega (
-            arith,
-            r.1,
-            map_below (drop i (fields_of l)) (drop i vs),
-            pow-le-pow_right {n = 2} (omega arith) {i = length (drop i (fields_of l))} {j = 7} (simp length-drop (omega (arith, fields-long, q.few_bits))),
-          )
-
-      pub map_next : (b : ℕ) → length vs ≡ most → b ≡ is_given (field_at l (i - 1)) (get_or vs (i - 1) 0) → MapFrom l vs (i - 1) (m * 2 + b)
-      map_next b long e =
-          let k : i - 1 + 1 ≡ i = omega arith in
-          let j : m * 2 + b ≡ b + 2 * m = omega arith in
-          (omega (arith, r.0), rw (fields-next (i - 1) (omega (arith, r.0)), drop-next vs (i - 1) 0 (omega (arith, r.0, q.few)), k, j, e, r.1))
+  pub map_next : (b : ℕ) → i ≤ length fs → i ≤ length vs → b ≡ is_given (field_at fs (i - 1)) (get_or vs (i - 1) 0) → MapFrom fs vs (i - 1) (m * 2 + b)
+  map_next b h k e =
+      let n : i - 1 + 1 ≡ i = omega arith in
+      let j : m * 2 + b ≡ b + 2 * m = omega arith in
+      rw (drop_more fs (i - 1) no_field (omega arith), drop_more vs (i - 1) 0 (omega arith), n, j, e, r) refl

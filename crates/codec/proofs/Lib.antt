@@ -1,4 +1,3 @@
-pub mod Taken
 pub mod FieldLaws
 pub mod LayoutLaws
 pub mod PartLaws

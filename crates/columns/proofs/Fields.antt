@@ -1,8 +1,8 @@
--- Laws of fields of so many columns: a number that is laid at the right of a field is the number in it, and a field with a number in it is what is laid for that number;
--- what the tests of a field's bytes come to, one after the other. Assumes nothing.
+-- Laws of fields of so many columns: a number that is laid at the right of a field is the number in it, and a field with a number in it is what is laid for that number.
+-- Assumes nothing.
 use mathlib.Core.Path.{◌≡◌, refl, sym, ap, ap₂, ◌∙◌}
 use mathlib.Core.Logic.{◌⊎◌, inl, inr}
-use mathlib.Core.Bool.{true, false, not}
+use mathlib.Core.Bool.{Bool, true, false, ◌&&◌}
 use mathlib.Core.List.{List, [], ◌∷◌, ◌++◌}
 use Prim.Native.Nat.{ℕ, zero, suc, ◌+◌, ◌-◌, ◌*◌, ◌≤◌, ◌<◌}
 use native.Mathlib.Omega.{arith}
@@ -10,26 +10,36 @@ use borrow.Author.Tests.{eq-eqb, ne_eqb, le-leb, leb-true}
 use lib.Dec.{eqb, leb}
 use lib.ListN.{length, take, drop, length-append, length-drop, length-replicate}
 use lib.Seq.{take_all, drop_at}
+use Rattle.std.specs.Prelude.{cond}
+use Rattle.std.specs.List.{list_all, prefix_len}
 use Rattle.lists.specs.Arrays.{at}
 use Rattle.lists.specs.Members.{all}
+use Rattle.lists.specs.Tests.{choose}
 use Rattle.lists.proofs.Arrays.{take_next}
 use Rattle.lists.proofs.Members.{all-at, get_d_in}
-use Rattle.lists.proofs.Tests.{eq?, not_both, not_true_false, same_test, and_true}
-use Rattle.text.specs.Decimal.{digit, decimal, read_decimal, is_digit, leads, is_decimal}
+use Rattle.lists.proofs.Tests.{eq?, and_true}
+use Rattle.text.specs.Decimal.{digit, decimal, read_decimal, is_digit, is_decimal}
 use Rattle.text.specs.Lines.{space}
 use Rattle.text.proofs.DecimalLaws.{is_digit_lem, read-append, read-decimal, decimal-read, decimal-most, decimal-is, decimal-digits, read_below}
-use Rattle.columns.specs.Fields.{most_digits, spaces, right_in, left_in, spaces_before, after_spaces, is_short, is_number, number_in}
+use Rattle.columns.specs.Fields.{most_digits, spaces, right_in, spaces_before, after_spaces, is_short, is_number, number_in}
 
 -- ---- the spaces before a text
 
 -- as many as are there, up to the first other byte or the end
-pub spaces-are : (f : List ℕ) (i : ℕ) → i ≤ length f → ((j : ℕ) → j < i → at f j ≡ space) → (i < length f → at f i ≡ space → ⊥) → spaces_before f ≡ i
+pub spaces_counted : (f : List ℕ) → prefix_len (λ b. eqb b space) f ≡ spaces_before f
 unfolding spaces_before
-spaces-are [] zero h s n = refl
-spaces-are [] (suc i) h s n = absurd (omega arith)
-spaces-are (b ∷ f) zero h s n = rw (ne_eqb b space (n (omega arith))) refl
-spaces-are (b ∷ f) (suc i) h s n =
-    rw (eq-eqb b space (s 0 (omega arith))) (ap suc (spaces-are f i (omega arith) (λ j k. s (suc j) (omega arith)) (λ k. n (omega arith))))
+spaces_counted [] = refl
+spaces_counted (b ∷ f) = go (eqb b space) (spaces_counted f)
+  where
+    go : (t : Bool) → prefix_len (λ c. eqb c space) f ≡ spaces_before f → cond t (1 + prefix_len (λ c. eqb c space) f) 0 ≡ choose t (suc (spaces_before f)) 0
+    go true e = omega (arith, e)
+    go false e = refl
+
+-- ---- a test at each byte
+
+pub all_same : (p q : ℕ → Bool) → ((x : ℕ) → p x ≡ q x) → (xs : List ℕ) → list_all p xs ≡ all q xs
+all_same p q h [] = refl
+all_same p q h (x ∷ xs) = ap₂ (λ (b c : Bool). b && c) (h x) (all_same p q h xs)
 
 -- a field is its spaces and what comes after them
 field_split : (f : List ℕ) → spaces (spaces_before f) ++ after_spaces f ≡ f
@@ -68,9 +78,6 @@ spaces-size n = length-replicate {A = ℕ} n space
 module _ (columns : ℕ) (text : List ℕ) where
   pub right-size : length (right_in columns text) ≡ (columns - length text) + length text
   right-size = omega (arith, length-append (spaces (columns - length text)) text, spaces-size (columns - length text))
-
-  pub left-size : length (left_in columns text) ≡ length text + (columns - length text)
-  left-size = omega (arith, length-append text (spaces (columns - length text)), spaces-size (columns - length text))
 
 -- ---- a number of at most three digits
 
@@ -118,36 +125,6 @@ module _ (f : List ℕ) (e : is_number f ≡ true) where
       let q = decimal-read (after_spaces f) (short-is (after_spaces f) short) in
       let k : length f - length (after_spaces f) ≡ spaces_before f = omega (arith, ap length (field_split f), length-append (spaces (spaces_before f)) (after_spaces f), spaces-size (spaces_before f)) in
       rw (q, k) (field_split f)
-
--- ---- the tests of `is_short`, one after the other
-
-pub short-long : (bs : List ℕ) → most_digits < length bs → is_short bs ≡ false
-short-long bs h = not_true_false (is_short bs) (λ e. omega (arith, short-few bs e))
-
-pub short-leads : (bs : List ℕ) → leads bs ≡ false → is_short bs ≡ false
-unfolding is_decimal
-short-leads bs e = not_true_false (is_short bs) (λ s. not_both (leads bs) (and_true (all is_digit bs) (leads bs) (short-is bs s)).1 e)
-
--- else whether they are digits tells
-pub short-rest : (bs : List ℕ) → length bs ≤ most_digits → leads bs ≡ true → all is_digit bs ≡ is_short bs
-unfolding is_short is_decimal
-short-rest bs h l =
-    same_test (all is_digit bs) (is_short bs) (λ e. rw (e, l, le-leb (length bs) most_digits h) refl) (λ e. (and_true (all is_digit bs) (leads bs) (short-is bs e)).0)
-
--- one byte, and several
-pub leads_one : (bs : List ℕ) → length bs ≡ 1 → leads bs ≡ true
-leads_one [] e = absurd (omega arith)
-leads_one (b ∷ []) e = refl
-leads_one (b ∷ c ∷ bs) e = absurd (omega arith)
-
-pub leads-none : (bs : List ℕ) → length bs ≡ 0 → leads bs ≡ false
-leads-none [] e = refl
-leads-none (b ∷ bs) e = absurd (omega arith)
-
-pub leads_more : (bs : List ℕ) → (length bs ≡ 0 → ⊥) → (length bs ≡ 1 → ⊥) → leads bs ≡ not (eqb (at bs 0) (digit 0))
-leads_more [] n m = absurd (n refl)
-leads_more (b ∷ []) n m = absurd (m refl)
-leads_more (b ∷ c ∷ bs) n m = refl
 
 -- ---- the number that digits make, one after the other
 

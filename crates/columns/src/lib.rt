@@ -24,44 +24,14 @@ pub const LINKS_END: usize = RULES_END + LINKS;
 
 pub const LAST: usize = LINE - 1;
 
-// The columns as numbers, for definitions of the crates above: their contracts ask each constant its value.
-pub fn switch_columns() -> usize
-    ensures { result ≡ SWITCH }
-{
-    SWITCH
-}
-
-pub fn rules_columns() -> usize
-    ensures { result ≡ RULES }
-{
-    RULES
-}
-
-pub fn links_columns() -> usize
-    ensures { result ≡ LINKS }
-{
-    LINKS
-}
-
-pub fn line_columns() -> usize
-    ensures { result ≡ LINE }
-{
-    LINE
-}
-
 // So many spaces.
 pub fn put_spaces(buf: &mut [u8], at: usize, n: usize) -> usize
     requires { Room buf.old at (spaces n) }
     ensures { Laid buf.old at (spaces n) buf.new result }
 {
-    let mut next = at;
-    let mut i: usize = 0;
-    while i < n {
-        buf[next] = b' ';
-        next += 1;
-        i += 1;
-    }
-    next
+    let end = at + n;
+    buf[at..end].fill(b' ');
+    end
 }
 
 // How many digits a number below 1000 has.
@@ -106,64 +76,33 @@ pub fn spaces_before(field: &[u8]) -> usize
     ensures value { result ≡ spaces_before field.now }
     ensures upper_bound { result ≤ length field.now }
 {
-    let mut i: usize = 0;
-    while i < field.len() {
-        if field[i] != b' ' {
-            return i;
-        }
-        i += 1;
-    }
-    i
-}
-
-fn is_digit(b: u8) -> bool
-    ensures { result ≡ is_digit b }
-{
-    if b < b'0' {
-        return false;
-    }
-    b <= b'9'
+    field.iter().take_while(|b| **b == b' ').count()
 }
 
 // Is each of these bytes a digit?
 fn all_digits(bytes: &[u8]) -> bool
     ensures { result ≡ all is_digit bytes.now }
 {
-    let mut i: usize = 0;
-    while i < bytes.len() {
-        if !is_digit(bytes[i]) {
-            return false;
-        }
-        i += 1;
-    }
-    true
+    bytes.iter().all(|b| b.is_ascii_digit())
 }
 
 // Is there a byte, and is the first of several not the digit zero?
 fn leads(bytes: &[u8]) -> bool
     ensures { result ≡ leads bytes.now }
 {
-    let n = bytes.len();
-    if n == 0 {
-        return false;
+    match bytes {
+        [] => false,
+        [_] => true,
+        [first, ..] => *first != b'0',
     }
-    if n == 1 {
-        return true;
-    }
-    bytes[0] != b'0'
 }
 
 // Are these bytes a number of one to three digits with no leading zero?
+#[tactic(auto, unfolding(crate::specs::Fields::is_short, text::specs::Decimal::is_decimal))]
 pub fn is_short(bytes: &[u8]) -> bool
     ensures { result ≡ is_short bytes.now }
 {
-    if text::DIGITS_SHORT < bytes.len() {
-        return false;
-    }
-    if !leads(bytes) {
-        return false;
-    }
-    all_digits(bytes)
+    all_digits(bytes) && leads(bytes) && bytes.len() <= text::DIGITS_SHORT
 }
 
 // The number that such bytes are.
@@ -173,10 +112,8 @@ pub fn short_of(bytes: &[u8]) -> u16
     ensures upper_bound { result < 1000 }
 {
     let mut n: u16 = 0;
-    let mut i: usize = 0;
-    while i < bytes.len() {
-        n = n * 10 + (bytes[i] - b'0') as u16;
-        i += 1;
+    for b in bytes {
+        n = n * 10 + u16::from(*b - b'0');
     }
     n
 }

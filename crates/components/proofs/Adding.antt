@@ -5,8 +5,10 @@ use mathlib.Core.Bool.{Bool, false, ◌||◌, or-false}
 use mathlib.Core.List.{List, [], ◌∷◌, ◌++◌}
 use Prim.Native.Nat.{ℕ, zero, suc, ◌+◌, ◌≤◌, ◌<◌}
 use native.Mathlib.Omega.{arith}
+use Rattle.std.proofs.Common.{Option, Some, None}
 use lib.Dec.{T}
-use lib.ListN.{length, get_or, set, replicate, length-set, get_or-replicate}
+use Rattle.lists.specs.Tests.{choose}
+use lib.ListN.{length, get_or, set, length-set}
 use lib.Seq.{get_or-set_same, get_or-set_other}
 use Rattle.lists.specs.Arrays.{flag, at}
 use Rattle.lists.specs.Members.{In}
@@ -14,7 +16,7 @@ use Rattle.lists.proofs.Members.{memb→in, get_d_in, in_append, in_append_left,
 use Rattle.lists.proofs.Tests.{below?, not_true_false, true_T, choose_true, choose_false}
 use Rattle.plant.specs.declared.Plant.{Plant}
 use Rattle.plant.specs.Links.{first}
-use Rattle.limits.specs.Limits.{max_switches, max_links}
+use Rattle.limits.specs.Limits.{max_switches}
 use Rattle.limits.specs.Sound.{Sound}
 use Rattle.walks.specs.Visit.{rank}
 use Rattle.walks.specs.Graph.{visited_from, reached_from, entered_from}
@@ -23,9 +25,8 @@ use Rattle.walks.proofs.Visited.{visited_inside}
 use Rattle.arcs.proofs.Entered.{entered-first}
 use Rattle.arcs.specs.declared.Visited.{Visited}
 use Rattle.arcs.specs.Shows.{Visits}
-use Rattle.arcs.specs.Flags.{Flags}
 use Rattle.components.specs.declared.Forest.{Forest}
-use Rattle.components.specs.Inner.{Renumbered, Apart, Outside, Covers}
+use Rattle.components.specs.Inner.{Apart, Outside, Covers}
 
 -- ---- lists with one member more
 
@@ -65,12 +66,13 @@ module _ (p : Plant) (sound : Sound p) (rs : List ℕ) (r : ℕ) (f : Forest) (c
 
   -- ---- the numbers of the switches
 
-  module _ {new old n : List ℕ} (renumbered : Renumbered v.seen new old n) (x : ℕ) where
-    renewed : T (reached_from p r x) → at n x ≡ at new x
-    renewed t = renumbered.tells x (place r x last t) ∙ choose_true (flag v.seen x) (at new x) (at old x) (subst T (sym (visits.shows.sees x)) t)
+  -- a switch that is seen has the new value, and another the old
+  module _ {A : Type 0} (new old now : ℕ → A) (renumbered : (x : ℕ) → x < max_switches → now x ≡ choose (flag v.seen x) (new x) (old x)) (x : ℕ) where
+    renewed : T (reached_from p r x) → now x ≡ new x
+    renewed t = renumbered x (place r x last t) ∙ choose_true (flag v.seen x) (new x) (old x) (subst T (sym (visits.shows.sees x)) t)
 
-    kept : x < max_switches → (T (reached_from p r x) → ⊥) → at n x ≡ at old x
-    kept h m = renumbered.tells x h ∙ choose_false (flag v.seen x) (at new x) (at old x) (λ t. m (subst T (visits.shows.sees x) t))
+    kept : x < max_switches → (T (reached_from p r x) → ⊥) → now x ≡ old x
+    kept h m = renumbered x h ∙ choose_false (flag v.seen x) (new x) (old x) (λ t. m (subst T (visits.shows.sees x) t))
 
   module _ (few : f.count < max_switches) where
     roots' : (i : ℕ) → i < length rs' → (i < length rs) ⊎ (length rs ≤ i) → at (set f.roots f.count r) i ≡ get_or rs' i 0
@@ -80,26 +82,26 @@ module _ (p : Plant) (sound : Sound p) (rs : List ℕ) (r : ℕ) (f : Forest) (c
         let e : i ≡ f.count = omega (arith, covers.count_is, more_length rs r) in
         rw e (get_or-set_same f.roots f.count r 0 (omega (arith, covers.roots_places)) ∙ sym (ap (λ (k : ℕ). get_or rs' k 0) covers.count_is ∙ more_last rs r))
 
-    module _ (home : List ℕ) (settled : Renumbered v.seen (replicate max_switches f.count) f.home home) where
-      homes' : (i x : ℕ) → i < length rs' → T (reached_from p (get_or rs' i 0) x) → (i < length rs) ⊎ (length rs ≤ i) → at home x ≡ i
+    module _ (home : List (Option ℕ)) (settled : (x : ℕ) → x < max_switches → get_or home x None ≡ choose (flag v.seen x) (Some f.count) (get_or f.home x None)) where
+      homes' : (i x : ℕ) → i < length rs' → T (reached_from p (get_or rs' i 0) x) → (i < length rs) ⊎ (length rs ≤ i) → get_or home x None ≡ Some i
       homes' i x h t (inl l) =
           let s = get_or rs i 0 in
           let t' : T (reached_from p s x) = subst (λ (y : ℕ). T (reached_from p y x)) (more_before rs r i l) t in
           let k = get_d_in rs i l in
-          kept settled x (place s x (before s k) t') (apart s x k t') ∙ covers.homes i x l t'
+          kept _ _ _ settled x (place s x (before s k) t') (apart s x k t') ∙ covers.homes i x l t'
       homes' i x h t (inr l) =
           let e : i ≡ length rs = omega (arith, more_length rs r) in
           let t' : T (reached_from p r x) = subst (λ (y : ℕ). T (reached_from p y x)) (ap (λ (k : ℕ). get_or rs' k 0) e ∙ more_last rs r) t in
-          renewed settled x t' ∙ get_or-replicate max_switches x f.count 0 (place r x last t') ∙ covers.count_is ∙ sym e
+          renewed _ _ _ settled x t' ∙ ap Some (covers.count_is ∙ sym e)
 
-      homeless' : (x : ℕ) → x < max_switches → Outside p rs' x → at home x ≡ max_switches
-      homeless' x h n = kept settled x h (n r last) ∙ covers.homeless x h (λ s i. n s (before s i))
+      homeless' : (x : ℕ) → x < max_switches → Outside p rs' x → get_or home x None ≡ None
+      homeless' x h n = kept _ _ _ settled x h (n r last) ∙ covers.homeless x h (λ s i. n s (before s i))
 
-      module _ (numbers : List ℕ) (ranked : Renumbered v.seen v.rank f.rank numbers) (entered : List Bool) (joined : Flags max_links (λ l. flag f.entered l || flag v.entered l) entered) where
+      module _ (numbers : List ℕ) (ranked : (x : ℕ) → x < max_switches → at numbers x ≡ choose (flag v.seen x) (at v.rank x) (at f.rank x)) (entered : List Bool) (joined : (l : ℕ) → flag entered l ≡ flag f.entered l || flag v.entered l) where
         ranks' : (s x : ℕ) → T (reached_from p s x) → In s rs ⊎ (s ≡ r) → at numbers x ≡ rank x (visited_from p s).ord
-        ranks' s x t (inl i) = kept ranked x (place s x (before s i) t) (apart s x i t) ∙ covers.ranks s x i t
+        ranks' s x t (inl i) = kept _ _ _ ranked x (place s x (before s i) t) (apart s x i t) ∙ covers.ranks s x i t
         ranks' s x t (inr e) =
-            renewed ranked x (subst (λ (k : ℕ). T (reached_from p k x)) e t) ∙ visits.shows.ranks x ∙ ap (λ (k : ℕ). rank x (visited_from p k).ord) (sym e)
+            renewed _ _ _ ranked x (subst (λ (k : ℕ). T (reached_from p k x)) e t) ∙ visits.shows.ranks x ∙ ap (λ (k : ℕ). rank x (visited_from p k).ord) (sym e)
 
         -- ---- the links that are entered
 
@@ -108,13 +110,13 @@ module _ (p : Plant) (sound : Sound p) (rs : List ℕ) (r : ℕ) (f : Forest) (c
         passed l n = visits.shows.enters l ∙ not_true_false (entered_from p r l) (λ e. n (entered-first p sound r l visits.root_in (true_T (entered_from p r l) e)))
 
         enters' : (s l : ℕ) → T (reached_from p s (first p l)) → In s rs ⊎ (s ≡ r) → flag entered l ≡ entered_from p s l
-        enters' s l t (inl i) = joined.tells l ∙ rw (passed l (apart s (first p l) i t), covers.enters s l i t) (or-false (entered_from p s l))
+        enters' s l t (inl i) = joined l ∙ rw (passed l (apart s (first p l) i t), covers.enters s l i t) (or-false (entered_from p s l))
         enters' s l t (inr e) =
             let t' : T (reached_from p r (first p l)) = subst (λ (k : ℕ). T (reached_from p k (first p l))) e t in
-            joined.tells l ∙ rw (covers.unentered l (λ q i u. apart q (first p l) i u t')) (visits.shows.enters l) ∙ ap (λ (k : ℕ). entered_from p k l) (sym e)
+            joined l ∙ rw (covers.unentered l (λ q i u. apart q (first p l) i u t')) (visits.shows.enters l) ∙ ap (λ (k : ℕ). entered_from p k l) (sym e)
 
         unentered' : (l : ℕ) → Outside p rs' (first p l) → flag entered l ≡ false
-        unentered' l n = joined.tells l ∙ rw (covers.unentered l (λ s i. n s (before s i)), passed l (n r last))
+        unentered' l n = joined l ∙ rw (covers.unentered l (λ s i. n s (before s i)), passed l (n r last))
 
         pub covers_more : Covers p rs' (record { count = f.count + 1; roots = set f.roots f.count r; home = home; rank = numbers; entered = entered })
         covers_more = record {

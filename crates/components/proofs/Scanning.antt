@@ -1,19 +1,21 @@
 -- The roots below a switch, as the switches are gone through: which switch begins a component, that it is apart from those before it, and that all roots tell the components of
 -- the plant. Assumes a sound plant.
-use mathlib.Core.Path.{◌≡◌, refl, sym, ap, subst}
+use mathlib.Core.Path.{◌≡◌, refl, sym, ap, ◌∙◌, subst}
 use mathlib.Core.Logic.{inl, inr}
-use mathlib.Core.Bool.{Bool, true, false}
+use mathlib.Core.Bool.{Bool, true, false, not}
 use mathlib.Core.List.{List, [], ◌∷◌, ◌++◌}
-use Prim.Native.Nat.{ℕ, ◌+◌, ◌-◌, ◌*◌, ◌≤◌, ◌<◌}
+use Prim.Native.Nat.{ℕ, ◌+◌, ◌*◌, ◌≤◌, ◌<◌}
 use native.Mathlib.Omega.{arith}
+use Rattle.std.specs.Option.{unwrap_or, is_some}
+use Rattle.std.proofs.Common.{Option, Some, None}
 use lib.Dec.{T}
-use lib.ListN.{length, replicate, get_or-replicate}
+use lib.ListN.{length, get_or, replicate, get_or-replicate}
 use Rattle.lists.specs.Arrays.{at}
 use Rattle.lists.specs.Members.{In}
-use Rattle.lists.specs.Count.{count}
 use Rattle.lists.specs.Numbers.{range, keep}
+use Rattle.lists.proofs.Tests.{not_both}
 use Rattle.lists.proofs.Members.{in_get_d}
-use Rattle.lists.proofs.Kept.{kept_yes, kept_no, kept-length, kept-room, count_more}
+use Rattle.lists.proofs.Kept.{kept_yes, kept_no, kept-length, kept-room}
 use Rattle.lists.proofs.Numbers.{range_in, keep_in, in_keep, in_range}
 use Rattle.plant.specs.declared.Plant.{Plant}
 use Rattle.limits.specs.Limits.{max_switches, max_links}
@@ -28,6 +30,17 @@ use Rattle.arcs.specs.Shows.{TellsAll}
 use Rattle.components.specs.declared.Forest.{Forest}
 use Rattle.components.specs.Found.{Finds}
 use Rattle.components.specs.Inner.{Apart, Covers}
+
+none_some : {x : ℕ} → None ≡ Some x → ⊥
+none_some e = cc
+
+-- by what the code asks of a component's number
+pub is_free : (o : Option ℕ) (b : Bool) → is_some o ≡ not b → b ≡ true → o ≡ None
+is_free None b e h = refl
+is_free (Some x) b e h = absurd (not_both true refl (e ∙ ap not h))
+
+pub not_free : (o : Option ℕ) (b : Bool) → is_some o ≡ not b → b ≡ false → o ≡ None → ⊥
+not_free o b e h q = not_both (is_some o) (e ∙ ap not h) (ap is_some q)
 
 module _ (p : Plant) (sound : Sound p) where
   ok : Valid p
@@ -49,18 +62,6 @@ module _ (p : Plant) (sound : Sound p) where
 
   few-roots : length (roots_to p.switches) ≤ p.switches
   few-roots = omega (arith, ap length roots_to_lem, roots_few p ok sound.start_in)
-
-  few_to : (x : ℕ) → x ≤ p.switches → length (roots_to x) ≤ max_switches
-  few_to x h =
-      let e : x + (p.switches - x) ≡ p.switches = omega arith in
-      omega (
-        arith,
-        kept-length (begun_at p) x,
-        subst (λ (n : ℕ). count x (begun_at p) ≤ count n (begun_at p)) e (count_more (begun_at p) x (p.switches - x)),
-        kept-length (begun_at p) p.switches,
-        few-roots,
-        sound.few_switches,
-      )
 
   -- there is a place for one more
   pub room : (x : ℕ) → x < p.switches → T (begun_at p x) → length (roots_to x) < max_switches
@@ -85,7 +86,7 @@ module _ (p : Plant) (sound : Sound p) where
 
     module _ (f : Forest) (covers : Covers p (roots_to x) f) where
       -- a switch without a number begins a component, and no other does
-      pub begins : at f.home x ≡ max_switches → T (begun_at p x)
+      pub begins : get_or f.home x None ≡ None → T (begun_at p x)
       begins e = (begun-new p ok sound.start_in x x_in).1 (
         reached p.start (inl refl),
         λ y l t. reached y (inr (in_keep (begun_at p) y (range 0 x) (in_range y 0 x (omega arith) (omega arith)) t)),
@@ -94,19 +95,22 @@ module _ (p : Plant) (sound : Sound p) where
           reached : (s : ℕ) → In s (roots_to x) → T (reached_from p s x) → ⊥
           reached s i t =
               let k = in_get_d (roots_to x) s i in
-              omega (arith, k.1, few_to x (omega (arith, x_in)), e, covers.homes k.0 x k.1 (subst (λ (r : ℕ). T (reached_from p r x)) (sym k.2) t))
+              none_some (sym e ∙ covers.homes k.0 x k.1 (subst (λ (r : ℕ). T (reached_from p r x)) (sym k.2) t))
 
-      pub begins-not : (at f.home x ≡ max_switches → ⊥) → T (begun_at p x) → ⊥
+      pub begins-not : (get_or f.home x None ≡ None → ⊥) → T (begun_at p x) → ⊥
       begins-not n t = n (covers.homeless x (omega (arith, x_in, sound.few_switches)) (away t))
 
   module _ (f : Forest) (covers : Covers p (roots p) f) where
     -- all roots tell the components of the plant
-    pub finds : (bridges arcs : List Bool) → Flags max_links (bridge p) bridges → Flags (2 * max_links) (used p) arcs
-        → Finds p (record { count = f.count; roots = f.roots; home = f.home; bridges = bridges; used = arcs })
-    finds bridges arcs b u = record {
+    pub finds : (home : List ℕ) (bridges arcs : List Bool) → ((x : ℕ) → x < max_switches → at home x ≡ unwrap_or (get_or f.home x None) 0) → Flags max_links (bridge p) bridges
+        → Flags (2 * max_links) (used p) arcs → Finds p (record { count = f.count; roots = f.roots; home = home; bridges = bridges; used = arcs })
+    finds home bridges arcs numbered b u = record {
       count_is = covers.count_is;
       roots_are = covers.roots_are;
-      homes = λ x h. covers.homes _ x (component_in p ok sound.start_in x h) ((component-is p ok sound.start_in _ x (component_in p ok sound.start_in x h) h).1 refl);
+      homes = λ x h.
+          numbered x (omega (arith, h, sound.few_switches))
+          ∙ ap (λ (o : Option ℕ). unwrap_or o 0)
+          (covers.homes _ x (component_in p ok sound.start_in x h) ((component-is p ok sound.start_in _ x (component_in p ok sound.start_in x h) h).1 refl));
       bridges_are = b;
       used_are = u;
     }

@@ -6,19 +6,17 @@ ghost use Rattle.std.specs.Prelude.{◌≡◌, ◌||◌, List, [], ◌∷◌, �
 ghost use Rattle.lists.specs.Arrays.{flag, at};
 ghost use Rattle.lists.specs.Tests.{choose};
 ghost use Rattle.limits.specs.Limits.{max_switches, max_links};
-ghost use Rattle.limits.specs.Sound.{Sound};
-ghost use Rattle.walks.specs.Arcs.{head};
 ghost use Rattle.walks.specs.Components.{roots};
-ghost use Rattle.arcs.specs.Net.{Ends};
 ghost use Rattle.arcs.specs.Flags.{Flags};
-ghost use Rattle.visit.specs.Inner.{AllChained};
 ghost use Rattle.components.specs.Found.{Finds};
-ghost use Rattle.components.specs.Inner.{Renumbered, Apart, Covers};
+ghost use Rattle.components.specs.Inner.{Apart, Covers};
 
-use arcs::Visited;
+use arcs::{AllVisited, ArcEnds, Visited};
 use plant::Plant;
+use std::array;
+use visit::AllChains;
 
-// The components: `count` of them with their roots, for each switch the number of its component, the bridges and the arcs in use.
+// The components: `count` of them with their roots, for each switch the number of its component, the bridges and the arcs in use. A place of no switch has 0.
 #[derive(Clone, Copy)]
 pub struct Found {
     pub count: u8,
@@ -29,57 +27,14 @@ pub struct Found {
 }
 
 // What the visits so far have found: `count` components with their roots, for each switch the number of its component and its own number in the visit of that, and by which links
-// switches were entered. Where a switch is in none of them, the number of its component is the most that there can be.
+// switches were entered. Where a switch is in none of them, its component is none.
 #[derive(Clone, Copy)]
 pub struct Forest {
     pub count: u8,
     pub roots: [u8; Plant::PLACES],
-    pub home: [u8; Plant::PLACES],
+    pub home: [Option<u8>; Plant::PLACES],
     pub rank: [u8; Plant::PLACES],
     pub entered: [bool; Plant::MAX_LINKS],
-}
-
-// The number that stands for no component.
-const NONE: u8 = Plant::PLACES as u8;
-
-// The flags that are set in one of two.
-fn join(a: [bool; Plant::MAX_LINKS], b: [bool; Plant::MAX_LINKS]) -> [bool; Plant::MAX_LINKS]
-    ensures { Flags max_links (λ l. flag a l || flag b l) result }
-{
-    let mut r = [false; Plant::MAX_LINKS];
-    let mut l: usize = 0;
-    while l < Plant::MAX_LINKS {
-        r[l] = a[l] | b[l];
-        l += 1;
-    }
-    r
-}
-
-// The new number of a switch that is seen, and the old one of another.
-fn pick(seen: bool, new: u8, old: u8) -> u8
-    ensures { result ≡ choose seen new old }
-{
-    if seen {
-        return new;
-    }
-    old
-}
-
-// The new numbers of the switches that are seen, and the old ones of the others.
-fn renumber(
-    seen: [bool; Plant::PLACES],
-    new: [u8; Plant::PLACES],
-    old: [u8; Plant::PLACES],
-) -> [u8; Plant::PLACES]
-    ensures { Renumbered seen new old result }
-{
-    let mut r = [0u8; Plant::PLACES];
-    let mut x: usize = 0;
-    while x < Plant::PLACES {
-        r[x] = pick(seen[x], new[x], old[x]);
-        x += 1;
-    }
-    r
 }
 
 // Nothing is found yet.
@@ -89,43 +44,33 @@ fn nothing() -> Forest
     Forest {
         count: 0,
         roots: [0; Plant::PLACES],
-        home: [NONE; Plant::PLACES],
+        home: [None; Plant::PLACES],
         rank: [0; Plant::PLACES],
         entered: [false; Plant::MAX_LINKS],
     }
 }
 
-// With the component of one root more, which none of those found before reaches.
-fn with_component(
-    p: Plant,
-    heads: &[u8; Plant::LABELS],
-    first: &[u16; Plant::PLACES],
-    after: &[u16; Plant::LABELS],
-    f: Forest,
-    root: u8,
-) -> Forest
-    requires sound { Sound p }
-    requires heads_value { at heads.now ≡ head p }
-    requires all_chained { AllChained p first.now after.now }
-    requires root_lt_switches { root < p.switches }
-    requires count_lt_max_switches { f.count < max_switches }
-    ensures { (rs : List ℕ) → Covers p rs f → Apart p rs root → Covers p (rs ++ (root ∷ [])) result }
+// The new value of a switch that is seen, and the old one of another. It is given both, so that what goes over all places has no branch.
+fn pick<T: Copy>(seen: bool, new: T, old: T) -> T
+    ensures { result ≡ choose seen new old }
 {
-    let v = visit::visit_by(p, heads, first, after, root);
-    let k = f.count;
+    if seen { new } else { old }
+}
+
+// With the component of one root more, which none of those found before reaches.
+fn with_component(all: &AllChains, f: Forest, root: u8) -> Forest
+    requires root_lt_switches { root < all.now.ends.now.plant.switches }
+    requires count_lt_max_switches { f.count < max_switches }
+    ensures { (rs : List ℕ) → Covers all.now.ends.now.plant rs f → Apart all.now.ends.now.plant rs root → Covers all.now.ends.now.plant (rs ++ (root ∷ [])) result }
+{
+    let v = visit::visit_by(all, root);
     let mut roots = f.roots;
-    roots[k as usize] = root;
-    let seen = v.seen;
-    let homes = f.home;
-    let home = renumber(seen, [k; Plant::PLACES], homes);
-    let new = v.rank;
-    let old = f.rank;
-    let rank = renumber(seen, new, old);
-    let before = f.entered;
-    let more = v.entered;
-    let entered = join(before, more);
+    roots[f.count as usize] = root;
+    let home = array::from_fn(|x| pick(v.seen[x], Some(f.count), f.home[x]));
+    let rank = array::from_fn(|x| pick(v.seen[x], v.rank[x], f.rank[x]));
+    let entered = array::from_fn(|l| f.entered[l] | v.entered[l]);
     Forest {
-        count: k + 1,
+        count: f.count + 1,
         roots,
         home,
         rank,
@@ -134,52 +79,38 @@ fn with_component(
 }
 
 // The visits of all components: of the start's, and then of that of each switch which is in none before it.
-fn visit_all(
-    p: Plant,
-    heads: &[u8; Plant::LABELS],
-    first: &[u16; Plant::PLACES],
-    after: &[u16; Plant::LABELS],
-) -> Forest
-    requires sound { Sound p }
-    requires heads_value { at heads.now ≡ head p }
-    requires all_chained { AllChained p first.now after.now }
-    ensures { Covers p (roots p) result }
+fn visit_all(all: &AllChains) -> Forest
+    ensures { Covers all.now.ends.now.plant (roots all.now.ends.now.plant) result }
 {
-    let mut f = with_component(p, heads, first, after, nothing(), p.start);
-    let mut x: u8 = 0;
-    while x < p.switches {
-        let i = x as usize;
-        if f.home[i] == NONE {
-            f = with_component(p, heads, first, after, f, x);
+    let mut f = with_component(all, nothing(), all.ends.plant.start);
+    for x in 0..all.ends.plant.switches {
+        if f.home[x as usize].is_none() {
+            f = with_component(all, f, x);
         }
-        x += 1;
     }
     f
 }
 
 // The components of a plant. Its bridges and its arcs in use are read from the visits of all of them, in which every switch is seen.
-pub fn find(p: Plant, tails: &[u8; Plant::LABELS], heads: &[u8; Plant::LABELS]) -> Found
-    requires sound { Sound p }
-    requires ends { Ends p tails.now heads.now }
-    ensures { Finds p result }
+pub fn find(ends: &ArcEnds) -> Found
+    ensures { Finds ends.now.plant result }
 {
-    let c = visit::all_chains(p, tails);
-    let first = c.first;
-    let after = c.after;
-    let f = visit_all(p, heads, &first, &after);
+    let chains = visit::all_chains(ends);
+    let f = visit_all(&chains);
     let rank = f.rank;
     let entered = f.entered;
-    let v = Visited {
-        root: p.start,
-        next: p.switches,
+    let visited = Visited {
+        root: ends.plant.start,
+        next: ends.plant.switches,
         seen: [true; Plant::PLACES],
         rank,
         entered,
     };
-    let bridges = bridges::bridges_of(p, tails, heads, v);
-    let used = uses::arcs_in_use(p, tails, heads, v, &bridges);
+    let all = AllVisited { ends, visited };
+    let bridges = bridges::bridges_of(&all);
+    let used = uses::arcs_in_use(&all, &bridges);
     let roots = f.roots;
-    let home = f.home;
+    let home = array::from_fn(|x| f.home[x].unwrap_or(0));
     Found {
         count: f.count,
         roots,

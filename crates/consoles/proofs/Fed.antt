@@ -6,6 +6,7 @@ use mathlib.Core.List.{List, [], ◌∷◌, ◌++◌}
 use Prim.Native.Nat.{ℕ, ◌≤◌, ◌<◌}
 use lib.Dec.{eqb}
 use borrow.Author.Tests.{eqb-true, eqb-false, leb-false}
+use Rattle.std.specs.Prelude.{Option}
 use Rattle.lists.specs.Tests.{choose}
 use Rattle.plant.specs.declared.Plant.{Plant}
 use Rattle.answers.specs.Answers.{Answer, given, refused}
@@ -23,10 +24,9 @@ use Rattle.search.specs.Calls.{Call, gives, counted, step, perform, begun}
 use Rattle.search.proofs.Sound.{answers-given}
 use Rattle.judging.proofs.Searching.{sound-here}
 use Rattle.desk.specs.declared.Held.{Held}
-use Rattle.desk.specs.declared.Held.TheVariants.{From}
 use Rattle.desk.specs.declared.Console.{Console}
 use Rattle.desk.specs.declared.Desk.{Desk}
-use Rattle.desk.specs.Console.{set_out_of_range, switch_checks, console_with, held_checks, held_after, replacing, starting, telling}
+use Rattle.desk.specs.Console.{set_out_of_range, switch_checks, console_with, search_from, held_checks, held_after, replacing, starting, telling}
 use Rattle.desk.specs.Desk.{console_of}
 use Rattle.consoles.specs.Calls.{console_out_of_range, sizing, Request, new_set, start, outcome, switch_of, asking, calling}
 use Rattle.consoles.specs.Lists.{DeskCall, answer_to, after, after_all, Fed, unknown, since, feed_with, feed_if, fed_by}
@@ -49,19 +49,19 @@ module _ (s e : ℕ) (c a : Console) where
   unfolding replacing
   set_search set g = sym (ap (λ (x : Console). x.search) (result-given (replacing s set c) a g))
 
-  start_search : (x : ℕ) → answer (starting s e x c) ≡ given a → (x < s) × (a.search ≡ From x (new_search e))
+  start_search : (x : ℕ) → answer (starting s e x c) ≡ given a → (x < s) × (a.search ≡ search_from x (new_search e))
   unfolding starting
   start_search x g =
-      let r = (given-exactly ((20, set_out_of_range s c.set) ∷ switch_checks s c.set x) (console_with c.set (From x (new_search e))) a).0 g in
+      let r = (given-exactly ((20, set_out_of_range s c.set) ∷ switch_checks s c.set x) (console_with c.set (search_from x (new_search e))) a).0 g in
       (leb-false s x r.0.1.0, sym (ap (λ (y : Console). y.search) r.1))
 
   -- an outcome moves the search as its own call does
-  told_search : (o : Outcome) (x : ℕ) (q : Search) → c.search ≡ From x q → answer (telling s e o c) ≡ given a → (answer (give q o) ≡ given (next q o)) × (a.search ≡ From x (next q o))
+  told_search : (o : Outcome) (x : ℕ) (q : Search) → c.search ≡ search_from x q → answer (telling s e o c) ≡ given a → (answer (give q o) ≡ given (next q o)) × (a.search ≡ search_from x (next q o))
   unfolding telling give
   told_search o x q f g =
-      let t : trying ((20, set_out_of_range s c.set) ∷ held_checks s e c.set (From x q)) (given (console_with c.set (held_after o (From x q)))) ≡ given a
-      = ap (λ (h : Held). trying ((20, set_out_of_range s c.set) ∷ held_checks s e c.set h) (given (console_with c.set (held_after o h)))) (sym f) ∙ g in
-      let r = (given-exactly ((20, set_out_of_range s c.set) ∷ held_checks s e c.set (From x q)) (console_with c.set (held_after o (From x q))) a).0 t in
+      let t : trying ((20, set_out_of_range s c.set) ∷ held_checks s e c.set (search_from x q)) (given (console_with c.set (held_after o (search_from x q)))) ≡ given a
+      = ap (λ (h : Option Held). trying ((20, set_out_of_range s c.set) ∷ held_checks s e c.set h) (given (console_with c.set (held_after o h)))) (sym f) ∙ g in
+      let r = (given-exactly ((20, set_out_of_range s c.set) ∷ held_checks s e c.set (search_from x q)) (console_with c.set (held_after o (search_from x q))) a).0 t in
       (answers-given q (next q o) (sound-here e q r.0.1.1.1.0).0 r.0.1.1.1.1.0, sym (ap (λ (y : Console). y.search) r.1))
 
 -- ---- the outcomes, one after the other
@@ -79,7 +79,7 @@ one_more p cs o q e =
 
 abbrev pub FedBy : Console → Fed → Type 0
 FedBy c unknown = Unit
-FedBy c (since s x os) = (p : Plant) × (answer (planning_at s x) ≡ given p) × (c.search ≡ From x (perform (begun (links_with p x)) os).state)
+FedBy c (since s x os) = (p : Plant) × (answer (planning_at s x) ≡ given p) × (c.search ≡ search_from x (perform (begun (links_with p x)) os).state)
 
 module _ (k : ℕ) (s : List ℕ) (c a : Console) where
   feed_keeps : (r : Request) → answer (calling k s r c) ≡ given a → (u : Fed) → FedBy c u → FedBy a (feed_with s r u)
@@ -95,7 +95,7 @@ module _ (k : ℕ) (s : List ℕ) (c a : Console) where
       let p = asked_in k s (outcome o) c a e in
       let b = begun (links_with f.0 x) in
       let g = told_search p.0.switches (links_with p.0 (switch_of (outcome o) c)) c a o x (perform b os).state f.2 p.2 in
-      (f.0, f.1, g.1 ∙ ap (From x) (sym (one_more b os o (next (perform b os).state o) g.0)))
+      (f.0, f.1, g.1 ∙ ap (search_from x) (sym (one_more b os o (next (perform b os).state o) g.0)))
 
 -- ---- a list of calls
 

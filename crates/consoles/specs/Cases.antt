@@ -1,7 +1,7 @@
 -- Cases of the calls on a desk, with the triangle of document 01, that of document 02's order 7, whose last link is out of service, plants in several components (order 9), and
 -- listings that are refused; and of lists of calls of several consoles. Each row has what the definitions answer, and what orders 8 and 9 say. One computed test over all rows.
 -- Assumes nothing.
-use Rattle.std.specs.Prelude.{◌≡◌, refl, List, [], ◌∷◌, map, ◌++◌, ℕ, length}
+use Rattle.std.specs.Prelude.{None, ◌≡◌, refl, List, [], ◌∷◌, map, ◌++◌, ℕ, length}
 use Rattle.lists.specs.Count.{count}
 use Rattle.lists.specs.Least.{least_from}
 use Rattle.lists.specs.Numbers.{every}
@@ -21,9 +21,8 @@ use Rattle.search.specs.Search.{new_search}
 use Rattle.search.specs.Calls.{Call, asks, gives}
 use Rattle.search.specs.Values.{outcome_number}
 use Rattle.judging.specs.Conditions.{search_unsound}
-use Rattle.desk.specs.declared.Held.TheVariants.{Nothing, From}
 use Rattle.desk.specs.declared.Console.{Console}
-use Rattle.desk.specs.Console.{set_out_of_range, console_with, replacing, starting, telling}
+use Rattle.desk.specs.Console.{set_out_of_range, console_with, search_from, replacing, starting, telling}
 use Rattle.desk.specs.Desk.{fresh_desk, console_of, with_console}
 use Rattle.desk.specs.Cases.{console}
 use Rattle.consoles.specs.Calls.{console_out_of_range, sizing, Request, new_set, start, outcome, calling, served}
@@ -96,60 +95,60 @@ fed k = given (numbers (fed_in k fresh_desk turns))
 abbrev pub rows : List (Answer (List ℕ) × Answer (List ℕ))
 rows =
     -- 19, before every refusal of the listing
-    (calls 4 triangle (new_set 0) (console_with 0 Nothing), refused 19)
-    ∷ (calls 4 [] (new_set 0) (console_with 0 Nothing), refused 19)
-    ∷ (calls 255 (8 ∷ []) (start 0) (console_with 0 Nothing), refused 19)
-    ∷ (calls 4 apart (outcome Lost) (console_with 0 Nothing), refused 19)
+    (calls 4 triangle (new_set 0) (console_with 0 None), refused 19)
+    ∷ (calls 4 [] (new_set 0) (console_with 0 None), refused 19)
+    ∷ (calls 255 (8 ∷ []) (start 0) (console_with 0 None), refused 19)
+    ∷ (calls 4 apart (outcome Lost) (console_with 0 None), refused 19)
     -- those of the listing, before 20 and the others
-    ∷ (calls 3 [] (new_set 255) (console_with 0 Nothing), refused 1)
-    ∷ (calls 3 (8 ∷ []) (start 9) (console_with 0 Nothing), refused 2)
-    ∷ (calls 3 (1 ∷ 2 ∷ 0 ∷ []) (outcome Lost) (console_with 255 Nothing), refused 8)
+    ∷ (calls 3 [] (new_set 255) (console_with 0 None), refused 1)
+    ∷ (calls 3 (8 ∷ []) (start 9) (console_with 0 None), refused 2)
+    ∷ (calls 3 (1 ∷ 2 ∷ 0 ∷ []) (outcome Lost) (console_with 255 None), refused 8)
     -- with a plant in one component a call goes by its switches and its links in service
-    ∷ (calls 3 triangle (new_set 7) (console_with 255 Nothing), given (7 ∷ []))
-    ∷ (calls 0 triangle (new_set 8) (console_with 7 Nothing), refused 20)
-    ∷ (calls 1 triangle (start 2) (console_with 4 Nothing), given (4 ∷ 2 ∷ 0 ∷ 3 ∷ 0 ∷ []))
-    ∷ (calls 1 open_triangle (start 2) (console_with 4 Nothing), given (4 ∷ 2 ∷ 0 ∷ 2 ∷ 0 ∷ []))
-    ∷ (calls 2 triangle (outcome Lost) (console_with 4 (From 2 (Checking 3 0))), given (4 ∷ 2 ∷ 0 ∷ 3 ∷ 1 ∷ []))
-    ∷ (calls 2 open_triangle (outcome Lost) (console_with 4 (From 2 (Checking 3 0))), refused 14)
+    ∷ (calls 3 triangle (new_set 7) (console_with 255 None), given (7 ∷ []))
+    ∷ (calls 0 triangle (new_set 8) (console_with 7 None), refused 20)
+    ∷ (calls 1 triangle (start 2) (console_with 4 None), given (4 ∷ 2 ∷ 0 ∷ 3 ∷ 0 ∷ []))
+    ∷ (calls 1 open_triangle (start 2) (console_with 4 None), given (4 ∷ 2 ∷ 0 ∷ 2 ∷ 0 ∷ []))
+    ∷ (calls 2 triangle (outcome Lost) (console_with 4 (search_from 2 (Checking 3 0))), given (4 ∷ 2 ∷ 0 ∷ 3 ∷ 1 ∷ []))
+    ∷ (calls 2 open_triangle (outcome Lost) (console_with 4 (search_from 2 (Checking 3 0))), refused 14)
     -- several components are not refused: no call tries 9
-    ∷ (calls 3 apart (outcome Lost) (console_with 255 Nothing), refused 20)
-    ∷ (calls 3 apart (new_set 3) (console_with 255 Nothing), given (3 ∷ []))
-    ∷ (calls 3 apart (start 1) (console_with 3 Nothing), given (3 ∷ 1 ∷ 2 ∷ []))
+    ∷ (calls 3 apart (outcome Lost) (console_with 255 None), refused 20)
+    ∷ (calls 3 apart (new_set 3) (console_with 255 None), given (3 ∷ []))
+    ∷ (calls 3 apart (start 1) (console_with 3 None), given (3 ∷ 1 ∷ 2 ∷ []))
     -- a start goes by the links in service of its switch's component, whatever search it replaces
-    ∷ (calls 0 yards (start 5) (console_with 127 Nothing), given (127 ∷ 5 ∷ 0 ∷ 1 ∷ 0 ∷ []))
-    ∷ (calls 1 yards (start 4) (console_with 127 (From 2 (Checking 3 1))), given (127 ∷ 4 ∷ 0 ∷ 1 ∷ 0 ∷ []))
-    ∷ (calls 2 yards (start 2) (console_with 127 (From 4 (Checking 1 1))), given (127 ∷ 2 ∷ 0 ∷ 3 ∷ 0 ∷ []))
-    ∷ (calls 3 yards (start 0) (console_with 127 Nothing), given (127 ∷ 0 ∷ 0 ∷ 3 ∷ 0 ∷ []))
-    ∷ (calls 0 yards (start 1) (console_with 127 Nothing), given (127 ∷ 1 ∷ 2 ∷ []))
-    ∷ (calls 0 yards (start 6) (console_with 127 (From 2 (Checking 3 0))), given (127 ∷ 6 ∷ 2 ∷ []))
+    ∷ (calls 0 yards (start 5) (console_with 127 None), given (127 ∷ 5 ∷ 0 ∷ 1 ∷ 0 ∷ []))
+    ∷ (calls 1 yards (start 4) (console_with 127 (search_from 2 (Checking 3 1))), given (127 ∷ 4 ∷ 0 ∷ 1 ∷ 0 ∷ []))
+    ∷ (calls 2 yards (start 2) (console_with 127 (search_from 4 (Checking 1 1))), given (127 ∷ 2 ∷ 0 ∷ 3 ∷ 0 ∷ []))
+    ∷ (calls 3 yards (start 0) (console_with 127 None), given (127 ∷ 0 ∷ 0 ∷ 3 ∷ 0 ∷ []))
+    ∷ (calls 0 yards (start 1) (console_with 127 None), given (127 ∷ 1 ∷ 2 ∷ []))
+    ∷ (calls 0 yards (start 6) (console_with 127 (search_from 2 (Checking 3 0))), given (127 ∷ 6 ∷ 2 ∷ []))
     -- and an outcome by those of its search's: the E of another component, of the whole plant or of the listing is 14
-    ∷ (calls 0 yards (outcome Lost) (console_with 127 (From 4 (Checking 1 0))), given (127 ∷ 4 ∷ 0 ∷ 1 ∷ 1 ∷ []))
-    ∷ (calls 0 yards (outcome Returned) (console_with 127 (From 5 (Checking 1 2))), given (127 ∷ 5 ∷ 2 ∷ []))
-    ∷ (calls 0 yards (outcome Lost) (console_with 127 (From 4 (Checking 1 2))), given (127 ∷ 4 ∷ 3 ∷ 1 ∷ []))
-    ∷ (calls 0 yards (outcome Lost) (console_with 127 (From 2 (Checking 3 2))), given (127 ∷ 2 ∷ 1 ∷ 1 ∷ 3 ∷ 0 ∷ []))
-    ∷ (calls 0 yards (outcome Lost) (console_with 127 (From 4 (Checking 3 0))), refused 14)
-    ∷ (calls 0 yards (outcome Lost) (console_with 127 (From 2 (Checking 1 0))), refused 14)
-    ∷ (calls 0 yards (outcome Lost) (console_with 127 (From 2 (Checking 4 0))), refused 14)
-    ∷ (calls 0 yards (outcome Lost) (console_with 127 (From 2 (Checking 5 0))), refused 14)
-    ∷ (calls 0 yards (outcome Lost) (console_with 127 (From 4 (Checking 4 0))), refused 14)
-    ∷ (calls 0 yards (outcome Lost) (console_with 127 (From 5 (Halving 1 3 0))), refused 14)
-    ∷ (calls 0 yards (outcome Lost) (console_with 127 (From 2 (Down 4))), refused 14)
-    ∷ (calls 0 yards (outcome Lost) (console_with 127 (From 2 (Down 3))), refused 15)
+    ∷ (calls 0 yards (outcome Lost) (console_with 127 (search_from 4 (Checking 1 0))), given (127 ∷ 4 ∷ 0 ∷ 1 ∷ 1 ∷ []))
+    ∷ (calls 0 yards (outcome Returned) (console_with 127 (search_from 5 (Checking 1 2))), given (127 ∷ 5 ∷ 2 ∷ []))
+    ∷ (calls 0 yards (outcome Lost) (console_with 127 (search_from 4 (Checking 1 2))), given (127 ∷ 4 ∷ 3 ∷ 1 ∷ []))
+    ∷ (calls 0 yards (outcome Lost) (console_with 127 (search_from 2 (Checking 3 2))), given (127 ∷ 2 ∷ 1 ∷ 1 ∷ 3 ∷ 0 ∷ []))
+    ∷ (calls 0 yards (outcome Lost) (console_with 127 (search_from 4 (Checking 3 0))), refused 14)
+    ∷ (calls 0 yards (outcome Lost) (console_with 127 (search_from 2 (Checking 1 0))), refused 14)
+    ∷ (calls 0 yards (outcome Lost) (console_with 127 (search_from 2 (Checking 4 0))), refused 14)
+    ∷ (calls 0 yards (outcome Lost) (console_with 127 (search_from 2 (Checking 5 0))), refused 14)
+    ∷ (calls 0 yards (outcome Lost) (console_with 127 (search_from 4 (Checking 4 0))), refused 14)
+    ∷ (calls 0 yards (outcome Lost) (console_with 127 (search_from 5 (Halving 1 3 0))), refused 14)
+    ∷ (calls 0 yards (outcome Lost) (console_with 127 (search_from 2 (Down 4))), refused 14)
+    ∷ (calls 0 yards (outcome Lost) (console_with 127 (search_from 2 (Down 3))), refused 15)
     -- at a switch without links in service every search that has a link is 14
-    ∷ (calls 0 yards (outcome Lost) (console_with 127 (From 6 (Checking 1 0))), refused 14)
-    ∷ (calls 0 yards (outcome Lost) (console_with 127 (From 1 (Down 1))), refused 14)
-    ∷ (calls 0 yards (outcome Lost) (console_with 127 (From 6 AllUp)), refused 15)
+    ∷ (calls 0 yards (outcome Lost) (console_with 127 (search_from 6 (Checking 1 0))), refused 14)
+    ∷ (calls 0 yards (outcome Lost) (console_with 127 (search_from 1 (Down 1))), refused 14)
+    ∷ (calls 0 yards (outcome Lost) (console_with 127 (search_from 6 AllUp)), refused 15)
     -- a set may lie across components; a new one judges no search, and the range goes by the switches of all
-    ∷ (calls 0 yards (new_set 22) (console_with 127 (From 2 (Checking 1 0))), given (22 ∷ 2 ∷ 0 ∷ 1 ∷ 0 ∷ []))
-    ∷ (calls 0 yards (new_set 128) (console_with 22 Nothing), refused 20)
-    ∷ (calls 0 yards (start 2) (console_with 22 Nothing), given (22 ∷ 2 ∷ 0 ∷ 3 ∷ 0 ∷ []))
-    ∷ (calls 0 yards (start 4) (console_with 22 Nothing), given (22 ∷ 4 ∷ 0 ∷ 1 ∷ 0 ∷ []))
-    ∷ (calls 0 yards (start 1) (console_with 22 Nothing), given (22 ∷ 1 ∷ 2 ∷ []))
-    ∷ (calls 0 yards (start 5) (console_with 22 Nothing), refused 21)
-    ∷ (calls 0 yards (start 7) (console_with 22 Nothing), refused 11)
-    ∷ (calls 0 yards (outcome Lost) (console_with 22 Nothing), refused 15)
-    ∷ (calls 0 yards (outcome Lost) (console_with 22 (From 5 (Checking 3 0))), refused 21)
-    ∷ (calls 0 yards (outcome Lost) (console_with 22 (From 7 (Checking 3 0))), refused 11)
+    ∷ (calls 0 yards (new_set 22) (console_with 127 (search_from 2 (Checking 1 0))), given (22 ∷ 2 ∷ 0 ∷ 1 ∷ 0 ∷ []))
+    ∷ (calls 0 yards (new_set 128) (console_with 22 None), refused 20)
+    ∷ (calls 0 yards (start 2) (console_with 22 None), given (22 ∷ 2 ∷ 0 ∷ 3 ∷ 0 ∷ []))
+    ∷ (calls 0 yards (start 4) (console_with 22 None), given (22 ∷ 4 ∷ 0 ∷ 1 ∷ 0 ∷ []))
+    ∷ (calls 0 yards (start 1) (console_with 22 None), given (22 ∷ 1 ∷ 2 ∷ []))
+    ∷ (calls 0 yards (start 5) (console_with 22 None), refused 21)
+    ∷ (calls 0 yards (start 7) (console_with 22 None), refused 11)
+    ∷ (calls 0 yards (outcome Lost) (console_with 22 None), refused 15)
+    ∷ (calls 0 yards (outcome Lost) (console_with 22 (search_from 5 (Checking 3 0))), refused 21)
+    ∷ (calls 0 yards (outcome Lost) (console_with 22 (search_from 7 (Checking 3 0))), refused 11)
     -- a list of calls: what those of a console answer, each as it then stands, and what it has at the end; a console that makes no call has what it had
     ∷ (answers 0, given (7 ∷ 7 ∷ 0 ∷ 0 ∷ 3 ∷ 0 ∷ 11 ∷ 7 ∷ 0 ∷ 2 ∷ []))
     ∷ (answers 2, given (3 ∷ 3 ∷ 1 ∷ 0 ∷ 3 ∷ 0 ∷ 3 ∷ 1 ∷ 0 ∷ 3 ∷ 1 ∷ 5 ∷ 1 ∷ 0 ∷ 3 ∷ 1 ∷ 21 ∷ []))

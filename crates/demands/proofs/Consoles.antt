@@ -18,8 +18,7 @@ use Rattle.judging.specs.Conditions.{wanted_checks}
 use Rattle.planning.proofs.Plans.{at-given}
 use Rattle.probing.proofs.Searching.{searches}
 use Rattle.desk.specs.declared.Console.{Console}
-use Rattle.desk.specs.declared.Held.TheVariants.{From}
-use Rattle.desk.specs.Console.{has, set_out_of_range, switch_checks, console_with, replacing, starting, telling}
+use Rattle.desk.specs.Console.{has, set_out_of_range, switch_checks, console_with, search_from, replacing, starting, telling}
 use Rattle.desk.specs.Inner.{giving_to}
 use Rattle.desk.specs.Desk.{console_of}
 use Rattle.desk.proofs.Sets.{small_has, none_above}
@@ -49,13 +48,13 @@ console_calls k h s p e =
       replaces = λ x set u v. so (start x) (console_with set u) ∙ sym (so (start x) (console_with set v));
       in_set = λ x c a g.
           let r
-          = (given-exactly ((20, set_out_of_range p.switches c.set) ∷ switch_checks p.switches c.set x) (console_with c.set (From x (new_search (links_with p x)))) a).0
+          = (given-exactly ((20, set_out_of_range p.switches c.set) ∷ switch_checks p.switches c.set x) (console_with c.set (search_from x (new_search (links_with p x)))) a).0
           (sym (so (start x) c) ∙ g) in
           (leb-false p.switches x r.0.1.0, not-false (has c.set x) r.0.1.1.0, sym r.1);
       feeds = λ o set x q f h i j.
-          so (outcome o) (console_with set (From x q)) ∙ rw (f, lt-leb p.switches x h, i)
-          (sym (ap (λ (a : Answer Search). a >>= λ r. given (console_with set (From x r))) (given-sound (links_with p x) q o j)
-          ∙ trying_then (wanted_checks (links_with p x) q) (given (next q o)) (λ r. given (console_with set (From x r)))));
+          so (outcome o) (console_with set (search_from x q)) ∙ rw (f, lt-leb p.switches x h, i)
+          (sym (ap (λ (a : Answer Search). a >>= λ r. given (console_with set (search_from x r))) (given-sound (links_with p x) q o j)
+          ∙ trying_then (wanted_checks (links_with p x) q) (given (next q o)) (λ r. given (console_with set (search_from x r)))));
     }
 
 pub isolated : Isolated

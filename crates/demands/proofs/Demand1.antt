@@ -29,7 +29,7 @@ use Rattle.planner.proofs.Trailing.{trail-kept}
 use Rattle.planner.proofs.Buying.{buying-kept}
 use Rattle.probing.specs.Calls.{run_in, running, check_in, checking, round_in, round_running, choice_in, choosing, order_in, ordering, outward_in, outgoing, probe_in, probing, name_in, naming, beginning, performing}
 use Rattle.desk.specs.declared.Held.{Held}
-use Rattle.desk.specs.declared.Held.TheVariants.{Nothing, From}
+use Rattle.std.specs.Prelude.{Option, None, Some}
 use Rattle.desk.specs.Console.{set_out_of_range, replacing, starting, held_at, held_checks, telling}
 use Rattle.desk.specs.declared.Desk.{Desk}
 use Rattle.desk.specs.Desk.{with_console, console_of}
@@ -39,15 +39,15 @@ use Rattle.demands.specs.Demand1.{of_held, Demand1}
 use Rattle.demands.specs.Untouched.{Untouched}
 use Rattle.demands.proofs.Tried.{tries, after, at, called}
 
-each-held : (p : Plant) (set : ℕ) (h : Held) → all is_refusal (map (λ q. q.0) (of_held p set h)) ≡ true
-each-held p set Nothing = refl
-each-held p set (From x q) = refl
+each-held : (p : Plant) (set : ℕ) (h : Option Held) → all is_refusal (map (λ q. q.0) (of_held p set h)) ≡ true
+each-held p set None = refl
+each-held p set (Some h) = refl
 
 -- what an outcome tries of a console's search
-held-are : (p : Plant) (set : ℕ) (h : Held) → held_checks p.switches (links_with p (held_at h)) set h ≡ of_held p set h
+held-are : (p : Plant) (set : ℕ) (h : Option Held) → held_checks p.switches (links_with p (held_at h)) set h ≡ of_held p set h
 unfolding switch_out_of_range
-held-are p set Nothing = refl
-held-are p set (From x q) = refl
+held-are p set None = refl
+held-are p set (Some h) = refl
 
 held-tried : (d : Desk) (s : List ℕ) (k : ℕ) (o : Outcome)
     → (serving d k s (outcome o)).checks

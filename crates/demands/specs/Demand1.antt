@@ -7,15 +7,16 @@ use Rattle.demands.specs.Vocabulary.{hops_in, spare_above, order_quantity, allow
 use Rattle.demands.specs.Vocabulary.{outcome_of, trail_differs, hops_differ, states_short, search_unsound, formed, reading_page, page_short}
 use Rattle.demands.specs.Vocabulary.{places_short, rewriting, rereading, summing, bridging, parting, tabling, counting, trailing}
 use Rattle.demands.specs.Vocabulary.{round_trailing, buying, running, checking, round_running, choosing, ordering, outgoing, probing}
-use Rattle.demands.specs.Vocabulary.{naming, beginning, performing, Desk, Held, Nothing, From, set_out_of_range, outside_set, fresh_desk}
+use Rattle.demands.specs.Vocabulary.{naming, beginning, performing, Desk, Held, Option, None, Some, set_out_of_range, outside_set, fresh_desk}
 use Rattle.demands.specs.Vocabulary.{console_of, new_set, start, outcome, serving}
 use Rattle.demands.specs.Tried.{Tries, TriesListing, TriesConsole, RefusedBy, RefusedAs}
 
 -- what an outcome tries of the search that a console holds, with this set, in a plant: 15 if it has none
-abbrev pub of_held : Plant → ℕ → Held → Conditions
-of_held p set Nothing = (15, true) ∷ []
-of_held p set (From x q) =
-    (11, switch_out_of_range p x) ∷ (21, outside_set set x) ∷ (14, search_unsound (links_with p x) q) ∷ (15, ended q) ∷ []
+abbrev pub of_held : Plant → ℕ → Option Held → Conditions
+of_held p set None = (15, true) ∷ []
+of_held p set (Some h) =
+    (11, switch_out_of_range p h.switch) ∷ (21, outside_set set h.switch) ∷ (14, search_unsound (links_with p h.switch) h.search)
+    ∷ (15, ended h.search) ∷ []
 
 -- A field for each call, as in docs/CALLS.md: the conditions that it tries, each with its number, in their order; of a reading and a
 -- writing the numbers alone, since their conditions and order are `CheckingOrder`. Each is the call's definition read aloud, condition by

@@ -2,7 +2,7 @@
 use Rattle.std.specs.Prelude.{◌≡◌, ◌∷◌, ◌++◌, ◌≤◌, ◌<◌, ◌^◌}
 use Rattle.demands.specs.Vocabulary.{true, false, List, [], ℕ, given, refused, ◌>>=◌, Answer, answer}
 use Rattle.demands.specs.Vocabulary.{Plant, max_switches, Bytes, reading, links_with, Outcome, Search, Call, gives, perform, begun}
-use Rattle.demands.specs.Vocabulary.{give, new_search, sound_for, Searches, Console, Desk, Held, Nothing, From, set_out_of_range, has}
+use Rattle.demands.specs.Vocabulary.{give, new_search, sound_for, Searches, Console, Desk, Held, Option, None, search_from, set_out_of_range, has}
 use Rattle.demands.specs.Vocabulary.{console_with, idle, fresh_desk, console_of, new_set, start, outcome, Request, switch_of, asking}
 use Rattle.demands.specs.Vocabulary.{calling, DeskCall, answer_to, after, after_all, calls_of, answers_of, unknown, since, fed_in}
 
@@ -13,7 +13,7 @@ pub record Sets : Type 0 where
   -- "a fresh desk has empty sets and no search" (read aloud)
   pub fresh : (k : ℕ) → k ≤ 3 → console_of fresh_desk k ≡ idle
   pub empty : (k : ℕ) → k ≤ 3 → (x : ℕ) → has (console_of fresh_desk k).set x ≡ false
-  pub no_search : (k : ℕ) → k ≤ 3 → (console_of fresh_desk k).search ≡ Nothing
+  pub no_search : (k : ℕ) → k ≤ 3 → (console_of fresh_desk k).search ≡ None
 
 -- for a console k of the four, and a listing s that is read as a plant p: what a call does goes by S of p, and by E of the component of the
 -- switch that it goes by, that of a start or of its search. `asks`, `keeps_search` and `replaces` are the definition of a call read aloud
@@ -22,14 +22,14 @@ pub record ConsoleCalls (k : ℕ) (s : List ℕ) (p : Plant) : Type 0 where
   -- "a console replaces its set": its search stays as it is, whatever it is
   pub keeps_search : (set : ℕ) (c a : Console) → answer (calling k s (new_set set) c) ≡ given a → a ≡ console_with set c.search
   -- "starts a search, which replaces its own", whatever that is; "injection must be at a switch of its set"
-  pub replaces : (x set : ℕ) (h h' : Held)
+  pub replaces : (x set : ℕ) (h h' : Option Held)
       → answer (calling k s (start x) (console_with set h)) ≡ answer (calling k s (start x) (console_with set h'))
   pub in_set : (x : ℕ) (c a : Console) → answer (calling k s (start x) c) ≡ given a
-      → (x < p.switches) × (has c.set x ≡ true) × (a ≡ console_with c.set (From x (new_search (links_with p x))))
+      → (x < p.switches) × (has c.set x ≡ true) × (a ≡ console_with c.set (search_from x (new_search (links_with p x))))
   -- "or gives a fate to it": a search at a switch of the set that is sound for the listing is fed as by its own call, 14 and 15 included
   pub feeds : (o : Outcome) (set x : ℕ) (q : Search) → set_out_of_range p.switches set ≡ false → x < p.switches → has set x ≡ true
       → sound_for (links_with p x) q ≡ true
-      → answer (calling k s (outcome o) (console_with set (From x q))) ≡ (answer (give q o) >>= λ r. given (console_with set (From x r)))
+      → answer (calling k s (outcome o) (console_with set (search_from x q))) ≡ (answer (give q o) >>= λ r. given (console_with set (search_from x r)))
 
 -- "a call touches only its console's set and search, and answers with both as they then stand"
 pub record Isolated : Type 0 where
@@ -80,7 +80,7 @@ pub record ConsoleSearch (k : ℕ) (d : Desk) (cs : List DeskCall) (s : List ℕ
   pub read : answer (reading s) ≡ given plant
   pub at_switch : x < plant.switches
   -- the console has the search from x to which the outcomes lead
-  pub stands : (console_of (after_all d cs) k).search ≡ From x (perform (begun (links_with plant x)) os).state
+  pub stands : (console_of (after_all d cs) k).search ≡ search_from x (perform (begun (links_with plant x)) os).state
   pub searches : Searches plant x os (perform (begun (links_with plant x)) os)
 
 abbrev pub ConsoleSearches : Type 0

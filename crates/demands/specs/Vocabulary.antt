@@ -99,8 +99,8 @@ pub use Rattle.probing.specs.Searches.{CeilLog, AllTrue, OneOfThree, Searches, a
 pub use Rattle.desk.specs.declared.Console.{Console}
 pub use Rattle.desk.specs.declared.Desk.{Desk}
 pub use Rattle.desk.specs.declared.Held.{Held}
-pub use Rattle.desk.specs.declared.Held.TheVariants.{Nothing, From}
-pub use Rattle.desk.specs.Console.{set_out_of_range, outside_set, has, console_with, idle}
+pub use Rattle.std.specs.Prelude.{Option, None, Some}
+pub use Rattle.desk.specs.Console.{set_out_of_range, outside_set, has, console_with, search_from, idle}
 pub use Rattle.desk.specs.Desk.{fresh_desk, console_of}
 pub use Rattle.consoles.specs.Calls.{console_out_of_range, new_set, start, outcome, serving, Request, switch_of, asking, calling, served}
 pub use Rattle.consoles.specs.Lists.{DeskCall, answer_to, after, after_all, calls_of, answers_of, unknown, since, fed_in}

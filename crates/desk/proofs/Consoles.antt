@@ -1,9 +1,11 @@
 -- The consoles of a desk: the one that is put in its place is found there, and the other three are as they were. Assumes nothing.
-use mathlib.Core.Path.{◌≡◌, refl}
-use mathlib.Core.Bool.{Bool, true, false}
-use Prim.Native.Nat.{ℕ, zero, suc, ◌≤◌}
+use mathlib.Core.Path.{◌≡◌, refl, ap}
+use mathlib.Core.List.{List, [], ◌∷◌, map}
+use Prim.Native.Nat.{ℕ, zero, suc, min, ◌≤◌}
 use lib.Dec.{eqb}
+use lib.ListN.{length, get_or}
 use native.Mathlib.Omega.{arith}
+use Rattle.std.specs.Prelude.{slice_set}
 use Rattle.lists.specs.Tests.{choose}
 use Rattle.desk.specs.declared.Console.{Console}
 use Rattle.desk.specs.declared.Desk.{Desk}
@@ -18,23 +20,38 @@ four P a b c d (suc (suc zero)) h = c
 four P a b c d (suc (suc (suc zero))) h = d
 four P a b c d (suc (suc (suc (suc n)))) h = absurd (omega (arith, h))
 
-module _ (d : Desk) (c : Console) where
-  -- by whether k is 0, 1 or 2
-  abbrev put : Bool → Bool → Bool → Desk
-  put i j l =
-      choose i (record { c0 = c; c1 = d.c1; c2 = d.c2; c3 = d.c3 })
-      (choose j (record { c0 = d.c0; c1 = c; c2 = d.c2; c3 = d.c3 })
-      (choose l (record { c0 = d.c0; c1 = d.c1; c2 = c; c3 = d.c3 }) (record { c0 = d.c0; c1 = d.c1; c2 = d.c2; c3 = c })))
+-- and of any four consoles
+four_consoles : (P : List Console → Type 0) → ((a b c d : Console) → P (a ∷ b ∷ c ∷ d ∷ [])) → (l : List Console) → length l ≡ 4 → P l
+four_consoles P h [] e = absurd (omega (arith, e))
+four_consoles P h (a ∷ []) e = absurd (omega (arith, e))
+four_consoles P h (a ∷ b ∷ []) e = absurd (omega (arith, e))
+four_consoles P h (a ∷ b ∷ c ∷ []) e = absurd (omega (arith, e))
+four_consoles P h (a ∷ b ∷ c ∷ d ∷ []) e = h a b c d
+four_consoles P h (a ∷ b ∷ c ∷ d ∷ f ∷ l) e = absurd (omega (arith, e))
 
-  put_by : (i j l : Bool) → choose i (put i j l).c0 (choose j (put i j l).c1 (choose l (put i j l).c2 (put i j l).c3)) ≡ c
-  put_by true j l = refl
-  put_by false true l = refl
-  put_by false false true = refl
-  put_by false false false = refl
+-- the consoles with the one at place i put in its place
+abbrev put : List Console → Console → ℕ → List Console
+put l c i = map (λ j. choose (eqb j i) c (get_or l (min j 3) idle)) (0 ∷ 1 ∷ 2 ∷ 3 ∷ [])
 
-  pub put_there : (k : ℕ) → console_of (with_console d k c) k ≡ c
-  unfolding console_of with_console
-  put_there k = put_by (eqb k 0) (eqb k 1) (eqb k 2)
+put_set : (c : Console) (i : ℕ) → i ≤ 3 → (l : List Console) → length l ≡ 4 → slice_set l i c ≡ put l c i
+put_set c =
+    four (λ i. (l : List Console) → length l ≡ 4 → slice_set l i c ≡ put l c i)
+    (four_consoles (λ l. slice_set l 0 c ≡ put l c 0) (λ x y z w. refl))
+    (four_consoles (λ l. slice_set l 1 c ≡ put l c 1) (λ x y z w. refl))
+    (four_consoles (λ l. slice_set l 2 c ≡ put l c 2) (λ x y z w. refl))
+    (four_consoles (λ l. slice_set l 3 c ≡ put l c 3) (λ x y z w. refl))
+
+put_found : (l : List Console) (c : Console) (i : ℕ) → i ≤ 3 → get_or (put l c i) i idle ≡ c
+put_found l c = four (λ i. get_or (put l c i) i idle ≡ c) refl refl refl refl
+
+-- as the code puts it there, on a desk of four consoles
+pub put_is : (d : Desk) (k : ℕ) (c : Console) → length d.consoles ≡ 4 → record { consoles = slice_set d.consoles (min k 3) c } ≡ with_console d k c
+unfolding with_console console_of
+put_is d k c e = ap (λ (l : List Console). record { consoles = l }) (put_set c (min k 3) (omega arith) d.consoles e)
+
+pub put_there : (d : Desk) (c : Console) (k : ℕ) → console_of (with_console d k c) k ≡ c
+unfolding with_console console_of
+put_there d c k = put_found d.consoles c (min k 3) (omega arith)
 
 pub put_beside : (d : Desk) (c : Console) (k : ℕ) → k ≤ 3 → (j : ℕ) → j ≤ 3 → (k ≡ j → ⊥) → console_of (with_console d k c) j ≡ console_of d j
 unfolding console_of with_console

@@ -5,6 +5,7 @@ use mathlib.Core.Logic.{◌⊎◌, inl, inr, ⊎_elim}
 use mathlib.Core.Bool.{Bool, true, false}
 use mathlib.Core.List.{List, []}
 use Prim.Native.Nat.{ℕ, zero, suc, ◌+◌, ◌≤◌, ◌<◌}
+use Rattle.std.specs.Prelude.{min}
 use native.Mathlib.Omega.{arith}
 use lib.Dec.{T}
 use lib.ListN.{length, get_or, set, replicate, length-set, length-replicate}
@@ -18,7 +19,7 @@ use Rattle.routes.specs.Distance.{dist}
 use Rattle.routes.proofs.Distances.{dist_top, dist_self, dist_zero, dist_hop, dist_down, dist_by}
 use Rattle.arcs.specs.Table.{cell, grid}
 use Rattle.arcs.proofs.Tables.{holds_grid, flat_holds, set_cases, put, put_cases, put_shape}
-use Rattle.distance.specs.Ways.{Near, Left, Zeroed, lesser, Through}
+use Rattle.distance.specs.Ways.{Near, Left, Zeroed, Through}
 
 -- ---- switches that arcs leave
 
@@ -126,7 +127,7 @@ module _ (S n : ℕ) (tl hd : ℕ → ℕ) (ok : ℕ → Bool) where
           k_at : k < max_switches
           k_at = omega (arith, few, k_in)
 
-          is : (u v : ℕ) → u < S → v < max_switches → cell r u v ≡ lesser (cell t u v) (cell t u k + cell t k v)
+          is : (u v : ℕ) → u < S → v < max_switches → cell r u v ≡ min (cell t u v) (cell t u k + cell t k v)
           is u v h i = (q.done u h).done v i
 
           rest : (u v : ℕ) → S ≤ u → cell r u v ≡ cell t u v

@@ -1,5 +1,5 @@
 -- Inner: the table of distances on the way, as inner functions make it. No promise of a call needs it.
-use Rattle.std.specs.Prelude.{◌≡◌, Bool, true, List, [], ℕ, ◌+◌, ◌-◌, ◌≤◌, ◌<◌, T, length, get_or, set}
+use Rattle.std.specs.Prelude.{◌≡◌, Bool, true, List, [], ℕ, ◌+◌, ◌≤◌, ◌<◌, T, length, get_or, set, min}
 use Rattle.lists.specs.Arrays.{flag, at}
 use Rattle.limits.specs.Limits.{max_switches}
 use Rattle.routes.specs.Distance.{dist}
@@ -40,13 +40,9 @@ pub record FewHops (S : ℕ) (t : List (List ℕ)) : Type 0 where
   pub rows : length t ≡ max_switches
   pub few : (i j : ℕ) → i < max_switches → j < max_switches → cell t i j ≤ S
 
--- the less of two numbers: c without what it has above d
-abbrev pub lesser : ℕ → ℕ → ℕ
-lesser c d = c - (c - d)
-
 -- to the switches below j, the hops of a row or d hops to another switch and on from there by its row, whichever are fewer
 abbrev pub ByWay : List ℕ → List ℕ → ℕ → ℕ → List ℕ → Type 0
-ByWay row on d j r = Turned 0 (λ v h new. new ≡ lesser h (d + at on v)) row j r
+ByWay row on d j r = Turned 0 (λ v h new. new ≡ min h (d + at on v)) row j r
 
 -- the rows below i are by way of switch k
 abbrev pub Through : ℕ → List (List ℕ) → ℕ → List (List ℕ) → Type 0

@@ -3,33 +3,27 @@ use mathlib.Core.Path.{◌≡◌, refl, sym, ap, ap₂, ◌∙◌}
 use mathlib.Core.List.{List, [], ◌++◌}
 use Prim.Native.Nat.{ℕ, suc, ◌+◌, ◌-◌, ◌/◌, ◌%◌, ◌≤◌, ◌<◌}
 use native.Mathlib.Omega.{arith}
-use borrow.Author.Tests.{eq-eqb, ne_eqb}
-use lib.ListN.{length, get_or, drop, set, length-append, length-set}
+use borrow.Author.Tests.{ne_eqb}
+use lib.ListN.{length, get_or, drop, set, length-append}
 use lib.Seq.{sets}
+use Rattle.std.proofs.lemmas.List.{drop_more}
 use Rattle.lists.proofs.Arrays.{sets-append, laid}
 use Rattle.codec.specs.Field.{bytes_of}
 use Rattle.codec.specs.declared.Field.{Field}
-use Rattle.codec.specs.declared.Layout.{Layout}
 use Rattle.codec.specs.Part.{field_bytes, map_of, body_of, part_bytes}
-use Rattle.codec.specs.Layout.{fields_of, Proper}
-use Rattle.codec.proofs.Taken.{drop-next}
 use Rattle.codec.proofs.FieldLaws.{length-bytes_of}
-use Rattle.codec.proofs.LayoutLaws.{field_at, fields-next, fields_end}
+use Rattle.codec.proofs.LayoutLaws.{no_field, field_at}
 
--- ---- the last `left` bytes of a number
+-- ---- the bytes of a number from byte i on
 
-module _ (b : List ℕ) (at width left v : ℕ) where
-  pub bytes_next : 0 < left → left ≤ width
-      → sets (set b (at + (width - left)) (v % 256)) (at + (width - (left - 1))) (bytes_of (left - 1) (v / 256)) ≡ sets b (at + (width - left)) (bytes_of left v)
-  bytes_next h few =
-      let k : left ≡ suc (left - 1) = omega arith in
-      let j : suc (at + (width - left)) ≡ at + (width - (left - 1)) = omega arith in
-      sym (ap (λ (w : ℕ). sets b (at + (width - left)) (bytes_of w v)) k ∙ ap (λ (n : ℕ). sets (set b (at + (width - left)) (v % 256)) n (bytes_of (left - 1) (v / 256))) j)
+module _ (b : List ℕ) (at width i v : ℕ) where
+  pub bytes_next : i < width → sets (set b (at + i) (v % 256)) (at + (i + 1)) (bytes_of (width - (i + 1)) (v / 256)) ≡ sets b (at + i) (bytes_of (width - i) v)
+  bytes_next h =
+      let k : width - i ≡ suc (width - (i + 1)) = omega arith in
+      let j : suc (at + i) ≡ at + (i + 1) = omega arith in
+      sym (ap (λ (w : ℕ). sets b (at + i) (bytes_of w v)) k ∙ ap (λ (n : ℕ). sets (set b (at + i) (v % 256)) n (bytes_of (width - (i + 1)) (v / 256))) j)
 
 -- ---- the bytes of a field
-
-pub field-none : (f : Field) (v : ℕ) → v ≡ f.absent → field_bytes f v ≡ []
-field-none f v e = rw (eq-eqb v f.absent e) refl
 
 pub field-some : (f : Field) (v : ℕ) → (v ≡ f.absent → ⊥) → field_bytes f v ≡ bytes_of f.width v
 field-some f v n = rw (ne_eqb v f.absent n) refl
@@ -67,18 +61,14 @@ module _ (all b₀ : List ℕ) (from : ℕ) where
 
 -- ---- the fields of a part with the values vs, from field i on
 
-abbrev pub body_from : Layout → List ℕ → ℕ → List ℕ
-body_from l vs i = body_of (drop i (fields_of l)) (drop i vs)
+abbrev pub body_from : List Field → List ℕ → ℕ → List ℕ
+body_from fs vs i = body_of (drop i fs) (drop i vs)
 
-abbrev pub bytes_at : Layout → List ℕ → ℕ → List ℕ
-bytes_at l vs i = field_bytes (field_at l i) (get_or vs i 0)
+abbrev pub bytes_at : List Field → List ℕ → ℕ → List ℕ
+bytes_at fs vs i = field_bytes (field_at fs i) (get_or vs i 0)
 
-module _ {most : ℕ} {l : Layout} (q : Proper most l) (vs : List ℕ) (i : ℕ) where
-  pub body_next : length vs ≡ most → i < l.count → body_from l vs i ≡ bytes_at l vs i ++ body_from l vs (i + 1)
-  body_next long h = ap₂ body_of (fields-next q i h) (drop-next vs i 0 (omega (arith, q.few)))
-
-  pub body_end : l.count ≤ i → body_from l vs i ≡ []
-  body_end h = rw (fields_end q i h) refl
+pub body_next : (fs : List Field) (vs : List ℕ) (i : ℕ) → i < length fs → i < length vs → body_from fs vs i ≡ bytes_at fs vs i ++ body_from fs vs (i + 1)
+body_next fs vs i h k = ap₂ body_of (drop_more fs i no_field h) (drop_more vs i 0 k)
 
 -- ---- the map, then the fields
 
@@ -90,9 +80,6 @@ module _ (b : List ℕ) (at : ℕ) (fs : List Field) (vs : List ℕ) where
   pub part_end : at + 1 + length (body_of fs vs) ≡ at + length (part_bytes fs vs)
   unfolding part_bytes
   part_end = omega arith
-
-  pub part_same : (m : ℕ) (b' : List ℕ) → b' ≡ sets (set b at m) (at + 1) (body_of fs vs) → length b' ≡ length b
-  part_same m b' e = laid (set b at m) b' (at + 1) (body_of fs vs) e ∙ length-set b at m
 
   pub part-laid : (m : ℕ) → m ≡ map_of fs vs → sets (set b at m) (at + 1) (body_of fs vs) ≡ sets b at (part_bytes fs vs)
   unfolding part_bytes

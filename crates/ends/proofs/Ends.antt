@@ -1,11 +1,12 @@
 -- The links at each switch, counted link by link. Assumes nothing.
-use mathlib.Core.Path.{◌≡◌, ap, ◌∙◌}
-use mathlib.Core.Bool.{Bool, true, false, ◌&&◌, ◌||◌}
+use mathlib.Core.Path.{◌≡◌, sym, ap, ◌∙◌}
+use mathlib.Core.Bool.{Bool, true, false, not, ◌&&◌, ◌||◌}
 use mathlib.Core.List.{List, map}
 use Prim.Native.Nat.{ℕ, ◌+◌, ◌≤◌, ◌<◌}
 use native.Mathlib.Omega.{arith}
 use lib.Dec.{eqb}
-use lib.ListN.{length, set, replicate, length-set, length-replicate}
+use lib.ListN.{length, get_or, set, take, replicate, length-set, length-replicate}
+use lib.Seq.{length-take-le, get_or-take}
 use Rattle.lists.specs.Arrays.{at}
 use Rattle.lists.specs.Count.{bit, count}
 use Rattle.lists.specs.Numbers.{range}
@@ -14,12 +15,14 @@ use Rattle.lists.proofs.Count.{bit_le_one, count-all}
 use Rattle.lists.proofs.Members.{get_d_same}
 use Rattle.lists.proofs.Numbers.{values-are}
 use Rattle.lists.proofs.Stepwise.{count_next}
-use Rattle.limits.specs.Limits.{max_switches}
+use Rattle.limits.specs.Limits.{max_switches, max_links}
 use Rattle.limits.specs.Sound.{Sound}
+use Rattle.plant.specs.declared.Link.{Link}
 use Rattle.plant.specs.declared.Plant.{Plant}
-use Rattle.plant.specs.Links.{first, second, live}
+use Rattle.plant.specs.Links.{zero_link, link_at, first, second}
 use Rattle.walks.specs.Graph.{is_at, links_at}
 use Rattle.walks.proofs.LinksAt.{at-ends}
+use Rattle.walks.proofs.Live.{live-listed}
 
 module _ (p : Plant) where
   -- the array has the counts of the first n links
@@ -31,43 +34,73 @@ module _ (p : Plant) where
   unfolding count
   counts_none = record { places = length-replicate {A = ℕ} max_switches 0; tells = λ x h. get_d_same max_switches x 0 }
 
-  pub counts_are : (l : List ℕ) → CountsTo p.count l → l ≡ map (links_at p) (range 0 max_switches)
-  unfolding links_at
-  counts_are l c = values-are (links_at p) 0 max_switches l c.places c.tells
+  module _ (ok : Sound p) {n : ℕ} (all : n ≡ p.count) where
+    -- the links of the listing, as the code reads them
+    abbrev listing : List Link
+    listing = take n p.links
 
-  module _ (ok : Sound p) (k : ℕ) (h : k < p.count) where
-    pub first_place : first p k < max_switches
-    first_place = omega (arith, ok.first_in_is k h, ok.few_switches)
+    listed : length listing ≡ p.count
+    listed = length-take-le n p.links (omega (arith, all, ok.few_links, ok.places)) ∙ all
 
-    pub second_place : second p k < max_switches
-    second_place = omega (arith, ok.second_in k h, ok.few_switches)
+    pub counts_are : (k : ℕ) (l : List ℕ) → k ≤ length listing → length listing ≤ k → CountsTo k l → l ≡ map (links_at p) (range 0 max_switches)
+    unfolding links_at
+    counts_are k l h i c =
+        let e : k ≡ p.count = omega (arith, listed) in
+        values-are (links_at p) 0 max_switches l c.places (rw e at c.tells)
 
-    module _ (l : List ℕ) (c : CountsTo k l) where
-      -- a count stays small
-      pub count_small : (x : ℕ) → x < max_switches → at l x ≤ k
-      count_small x i = omega (arith, c.tells x i, count-all k (is_at p x))
+    module _ (k : ℕ) (h : k < length listing) where
+      inside : k < p.count
+      inside = omega (arith, listed)
 
-      -- with the first end of the next link
-      abbrev half : List ℕ
-      half = set l (first p k) (at l (first p k) + 1)
+      it_is : get_or listing k zero_link ≡ link_at p k
+      it_is = get_or-take n p.links k zero_link (omega (arith, inside, all))
 
-      half_at : (x : ℕ) → at half x ≡ at l x + bit (eqb (first p k) x)
-      half_at x = at_more l (first p k) x (omega (arith, first_place, c.places))
+      -- a switch has it at an end if it is in service and one of its ends is there
+      at_is : {b : Bool} → not (get_or listing k zero_link).out_of_service ≡ b → (z : ℕ) → is_at p z k ≡ b && (eqb (first p k) z || eqb (second p k) z)
+      at_is e z = ap (λ (b : Bool). b && (eqb (first p k) z || eqb (second p k) z)) (live-listed p k inside ∙ ap (λ (i : Link). not i.out_of_service) (sym it_is) ∙ e)
 
-      pub half_small : (x : ℕ) → x < max_switches → at half x ≤ k + 1
-      half_small x i = omega (arith, half_at x, count_small x i, bit_le_one (eqb (first p k) x))
+      -- with its ends
+      module _ (l : List ℕ) (c : CountsTo k l) (x y : ℕ) (ex : x ≡ (get_or listing k zero_link).first) (ey : y ≡ (get_or listing k zero_link).second) where
+        x_is : x ≡ first p k
+        x_is = ex ∙ ap (λ (i : Link). i.first) it_is
 
-      -- with both
-      pub counts_live : live p k ≡ true → CountsTo (k + 1) (set half (second p k) (at half (second p k) + 1))
-      counts_live e = record {
-        places = length-set half (second p k) (at half (second p k) + 1) ∙ length-set l (first p k) (at l (first p k) + 1) ∙ c.places;
-        tells = λ x i.
-            at_more half (second p k) x (omega (arith, length-set l (first p k) (at l (first p k) + 1), second_place, c.places))
-            ∙ omega (arith, half_at x, c.tells x i, count_next (is_at p x) k, at-ends (first p k) (second p k) x (ok.apart k h), ap (λ (b : Bool). bit (b && (eqb (first p k) x || eqb (second p k) x))) e);
-      }
+        y_is : y ≡ second p k
+        y_is = ey ∙ ap (λ (i : Link). i.second) it_is
 
-      pub counts_dead : live p k ≡ false → CountsTo (k + 1) l
-      counts_dead e = record {
+        x_place : x < max_switches
+        x_place = omega (arith, x_is, ok.first_in_is k inside, ok.few_switches)
+
+        y_place : y < max_switches
+        y_place = omega (arith, y_is, ok.second_in k inside, ok.few_switches)
+
+        -- a count stays small
+        count_small : (z : ℕ) → z < max_switches → at l z ≤ k
+        count_small z i = omega (arith, c.tells z i, count-all k (is_at p z))
+
+        pub first_small : at l x < max_links
+        first_small = omega (arith, count_small x x_place, inside, ok.few_links)
+
+        -- with the first end
+        abbrev half : List ℕ
+        half = set l x (at l x + 1)
+
+        half_at : (z : ℕ) → at half z ≡ at l z + bit (eqb x z)
+        half_at z = at_more l x z (omega (arith, x_place, c.places))
+
+        pub second_small : at half y ≤ max_links
+        second_small = omega (arith, half_at y, count_small y y_place, bit_le_one (eqb x y), inside, ok.few_links)
+
+        -- with both
+        pub counts_live : not (get_or listing k zero_link).out_of_service ≡ true → CountsTo (k + 1) (set half y (at half y + 1))
+        counts_live e = record {
+          places = length-set half y (at half y + 1) ∙ length-set l x (at l x + 1) ∙ c.places;
+          tells = λ z i.
+              at_more half y z (omega (arith, length-set l x (at l x + 1), y_place, c.places))
+              ∙ omega (arith, half_at z, c.tells z i, count_next (is_at p z) k, at-ends (first p k) (second p k) z (ok.apart k inside), ap (λ (i : ℕ). bit (eqb i z)) x_is, ap (λ (i : ℕ). bit (eqb i z)) y_is, ap bit (at_is e z));
+        }
+
+      pub counts_dead : (l : List ℕ) → CountsTo k l → not (get_or listing k zero_link).out_of_service ≡ false → CountsTo (k + 1) l
+      counts_dead l c e = record {
         places = c.places;
-        tells = λ x i. c.tells x i ∙ omega (arith, count_next (is_at p x) k, ap (λ (b : Bool). bit (b && (eqb (first p k) x || eqb (second p k) x))) e);
+        tells = λ z i. c.tells z i ∙ omega (arith, count_next (is_at p z) k, ap bit (at_is e z));
       }

@@ -4,28 +4,22 @@
 ghost use Rattle.std.specs.Prelude.{◌≡◌, map};
 ghost use Rattle.lists.specs.Numbers.{range};
 ghost use Rattle.limits.specs.Limits.{max_switches};
-ghost use Rattle.limits.specs.Sound.{Sound};
 ghost use Rattle.walks.specs.Graph.{links_at};
 
+use arcs::ArcEnds;
 use plant::{Plant, in_service};
 
 // How many links are at each switch, at the place of the switch: one in service counts at each of its ends.
-pub fn links_at_each(p: Plant) -> [u16; Plant::PLACES]
-    requires { Sound p }
-    ensures { result ≡ map (links_at p) (range 0 max_switches) }
+pub fn links_at_each(ends: &ArcEnds) -> [u16; Plant::PLACES]
+    ensures { result ≡ map (links_at ends.now.plant) (range 0 max_switches) }
 {
-    let n = p.count as usize;
-    let mut counts = [0u16; Plant::PLACES];
-    let mut l: usize = 0;
-    while l < n {
-        let live = in_service(p.links[l]);
-        if live {
-            let first = p.links[l].first as usize;
-            let second = p.links[l].second as usize;
-            counts[first] += 1;
-            counts[second] += 1;
+    let p = &ends.plant;
+    let mut counts = [0; Plant::PLACES];
+    for link in &p.links[..usize::from(p.count)] {
+        if in_service(*link) {
+            counts[usize::from(link.first)] += 1;
+            counts[usize::from(link.second)] += 1;
         }
-        l += 1;
     }
     counts
 }

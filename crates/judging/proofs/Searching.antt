@@ -1,32 +1,23 @@
 -- A search in a call with a listing: refusal 14, and the probe wanted. Assumes nothing.
 use mathlib.Core.Path.{◌≡◌, sym, ap, ◌∙◌, subst}
-use mathlib.Core.Bool.{true, false, not, ◌&&◌}
+use mathlib.Core.Bool.{true, false, ◌&&◌}
 use Prim.Native.Nat.{ℕ, ◌≤◌}
 use borrow.Author.Tests.{not-false}
+use Rattle.std.specs.Prelude.{Result, Ok, Err}
 use Rattle.lists.proofs.Tests.{and_true}
 use Rattle.answers.specs.Answers.{given, refused, number_of}
+use Rattle.answers.specs.Results.{answer_of}
 use Rattle.answers.specs.Checks.{check, answer}
 use Rattle.answers.proofs.Checks.{given-exactly, gives_so, refuses_so}
 use Rattle.answers.specs.declared.Refusal.{Refusal}
 use Rattle.search.specs.declared.Search.{Search}
-use Rattle.search.specs.declared.Asked.{Asked}
-use Rattle.search.specs.declared.Asked.TheVariants as asked
 use Rattle.search.specs.Search.{sound, sound_for, wanted, ask}
-use Rattle.search.specs.Answers.{asked_of}
 use Rattle.search.specs.Sound.{Good}
 use Rattle.search.proofs.Sound.{sound_good, wanted_in}
 use Rattle.judging.specs.Conditions.{search_unsound, wanted_checks, probe_wanted}
 
 module _ (e : ℕ) (q : Search) where
   -- ---- refusal 14
-
-  pub unsound_itself : sound q ≡ false → true ≡ search_unsound e q
-  unfolding search_unsound
-  unsound_itself f = rw f
-
-  pub unsound_here : sound q ≡ true → not (sound_for e q) ≡ search_unsound e q
-  unfolding search_unsound
-  unsound_here t = rw t
 
   pub sound-here : search_unsound e q ≡ false → (sound q ≡ true) × (sound_for e q ≡ true)
   unfolding search_unsound
@@ -53,14 +44,14 @@ module _ (e : ℕ) (q : Search) where
       subst (λ (k : ℕ). (1 ≤ k) × (k ≤ e)) r.1 (wanted_in e q (good_here r.0.0) r.0.1.0)
 
   -- what the code answers for the probe wanted, and what follows it
-  module _ (a : Asked) (r : asked_of a ≡ answer (probe_wanted e q)) where
-    pub probe_among : (m : ℕ) → a ≡ asked.Probe m → (1 ≤ m) × (m ≤ e)
-    probe_among m f = wanted_among m (sym r ∙ ap asked_of f)
+  module _ (a : Result ℕ Refusal) (r : answer_of a ≡ answer (probe_wanted e q)) where
+    pub probe_among : (m : ℕ) → a ≡ Ok m → (1 ≤ m) × (m ≤ e)
+    probe_among m f = wanted_among m (sym r ∙ ap answer_of f)
 
-    pub probe-given : {A : Type 0} (f : ℕ → A) (m : ℕ) (b : A) → a ≡ asked.Probe m → b ≡ f m → given b ≡ answer (check (wanted_checks e q) (f (wanted q)))
+    pub probe-given : {A : Type 0} (f : ℕ → A) (m : ℕ) (b : A) → a ≡ Ok m → b ≡ f m → given b ≡ answer (check (wanted_checks e q) (f (wanted q)))
     unfolding probe_wanted
-    probe-given f m b h i = ap given i ∙ sym (gives_so (probe_wanted e q) f m (sym r ∙ ap asked_of h))
+    probe-given f m b h i = ap given i ∙ sym (gives_so (probe_wanted e q) f m (sym r ∙ ap answer_of h))
 
-    pub probe-refused : {A : Type 0} (f : ℕ → A) (k : Refusal) → a ≡ asked.Refused k → refused (number_of k) ≡ answer (check (wanted_checks e q) (f (wanted q)))
+    pub probe-refused : {A : Type 0} (f : ℕ → A) (k : Refusal) → a ≡ Err k → refused (number_of k) ≡ answer (check (wanted_checks e q) (f (wanted q)))
     unfolding probe_wanted
-    probe-refused f k h = sym (refuses_so (probe_wanted e q) f (number_of k) (sym r ∙ ap asked_of h))
+    probe-refused f k h = sym (refuses_so (probe_wanted e q) f (number_of k) (sym r ∙ ap answer_of h))

@@ -7,6 +7,7 @@ use Prim.Native.Nat.{ℕ, suc, ◌+◌, ◌-◌, ◌*◌, ◌≤◌, ◌<◌}
 use native.Mathlib.Numerals.{add-one}
 use native.Mathlib.Omega.{arith}
 use lib.Dec.{T}
+use Rattle.std.specs.Prelude.{Some, None}
 use lib.ListN.{length, set, take, drop, length-set, length-append}
 use lib.Seq.{slice, slice_empty, length-take-le, take-set-le, take-suc-set, drop-append-le, append_snoc}
 use Rattle.lists.specs.Arrays.{flag, at}
@@ -24,22 +25,41 @@ use Rattle.routes.proofs.Marks.{remaining, marks_less}
 use Rattle.routes.proofs.Nearest.{Nearest, nearest_none, nearest?}
 use Rattle.routes.proofs.Legs.{one-leg, last-leg, leg-leaves}
 use Rattle.arcs.specs.declared.Net.{Net}
+use Rattle.arcs.specs.declared.Network.{Network}
+use Rattle.arcs.specs.Net.{rooted}
 use Rattle.arcs.specs.Table.{cell, trail_in}
-use Rattle.arcs.specs.Parts.{Parts}
 use Rattle.arcs.proofs.Following.{follows_first, follows_after}
 use Rattle.arcs.specs.Legs.{route_in, Joined, along}
 use Rattle.arcs.proofs.Ways.{parts-hops, part-joined, way_size}
 use Rattle.legs.specs.Firsts.{Firsts}
 use Rattle.legs.specs.Nearest.{Lows, Tabled, NearestBy}
-use Rattle.legs.specs.Several.{SomeParts, Added}
+use Rattle.legs.specs.Several.{PartsFrom, SomeParts, Added}
 use Rattle.legs.proofs.Lows.{lows_first, lows_next, nearest_low}
 
 -- into the array `lent`, from place `from` on
-module _ {net : Net} {tails heads first after : List ℕ} {t : List (List ℕ)} {from : ℕ} (some : SomeParts net tails heads first after t from) (lent : List ℕ) where
+module _ {x : Network} {root from : ℕ} (some : SomeParts x root from) (lent : List ℕ) where
+  abbrev net : Net
+  net = rooted x.net root
+
+  abbrev tails : List ℕ
+  tails = x.ends.tails
+
+  abbrev heads : List ℕ
+  heads = x.ends.heads
+
+  abbrev first : List ℕ
+  first = x.chains.first
+
+  abbrev after : List ℕ
+  after = x.chains.after
+
+  abbrev t : List (List ℕ)
+  t = x.hops
+
   abbrev used : List Bool
   used = some.used
 
-  abbrev p : Parts net tails heads used first after t
+  abbrev p : PartsFrom x root used
   p = some.parts
 
   abbrev S : ℕ
@@ -83,13 +103,12 @@ module _ {net : Net} {tails heads first after : List ℕ} {t : List (List ℕ)} 
   abbrev rest : ℕ → (ℕ → Bool) → ℕ → List ℕ
   rest k m u = legs S n tl hd ok net.root (from + count n ok - k) m u
 
-  -- the legs before place k are found with so many hops, at u, and a is the arc that the next one crosses
-  pub record Found (low aims : List ℕ) (k hops u a : ℕ) : Type 0 where
+  -- the legs before place k are found with so many hops, at u
+  pub record Found (low aims : List ℕ) (k hops u : ℕ) : Type 0 where
     pub crossed : ℕ → Bool
     pub inside : T (p.part u)
     pub low_places : length low ≡ max_switches
     pub lows : Lows S n tl ok (at low) crossed
-    pub next : a ≡ nearest S n tl hd ok crossed u
     pub begun : from ≤ k
     pub few : k + remaining ok n crossed ≤ from + count n ok
     pub places : length aims ≡ max_rules
@@ -116,7 +135,7 @@ module _ {net : Net} {tails heads first after : List ℕ} {t : List (List ℕ)} 
   nothing = slice_empty from lent
 
   -- so that the trail has no hop
-  pub no_legs_is : length lent ≡ max_rules → n ≤ at first net.root → Added net tails heads used lent from (record { from = from; to = from; hops = 0 }) lent
+  pub no_legs_is : length lent ≡ max_rules → n ≤ at first net.root → Added x root used lent from (record { from = from; to = from; hops = 0 }) lent
   unfolding trail
   no_legs_is long h = record {
     begin = refl;
@@ -139,18 +158,13 @@ module _ {net : Net} {tails heads first after : List ℕ} {t : List (List ℕ)} 
 
   -- ---- the legs one after the other
 
-  pub asks_first : (low : List ℕ) → Firsts S n net.root first t max_switches low → Tabled S n t low net.root
-  asks_first low firsts = tabled low net.root unmarked p.strong.starts (lows_first p low firsts)
-
-  pub found_none : length lent ≡ max_rules → (low : List ℕ) (a : ℕ) → Firsts S n net.root first t max_switches low → NearestBy S n t low net.root a
-      → Found low lent from 0 net.root a
+  pub found_none : length lent ≡ max_rules → (low : List ℕ) → Firsts S n net.root first t max_switches low → Found low lent from 0 net.root
   unfolding trail
-  found_none long low a firsts near = record {
+  found_none long low firsts = record {
     crossed = unmarked;
     inside = p.strong.starts;
     low_places = firsts.long;
     lows = lows;
-    next = near (tabled low net.root unmarked p.strong.starts lows) unmarked lows;
     begun = omega arith;
     few = omega (arith, count_le n (uncrossed ok unmarked) ok (λ b h v. and_left (ok b) true v));
     places = long;
@@ -166,35 +180,35 @@ module _ {net : Net} {tails heads first after : List ℕ} {t : List (List ℕ)} 
       whole : rest from unmarked net.root ≡ all
       whole = let q : from + count n ok - from ≡ count n ok = omega arith in ap (λ (f : ℕ). legs S n tl hd ok net.root f unmarked net.root) q
 
-  module _ (low aims : List ℕ) (k hops u a : ℕ) (found : Found low aims k hops u a) where
+  module _ {low aims : List ℕ} {k hops u : ℕ} (found : Found low aims k hops u) where
     abbrev m : ℕ → Bool
     m = found.crossed
 
+    -- what the search for the next arc asks
+    abbrev pub asks : Tabled S n t low u
+    asks = tabled low u m found.inside found.lows
+
     -- what the next leg makes
-    pub record Turn : Type 0 where
+    pub record Turn (a : ℕ) : Type 0 where
       pub from_low : u < max_switches
       pub label_low : a < 2 * max_links
       pub tail_low : tl a < max_switches
-      pub asks : Tabled S n t (set low (tl a) (at after a)) (hd a)
       pub room : k < max_rules
       pub short : hops + (cell t u (tl a) + 1) ≤ max_hops
-      pub again : (b : ℕ) → NearestBy S n t (set low (tl a) (at after a)) (hd a) b
-          → Found (set low (tl a) (at after a)) (set aims k a) (k + 1) (hops + (cell t u (tl a) + 1)) (hd a) b
+      pub again : Found (set low (tl a) (at after a)) (set aims k a) (k + 1) (hops + (cell t u (tl a) + 1)) (hd a)
 
-    pub turn : a < n → Turn
-    turn h = record {
+    pub turn : (a : ℕ) → NearestBy S n t low u (Some a) → Turn a
+    turn a told = record {
       from_low = omega (arith, j.from_in, p.within);
-      label_low = omega (arith, p.within);
+      label_low = omega (arith, h, p.within);
       tail_low = omega (arith, j.to_in, p.within);
-      asks = asks;
       room = k_in;
       short = omega (arith, size, found.counted, parts-hops p);
-      again = λ b then. record {
+      again = record {
         crossed = m';
         inside = p.strong.heads a h live;
         low_places = length-set low (tl a) (at after a) ∙ found.low_places;
         lows = lows;
-        next = then asks m' lows;
         begun = omega (arith, found.begun);
         few = omega (arith, found.few, less);
         places = length-set aims k a ∙ found.places;
@@ -207,10 +221,14 @@ module _ {net : Net} {tails heads first after : List ℕ} {t : List (List ℕ)} 
       };
     }
       where
+        is : (a ≡ nearest S n tl hd ok m u) × (nearest S n tl hd ok m u < n)
+        is = told asks m found.lows
+
+        h : a < n
+        h = omega (arith, is)
+
         near : Nearest S n tl hd ok m u a
-        near =
-            ⊎_elim (subst (Nearest S n tl hd ok m u) (sym found.next)) (λ f. absurd (omega (arith, found.next, nearest_none S n tl hd ok m u f)))
-            (nearest? S n tl hd ok m u)
+        near = ⊎_elim (subst (Nearest S n tl hd ok m u) (sym is.0)) (λ f. absurd (omega (arith, is, nearest_none S n tl hd ok m u f))) (nearest? S n tl hd ok m u)
 
         live : T (ok a)
         live = and_left (ok a) (not (m a)) near.is_left
@@ -241,9 +259,6 @@ module _ {net : Net} {tails heads first after : List ℕ} {t : List (List ℕ)} 
             lows_next low m m' found.lows a (at after a) (nearest_low found.lows hd u a near j.to_in) (omega (arith, j.to_in, p.within, found.low_places))
             (follows_after p (tl a) a h live refl) (λ b. leg-leaves S n tl hd ok net.root m u a b near j.reached)
 
-        asks : Tabled S n t (set low (tl a) (at after a)) (hd a)
-        asks = tabled (set low (tl a) (at after a)) (hd a) m' (p.strong.heads a h live) lows
-
         k_in : k < max_rules
         k_in = omega (arith, found.few, less, some.room)
 
@@ -259,10 +274,10 @@ module _ {net : Net} {tails heads first after : List ℕ} {t : List (List ℕ)} 
       pub root_low : net.root < max_switches
       pub room : k ≤ max_rules
       pub short : hops + cell t u net.root ≤ max_hops
-      pub added : Added net tails heads used lent from (record { from = from; to = k; hops = hops + cell t u net.root }) aims
+      pub added : Added x root used lent from (record { from = from; to = k; hops = hops + cell t u net.root }) aims
 
-    pub ends : n ≤ a → End
-    ends h = record {
+    pub ends : NearestBy S n t low u None → End
+    ends told = record {
       from_low = omega (arith, j.from_in, p.within);
       root_low = omega (arith, j.to_in, p.within);
       room = omega (arith, found.few, some.room);
@@ -287,7 +302,7 @@ module _ {net : Net} {tails heads first after : List ℕ} {t : List (List ℕ)} 
         end : rest k m u ≡ route_in net tails heads used u net.root
         end =
             last-leg S n tl hd ok net.root (from + count n ok - k) m u
-            (⊎_elim (λ q. absurd (omega (arith, h, found.next, q.is_arc))) (λ f. f) (nearest? S n tl hd ok m u))
+            (⊎_elim (λ q. absurd (omega (arith, told asks m found.lows, q.is_arc))) (λ f. f) (nearest? S n tl hd ok m u))
 
         size : hops + cell t u net.root ≡ length all
         size = omega (arith, found.counted, ap length end, way_size p j)

@@ -1,5 +1,5 @@
 -- Inner: the nearest uncrossed arc in use, where the lowest uncrossed label of each switch tells what is uncrossed. No promise of a call needs it. Assumes nothing.
-use Rattle.std.specs.Prelude.{◌≡◌, ◌↔◌, Bool, List, ℕ, ◌*◌, ◌≤◌, ◌<◌, T}
+use Rattle.std.specs.Prelude.{◌≡◌, ◌↔◌, Bool, List, ℕ, ◌*◌, ◌≤◌, ◌<◌, T, Option, Some, None}
 use Rattle.lists.specs.Arrays.{at}
 use Rattle.limits.specs.Limits.{max_switches, max_links}
 use Rattle.routes.specs.Distance.{dist}
@@ -27,6 +27,11 @@ pub record Tabled (S n : ℕ) (t : List (List ℕ)) (low : List ℕ) (u : ℕ) :
   pub leave : (y : ℕ) → y < S → at low y < n → T (part y)
   pub cells : (v : ℕ) → T (part v) → cell t u v ≡ dist S n tl hd ok u v
 
--- r is the nearest to u of the uncrossed arcs in use, for any arcs whose distances t tells, and any crossed ones that `low` tells
-abbrev pub NearestBy : (S n : ℕ) → List (List ℕ) → List ℕ → ℕ → ℕ → Type 0
-NearestBy S n t low u r = (w : Tabled S n t low u) (m : ℕ → Bool) → Lows S n w.tl w.ok (at low) m → r ≡ nearest S n w.tl w.hd w.ok m u
+-- what is told of a label: that it is x, where x is a label below n; and that there is none, where x is not
+abbrev pub Label : ℕ → ℕ → Option ℕ → Type 0
+Label n x (Some a) = (a ≡ x) × (x < n)
+Label n x None = n ≤ x
+
+-- r tells the nearest to u of the uncrossed arcs in use, for any arcs whose distances t tells, and any crossed ones that `low` tells
+abbrev pub NearestBy : (S n : ℕ) → List (List ℕ) → List ℕ → ℕ → Option ℕ → Type 0
+NearestBy S n t low u r = (w : Tabled S n t low u) (m : ℕ → Bool) → Lows S n w.tl w.ok (at low) m → Label n (nearest S n w.tl w.hd w.ok m u) r

@@ -3,98 +3,67 @@
 #![tactic(auto)]
 
 ghost use Rattle.std.specs.Prelude.{◌≡◌, ◌<◌, length};
-ghost use Rattle.lists.specs.Tests.{choose};
 ghost use Rattle.limits.specs.Limits.{max_switches, max_rules};
 ghost use Rattle.legs.specs.Firsts.{Firsts};
 ghost use Rattle.legs.specs.Nearest.{Tabled, NearestBy};
 ghost use Rattle.legs.specs.Several.{SomeParts, Added, Several, LegsOfAll};
 
-use arcs::{AllLegs, Legs, Net};
+use arcs::{AllLegs, Legs, Network};
 use plant::Plant;
 
-// The uncrossed arc in use that is nearest to u, by distance and then by label; the number of labels if there is none. `low` has the lowest uncrossed label of each switch.
-fn nearest(
-    net: Net,
-    t: &[[u8; Plant::PLACES]; Plant::PLACES],
-    low: &[u16; Plant::PLACES],
-    u: u8,
-) -> u16
-    requires { Tabled net.switches net.labels t.now low.now u }
-    ensures { NearestBy net.switches net.labels t.now low.now u result }
+// The uncrossed arc in use that is nearest to u, by distance and then by label, if there is one. `low` has the lowest uncrossed label of each switch.
+fn nearest(network: &Network, low: &[u16; Plant::PLACES], u: u8) -> Option<u16>
+    requires { Tabled network.now.net.switches network.now.net.labels network.now.hops low.now u }
+    ensures { NearestBy network.now.net.switches network.now.net.labels network.now.hops low.now u result }
 {
-    let n = net.labels;
-    let m = net.switches as usize;
+    let n = network.net.labels;
+    let m = network.net.switches as usize;
     let x = u as usize;
     if low[x] < n {
-        return low[x];
+        return Some(low[x]);
     }
-    let mut best = n;
+    let mut best = None;
     let mut least = m * Plant::LABELS + n as usize;
-    let mut y: usize = 0;
-    while y < m {
+    for y in 0..m {
         let a = low[y];
         if a < n {
-            let key = t[x][y] as usize * Plant::LABELS + a as usize;
+            let key = network.hops[x][y] as usize * Plant::LABELS + a as usize;
             if key < least {
-                best = a;
+                best = Some(a);
                 least = key;
             }
         }
-        y += 1;
     }
     best
 }
 
-// The label, if the test passed, or none.
-fn label_if(test: bool, label: u16, none: u16) -> u16
-    ensures { result ≡ choose test label none }
+// The first arc of each switch that a walk from the root reaches; none of any other switch. The table tells which these are. The number of labels stands for none, as in the chains
+// whose labels these are.
+fn firsts_reached(network: &Network, root: u8) -> [u16; Plant::PLACES]
+    requires { root < max_switches }
+    ensures { Firsts network.now.net.switches network.now.net.labels root network.now.chains.first network.now.hops max_switches result }
 {
-    if test {
-        return label;
-    }
-    none
-}
-
-// The first arc of each switch that a walk from the root reaches; none of any other switch. The table tells which these are.
-fn firsts_reached(
-    net: Net,
-    first: &[u16; Plant::PLACES],
-    t: &[[u8; Plant::PLACES]; Plant::PLACES],
-) -> [u16; Plant::PLACES]
-    requires { net.root < max_switches }
-    ensures { Firsts net.switches net.labels net.root first.now t.now max_switches result }
-{
-    let m = net.switches;
-    let none = net.labels;
-    let root = net.root as usize;
+    let none = network.net.labels;
     let mut low = [none; Plant::PLACES];
-    let mut y: usize = 0;
-    while y < Plant::PLACES {
-        low[y] = label_if(t[root][y] < m, first[y], none);
-        y += 1;
+    for y in 0..Plant::PLACES {
+        let reached = network.hops[root as usize][y] < network.net.switches;
+        low[y] = if reached {
+            network.chains.first[y]
+        } else {
+            none
+        };
     }
     low
 }
 
-// The legs of the trail, into a lent array from place `from` on. What is uncrossed is kept as the lowest uncrossed label of each switch. From a root that no arc in use leaves there is
-// no leg.
-fn legs_from(
-    net: Net,
-    tails: &[u8; Plant::LABELS],
-    heads: &[u8; Plant::LABELS],
-    first: &[u16; Plant::PLACES],
-    after: &[u16; Plant::LABELS],
-    t: &[[u8; Plant::PLACES]; Plant::PLACES],
-    aims: &mut [u16; Plant::MAX_RULES],
-    from: u16,
-) -> Legs
-    requires some_parts { SomeParts net tails.now heads.now first.now after.now t.now from }
+// The legs of the trail from a root, into a lent array from place `from` on. What is uncrossed is kept as the lowest uncrossed label of each switch. From a root that no arc in use
+// leaves there is no leg.
+fn legs_from(network: &Network, root: u8, aims: &mut [u16; Plant::MAX_RULES], from: u16) -> Legs
+    requires some_parts { SomeParts network.now root from }
     requires aims_len { length aims.old ≡ max_rules }
-    ensures { (w : SomeParts net tails.now heads.now first.now after.now t.now from) → Added net tails.now heads.now w.used aims.old from result aims.new }
+    ensures { (w : SomeParts network.now root from) → Added network.now root w.used aims.old from result aims.new }
 {
-    let none = net.labels;
-    let root = net.root as usize;
-    let alone = none <= first[root];
+    let alone = network.net.labels <= network.chains.first[root as usize];
     if alone {
         return Legs {
             from,
@@ -102,41 +71,30 @@ fn legs_from(
             hops: 0,
         };
     }
-    let mut low = firsts_reached(net, first, t);
+    let mut low = firsts_reached(network, root);
     let mut k = from as usize;
     let mut hops: u16 = 0;
-    let mut u = net.root;
-    let mut a = nearest(net, t, &low, u);
-    while a < none {
+    let mut u = root;
+    while let Some(a) = nearest(network, &low, u) {
         let i = a as usize;
-        let x = tails[i] as usize;
+        let x = network.ends.tails[i] as usize;
         aims[k] = a;
         k += 1;
-        hops += t[u as usize][x] as u16 + 1;
-        low[x] = after[i];
-        u = heads[i];
-        a = nearest(net, t, &low, u);
+        hops += network.hops[u as usize][x] as u16 + 1;
+        low[x] = network.chains.after[i];
+        u = network.ends.heads[i];
     }
     Legs {
         from,
         to: k as u16,
-        hops: hops + t[u as usize][root] as u16,
+        hops: hops + network.hops[u as usize][root as usize] as u16,
     }
 }
 
-// The legs of the trails of a network from several roots, `count` of them, one trail after another. The table of distances is handed over.
-pub fn legs_of(
-    net: Net,
-    tails: &[u8; Plant::LABELS],
-    heads: &[u8; Plant::LABELS],
-    first: &[u16; Plant::PLACES],
-    after: &[u16; Plant::LABELS],
-    t: [[u8; Plant::PLACES]; Plant::PLACES],
-    roots: &[u8; Plant::PLACES],
-    count: u8,
-) -> AllLegs
-    requires { Several net tails.now heads.now first.now after.now t roots.now count }
-    ensures { (w : Several net tails.now heads.now first.now after.now t roots.now count) → LegsOfAll net tails.now heads.now roots.now w.used count result.aims result.list }
+// The legs of the trails of a network from several roots, one trail after another.
+pub fn legs_of(network: &Network, roots: &[u8]) -> AllLegs
+    requires { Several network.now roots.now }
+    ensures { (w : Several network.now roots.now) → LegsOfAll network.now roots.now w.used result.aims result.list }
 {
     let mut aims = [0u16; Plant::MAX_RULES];
     let none = Legs {
@@ -145,15 +103,11 @@ pub fn legs_of(
         hops: 0,
     };
     let mut list = [none; Plant::PLACES];
-    let n = count as usize;
     let mut from: u16 = 0;
-    let mut i: usize = 0;
-    while i < n {
-        let one = arcs::net_from(net, roots[i]);
-        let legs = legs_from(one, tails, heads, first, after, &t, &mut aims, from);
+    for (i, root) in roots.iter().enumerate() {
+        let legs = legs_from(network, *root, &mut aims, from);
         list[i] = legs;
         from = legs.to;
-        i += 1;
     }
     AllLegs { aims, list }
 }

@@ -1,5 +1,4 @@
 pub mod SoundLaws
-pub mod Steps
 pub mod ReadLaws
 pub mod WriteLaws
 pub mod ConditionLaws

@@ -1,4 +1,3 @@
 pub mod Listing
 pub mod Writing
-pub mod Answers
 pub mod Steps

@@ -1,3 +1,4 @@
+pub mod Chained
 pub mod Rings
 pub mod Gathering
 pub mod Spans

@@ -2,10 +2,11 @@
 -- the shifted bounds name the same parts. Assumes nothing.
 use mathlib.Core.Path.{◌≡◌, refl, sym, ap, ap₂, ◌∙◌}
 use mathlib.Core.List.{List, [], ◌∷◌, ◌++◌}
-use Prim.Native.Nat.{ℕ, zero, suc, ◌+◌, ◌-◌, ◌≤◌, ◌<◌}
+use Rattle.std.proofs.Common.{min}
+use Prim.Native.Nat.{ℕ, zero, suc, ◌+◌, ◌-◌, ◌≤◌}
 use native.Mathlib.Omega.{arith}
-use lib.ListN.{length, get_or, take, drop, length-append, length-take, length-drop, take-append-drop, drop_of_length-le}
-use lib.Seq.{take_all, take-nil, length-take-le, take-append-le, drop-append-le, drop-drop}
+use lib.ListN.{length, get_or, take, drop, length-append, length-take, length-drop, take-append-drop}
+use lib.Seq.{take_all, take-append-le, drop-append-le, drop-drop}
 use Rattle.plant.specs.declared.Plant.{Plant}
 use Rattle.walks.specs.Arcs.{tail}
 use Rattle.rings.specs.Ring.{read_from, ring}
@@ -67,21 +68,14 @@ module _ (p : Plant) (w : List ℕ) (s m : ℕ) where
     unfolding out outward ring
     out-is = goes ∙ rw (lists, listed_nth (order (read_from k w)) m, at)
 
-    -- they end before the trail does, or go on at its front
-    pub span-short : n ≤ length w - k → record { from = k; len = n; begin = 0; front = 0 } ≡ span_of p w s m
+    -- the stretch has what there is of them from the place on, and the front the rest
+    pub span-found : (x : ℕ) → x ≡ min n (length w - k) → record { from = k; len = x; begin = 0; front = n - x } ≡ span_of p w s m
     unfolding span_of out_stretch out_front
-    span-short h =
-        let x : length (take n (drop k w)) ≡ n = length-take-le n (drop k w) (omega (arith, length-drop k w)) in
-        let y : n - (length w - k) ≡ 0 = omega arith in
-        rw (sym out-is, sym at, x, y)
-
-    pub span-long : length w - k < n → record { from = k; len = length w - k; begin = 0; front = n - (length w - k) } ≡ span_of p w s m
-    unfolding span_of out_stretch out_front
-    span-long h =
+    span-found x e =
         let most : n ≤ length w = omega (arith, out-is, out-most (tail p) s w m) in
-        let x : length (take n (drop k w)) ≡ length w - k = ap length (take_all n (drop k w) (omega (arith, length-drop k w))) ∙ length-drop k w in
-        let y : length (take (n - (length w - k)) w) ≡ n - (length w - k) = length-take-le (n - (length w - k)) w (omega arith) in
-        rw (sym out-is, sym at, x, y)
+        let stretch : length (take n (drop k w)) ≡ x = omega (arith, e, length-take n (drop k w), length-drop k w) in
+        let front : length (take (n - (length w - k)) w) ≡ n - x = omega (arith, e, length-take (n - (length w - k)) w, most) in
+        rw (sym out-is, sym at, stretch, front)
 
 -- ---- parts within a stretch of a list
 
@@ -135,15 +129,3 @@ module _ (w v : List ℕ) (k n : ℕ) (has : take n (drop k w) ≡ v) where
     -- they begin within w
     pub shifted_fits : k ≤ length w → (b.from + k ≤ length w) × (b.begin + k ≤ length w)
     shifted_fits h = (omega (arith, within, stands.stretch), omega (arith, within, stands.front))
-
--- ---- parts that are clipped
-
-module _ (w : List ℕ) (k n : ℕ) where
-  pub part_none : length w ≤ k → [] ≡ take n (drop k w)
-  part_none h = rw (drop_of_length-le w h, take-nil {A = ℕ} n)
-
-  pub part-rest : length w - k ≤ n → take (length w - k) (drop k w) ≡ take n (drop k w)
-  part-rest h = take_all (length w - k) (drop k w) (omega (arith, length-drop k w)) ∙ sym (take_all n (drop k w) (omega (arith, length-drop k w)))
-
-  pub part-whole : take (k + n - k) (drop k w) ≡ take n (drop k w)
-  part-whole = let e : k + n - k ≡ n = omega arith in rw e

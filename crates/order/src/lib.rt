@@ -1,10 +1,8 @@
 // The ring of an injection switch in a lent trail: its place, the order of links by first crossing, and the outward labels of a probe as parts of the trail. Inner: the calls are those of docs/CALLS.md.
 #![tactic(auto)]
 
-ghost use Rattle.std.specs.Prelude.{◌≡◌, ℕ, ◌+◌, ◌/◌, ◌≤◌, ◌<◌, length, get_or, take, drop};
-ghost use Rattle.lists.specs.Members.{In};
+ghost use Rattle.std.specs.Prelude.{◌≡◌, ◌==◌, ◌+◌, ◌/◌, ◌≤◌, ◌++◌, length, take, drop, position};
 ghost use Rattle.limits.specs.Limits.{max_links};
-ghost use Rattle.limits.specs.Sound.{Sound};
 ghost use Rattle.rings.specs.Ring.{read_from};
 ghost use Rattle.rings.specs.Order.{order};
 ghost use Rattle.rings.specs.Probe.{up_to};
@@ -13,17 +11,27 @@ ghost use Rattle.order.specs.Labels.{OverArcs};
 ghost use Rattle.order.specs.Order.{listed};
 ghost use Rattle.order.specs.Span.{ring_span, span_of, shifted_by, stretch_of, front_of};
 
+use arcs::ArcEnds;
 use plant::{Plant, tail_of};
 
-// Links by first crossing, `count` of them; the places past them are zero.
+// The trail that an injection at a switch goes over, in a lent trail over arcs of a plant: its ring is the trail from the place of the switch on, and then its front.
 #[derive(Clone, Copy)]
+pub struct Ring<'a> {
+    pub ends: &'a ArcEnds,
+    pub switch: u8,
+    pub trail: &'a [u16],
+    pub ghost over_arcs: { OverArcs ends.now.plant trail.now },
+}
+
+// Links by first crossing, `count` of them; the places past them are zero. The array has a place for each link of any plant, since nothing is kept on a heap.
+#[derive(Clone, Copy, Debug, PartialEq, Eq)]
 pub struct Order {
     pub count: u16,
     pub links: [u16; Plant::MAX_LINKS],
 }
 
 // Where the outward labels of a probe stand in a lent trail: `len` labels from place `from` on, and then `front` labels from place `begin` on, where the trail begins.
-#[derive(Clone, Copy)]
+#[derive(Clone, Copy, Debug, PartialEq, Eq)]
 pub struct Span {
     pub from: usize,
     pub len: usize,
@@ -31,72 +39,53 @@ pub struct Span {
     pub front: usize,
 }
 
-// The place of switch s: the first hop of the trail that leaves it. As many as there are hops if none does, so 0 if the trail is empty.
-pub fn place_of(p: Plant, s: u8, trail: &[u16]) -> usize
-    requires sound { Sound p }
-    requires over_arcs { OverArcs p trail.now }
-    ensures { result ≡ place_of p trail.now s }
+// The place of the switch: the first hop of the trail that leaves it. As many as there are hops if none does, so 0 if the trail is empty.
+pub fn place_of(ring: &Ring) -> usize
+    ensures place { result ≡ place_of ring.now.ends.now.plant ring.now.trail.now ring.now.switch }
+    ensures in_trail { result ≤ length ring.now.trail.now }
 {
-    let mut i: usize = 0;
-    while i < trail.len() {
-        let a = trail[i] as usize;
-        let l = p.links[a / 2];
-        if tail_of(l, a) == s {
+    for (i, a) in ring.trail.iter().enumerate() {
+        let a = usize::from(*a);
+        if tail_of(ring.ends.plant.links[a / 2], a) == ring.switch {
             return i;
         }
-        i += 1;
     }
-    i
-}
-
-// Label i of the trail read from place k to its end, then from its front.
-fn ring_label(trail: &[u16], k: usize, i: usize) -> u16
-    requires k_in_bounds { k ≤ length trail.now }
-    requires i_in_bounds { i < length trail.now }
-    ensures { result ≡ get_or (read_from k trail.now) i 0 }
-{
-    let rest = trail.len() - k;
-    if i < rest {
-        trail[k + i]
-    } else {
-        trail[i - rest]
-    }
+    ring.trail.len()
 }
 
 // The links of the trail read from place k, each at its first crossing.
-fn order_from(trail: &[u16], k: usize) -> Order
-    requires k_in_bounds { k ≤ length trail.now }
-    requires by_index { (a : ℕ) → In a trail.now → a / 2 < max_links }
-    ensures { result ≡ listed (order (read_from k trail.now)) }
+fn order_from(ring: &Ring, k: usize) -> Order
+    requires { k ≤ length ring.now.trail.now }
+    ensures { result ≡ listed (order (read_from k ring.now.trail.now)) }
 {
-    let mut links = [0u16; Plant::MAX_LINKS];
+    let mut links = [0; Plant::MAX_LINKS];
     let mut seen = [false; Plant::MAX_LINKS];
-    let mut n: usize = 0;
-    let mut i: usize = 0;
-    while i < trail.len() {
-        let l = ring_label(trail, k, i) / 2;
-        let j = l as usize;
-        if !seen[j] {
-            seen[j] = true;
-            links[n] = l;
-            n += 1;
+    let mut count: u16 = 0;
+    let (front, rest) = ring.trail.split_at(k);
+    for a in rest.iter().chain(front.iter()) {
+        let l = *a / 2;
+        if !seen[usize::from(l)] {
+            seen[usize::from(l)] = true;
+            links[usize::from(count)] = l;
+            count += 1;
         }
-        i += 1;
     }
-    Order {
-        count: n as u16,
-        links,
-    }
+    Order { count, links }
 }
 
-// The order of links by first crossing from the place of switch s.
-pub fn order_of(p: Plant, s: u8, trail: &[u16]) -> Order
-    requires sound { Sound p }
-    requires over_arcs { OverArcs p trail.now }
-    ensures { result ≡ listed (order_of p trail.now s) }
+// The order of links by first crossing from the place of the switch.
+pub fn order_of(ring: &Ring) -> Order
+    ensures { result ≡ listed (order_of ring.now.ends.now.plant ring.now.trail.now ring.now.switch) }
 {
-    let k = place_of(p, s, trail);
-    order_from(trail, k)
+    let k = place_of(ring);
+    order_from(ring, k)
+}
+
+// The number of the first label that crosses link l, of the labels v and then w.
+fn crossing(v: &[u16], w: &[u16], l: u16) -> Option<usize>
+    ensures { result ≡ position (λ a. a / 2 == l) (v.now ++ w.now) }
+{
+    v.iter().chain(w.iter()).position(|a| *a / 2 == l)
 }
 
 // How many labels of the trail read from place k there are up to the first crossing of link l, with it; all if it is not crossed.
@@ -104,60 +93,43 @@ fn out_to(trail: &[u16], k: usize, l: u16) -> usize
     requires { k ≤ length trail.now }
     ensures { result ≡ length (up_to l (read_from k trail.now)) }
 {
-    let mut i: usize = 0;
-    while i < trail.len() {
-        let a = ring_label(trail, k, i);
-        i += 1;
-        if a / 2 == l {
-            return i;
-        }
+    let (front, rest) = trail.split_at(k);
+    match crossing(rest, front, l) {
+        Some(i) => i + 1,
+        None => trail.len(),
     }
-    i
 }
 
-// Where the labels of the full check stand: the whole ring of switch s.
-pub fn ring_span(p: Plant, s: u8, trail: &[u16]) -> Span
-    requires sound { Sound p }
-    requires over_arcs { OverArcs p trail.now }
-    ensures { result ≡ ring_span p trail.now s }
+// Where the labels of the full check stand: the whole ring.
+pub fn ring_span(ring: &Ring) -> Span
+    ensures { result ≡ ring_span ring.now.ends.now.plant ring.now.trail.now ring.now.switch }
 {
-    let k = place_of(p, s, trail);
-    let rest = trail.len() - k;
+    let k = place_of(ring);
     Span {
         from: k,
-        len: rest,
+        len: ring.trail.len() - k,
         begin: 0,
         front: k,
     }
 }
 
-// Where the outward labels of probe m stand: those of the trail from the place of switch s up to the first crossing of the m-th link of the order.
-pub fn span_of(p: Plant, s: u8, trail: &[u16], m: u16) -> Span
-    requires sound { Sound p }
-    requires over_arcs { OverArcs p trail.now }
+// Where the outward labels of probe m stand: those of the trail from the place of the switch up to the first crossing of the m-th link of the order.
+pub fn span_of(ring: &Ring, m: u16) -> Span
     requires le_m { 1 ≤ m }
     requires m_le_max_links { m ≤ max_links }
-    ensures { result ≡ span_of p trail.now s m }
+    ensures { result ≡ span_of ring.now.ends.now.plant ring.now.trail.now ring.now.switch m }
 {
-    let k = place_of(p, s, trail);
-    let o = order_from(trail, k);
+    let k = place_of(ring);
+    let o = order_from(ring, k);
     let j = (m - 1) as usize;
     let l = o.links[j];
-    let n = out_to(trail, k, l);
-    let rest = trail.len() - k;
-    if n <= rest {
-        return Span {
-            from: k,
-            len: n,
-            begin: 0,
-            front: 0,
-        };
-    }
+    let n = out_to(ring.trail, k, l);
+    let len = n.min(ring.trail.len() - k);
     Span {
         from: k,
-        len: rest,
+        len,
         begin: 0,
-        front: n - rest,
+        front: n - len,
     }
 }
 
@@ -169,9 +141,8 @@ pub fn shifted(span: Span, by: usize) -> Span
 {
     Span {
         from: span.from + by,
-        len: span.len,
         begin: span.begin + by,
-        front: span.front,
+        ..span
     }
 }
 
@@ -179,15 +150,8 @@ pub fn shifted(span: Span, by: usize) -> Span
 pub fn part<'a>(trail: &'a [u16], k: usize, n: usize) -> &'a [u16]
     ensures { result.now ≡ take n (drop k trail.now) }
 {
-    let all = trail.len();
-    if all <= k {
-        return &trail[..0];
-    }
-    if all - k <= n {
-        return &trail[k..];
-    }
-    let to = k + n;
-    &trail[k..to]
+    let rest = &trail[k.min(trail.len())..];
+    &rest[..n.min(rest.len())]
 }
 
 // The stretch of a lent trail that the bounds name, as much of it as is there.

@@ -1,39 +1,38 @@
--- One hop of a run, as the code makes it. Assumes nothing.
-use mathlib.Core.Path.{◌≡◌, refl, sym, ap, ◌∙◌}
+-- Runs hop by hop, as the code makes them. Assumes nothing.
+use mathlib.Core.Path.{◌≡◌, refl, sym, ap, ◌∙◌, subst}
 use mathlib.Core.Bool.{Bool, true, false, not, ◌&&◌}
-use mathlib.Core.List.{List}
-use Prim.Native.Nat.{ℕ, suc, ◌+◌, ◌*◌, ◌/◌, ◌%◌, ◌≤◌, ◌<◌}
+use mathlib.Core.List.{List, [], ◌∷◌, ◌++◌}
+use Prim.Native.Nat.{ℕ, suc, ◌+◌, ◌*◌, ◌/◌, ◌%◌, ◌≤◌}
 use native.Mathlib.Omega.{arith}
 use native.Mathlib.Numerals.{add-one}
 use lib.Dec.{eqb}
-use lib.ListN.{length, get_or, drop, drop_of_length-le}
-use lib.Seq.{drop-cons}
+use lib.ListN.{length, get_or}
 use Rattle.lists.specs.Tests.{choose}
 use Rattle.lists.specs.Arrays.{flag}
-use Rattle.lists.proofs.Tests.{not_both, not_true_false}
+use Rattle.lists.proofs.Tests.{not_true_false}
 use Rattle.plant.specs.declared.Plant.{Plant}
 use Rattle.plant.specs.Links.{side, first, second}
 use Rattle.walks.specs.Arcs.{tail, head}
 use Rattle.walks.proofs.Labels.{arc_below}
 use Rattle.rings.specs.Packet.{crosses, run, run_on, rules_for}
 use Rattle.rings.specs.Packet as ring
-use Rattle.rings.proofs.Packet.{run_none, run_label}
+use Rattle.rings.proofs.Packet.{run_none, run_label, hops-most, run_on-append}
 use Rattle.rings.specs.Rules.{up_by}
-use Rattle.packet.specs.Runs.{after_label, flagged, byte_of, up_of, goes_by}
-use Rattle.packet.specs.Asked.{ForArcs, CanRunBy}
+use Rattle.packet.specs.Runs.{after_label, flagged, up_of, goes_by}
+use Rattle.packet.specs.Asked.{ForArcs}
 
--- ---- where the state byte of a label stands
+-- a run makes no more hops than it has labels
+on_hops : (rule : ℕ → ℕ → Bool) (up : ℕ → Bool) (hd : ℕ → ℕ) (e : ring.End) (w : List ℕ) → (run_on rule up hd e w).hops ≤ e.hops + length w
+unfolding run_on
+on_hops rule up hd e w = go e.ended (hops-most rule up hd w e.last e.hops)
+  where
+    go : (b : Bool) → (run rule up hd e.last e.hops w).hops ≤ e.hops + length w → (choose b (run rule up hd e.last e.hops w) e).hops ≤ e.hops + length w
+    go true h = h
+    go false h = omega arith
 
-module _ (by_label : Bool) (a : ℕ) where
-  pub byte-own : by_label ≡ true → byte_of by_label a ≡ a
-  byte-own t = rw t
-
-  pub byte-link : by_label ≡ false → byte_of by_label a ≡ a / 2
-  byte-link t = rw t
-
-module _ (by_label : Bool) (p : Plant) (rules : List Bool) (states : List ℕ) where
+module _ (n : ℕ) (p : Plant) (rules : List Bool) (states : List ℕ) where
   abbrev up : ℕ → Bool
-  up = up_of by_label states
+  up = up_of n states
 
   -- may a packet at a switch cross by label a?
   unfoldable pub passes : ℕ → ℕ → Bool
@@ -48,52 +47,45 @@ module _ (by_label : Bool) (p : Plant) (rules : List Bool) (states : List ℕ) w
       let e : flag rules a ≡ false = not_true_false (flag rules a) (λ t. omega (arith, arc_below p a (arcs a t))) in
       rw e
 
-  pub passes_is : (at a state : ℕ) (r : Bool) → state ≡ get_or states (byte_of by_label a) 0
-      → r ≡ (flag rules a && eqb (side (a % 2) (first p (a / 2)) (second p (a / 2))) at) && not (eqb state 0) → r ≡ passes at a
+  pub passes_is : (at a : ℕ) (r : Bool) → r ≡ (flag rules a && eqb (side (a % 2) (first p (a / 2)) (second p (a / 2))) at) && not (eqb (get_or states (a / n) 0) 0)
+      → r ≡ passes at a
   unfolding passes flagged rules_for tail up_by
-  passes_is at a state r q e =
-      e ∙ ap (λ (b : ℕ). (flag rules a && eqb (side (a % 2) (first p (a / 2)) (second p (a / 2))) at) && not (eqb b 0)) q
+  passes_is at a r e = e
 
-  -- the state byte of a label of the plant is there
-  pub byte_in : CanRunBy by_label p rules states → (a : ℕ) → a < 2 * p.count → byte_of by_label a < length states
-  byte_in can a h = go by_label can.bytes
-    where
-      go : (b : Bool) → choose b (2 * p.count) p.count ≤ length states → byte_of b a < length states
-      go true g = omega arith
-      go false g = omega arith
-
-  -- ---- what is left of a run
+  -- ---- a run, hop by hop
 
   -- a packet that is lost stays where it is
-  pub goes-lost : (e : ring.End) (w : List ℕ) → e.ended ≡ false → e ≡ goes_by by_label p rules states e w
+  pub goes-lost : (e : ring.End) (w : List ℕ) → e.ended ≡ false → e ≡ goes_by n p rules states e w
   unfolding run_on
   goes-lost e w q = rw q
 
-  -- with no label left it has come to its end
-  pub goes_none : (w : List ℕ) (i : ℕ) (e : ring.End) → length w ≤ i → e.ended ≡ true → e ≡ goes_by by_label p rules states e (drop i w)
-  unfolding run_on
-  goes_none w i e h t = rw (t, drop_of_length-le w h) (sym (run_none (flagged p rules) up (head p) e.last e.hops))
-
-  -- after a label the rest goes on as the run did before it
-  pub goes_label : (w : List ℕ) (i a : ℕ) (e r : ring.End) → e.ended ≡ true → i < length w → a ≡ get_or w i 0 → r ≡ after_label e (passes e.last a) (head p a)
-      → goes_by by_label p rules states r (drop (i + 1) w) ≡ goes_by by_label p rules states e (drop i w)
+  -- over one label
+  pub hop_is : (e r : ring.End) (a : ℕ) → e.ended ≡ true → r ≡ after_label e (passes e.last a) (head p a) → r ≡ goes_by n p rules states e (a ∷ [])
   unfolding passes run_on
-  goes_label w i a e r t h q g =
-      rw (g, t, drop-cons w i 0 h, sym q, add-one i, run_label (flagged p rules) up (head p) e.last e.hops a (drop (suc i) w))
-      (go (flagged p rules e.last a && up a))
+  hop_is e r a t q =
+      rw (q, t, run_label (flagged p rules) up (head p) e.last e.hops a [], run_none (flagged p rules) up (head p) (head p a) (suc e.hops)) (go (flagged p rules e.last a && up a))
     where
-      go : (c : Bool) → goes_by by_label p rules states (after_label e c (head p a)) (drop (suc i) w)
-          ≡ choose c (run (flagged p rules) up (head p) (head p a) (suc e.hops) (drop (suc i) w)) (record { ended = false; hops = e.hops; last = e.last })
+      go : (c : Bool) → after_label e c (head p a) ≡ choose c (record { ended = true; hops = suc e.hops; last = head p a }) (record { ended = false; hops = e.hops; last = e.last })
       go true = rw (add-one e.hops)
       go false = refl
 
-  -- a packet that came to `at` over the first i of the labels w, from where it was at e
-  pub record Came (w : List ℕ) (e at : ring.End) (i : ℕ) : Type 0 where
-    pub going : at.ended ≡ true
-    pub counted : at.hops ≡ e.hops + i
-    pub rest : goes_by by_label p rules states at (drop i w) ≡ goes_by by_label p rules states e w
+  -- two runs are one
+  pub on_two : (e f r : ring.End) (x y : List ℕ) → f ≡ goes_by n p rules states e x → r ≡ goes_by n p rules states f y → r ≡ goes_by n p rules states e (x ++ y)
+  on_two e f r x y a b = b ∙ ap (λ (d : ring.End). goes_by n p rules states d y) a ∙ sym (run_on-append (flagged p rules) up (head p) e x y)
 
--- a packet that has not been lost at a label has made one hop more
-pub after-counts : (c : Bool) (e r : ring.End) (to : ℕ) → r ≡ after_label e c to → r.ended ≡ true → r.hops ≡ e.hops + 1
-after-counts true e r to q t = ap (λ (d : ring.End). d.hops) q
-after-counts false e r to q t = absurd (not_both r.ended t (ap (λ (d : ring.End). d.ended) q))
+  -- no label
+  pub goes_none : (e : ring.End) → e ≡ goes_by n p rules states e []
+  unfolding run_on
+  goes_none e = go e.ended refl
+    where
+      go : (b : Bool) → e.ended ≡ b → e ≡ choose b (run (flagged p rules) up (head p) e.last e.hops []) e
+      go true t = sym (run_none (flagged p rules) up (head p) e.last e.hops ∙ ap (λ (b : Bool). record { ended = b; hops = e.hops; last = e.last }) (sym t))
+      go false t = refl
+
+  -- where a packet was lost it stays, over whatever labels
+  pub stays : (e at : ring.End) (x y : List ℕ) → at ≡ goes_by n p rules states e x → at.ended ≡ false → at ≡ goes_by n p rules states e (x ++ y)
+  stays e at x y q f = on_two e at at x y q (goes-lost at y f)
+
+  -- it makes no more hops than it has labels
+  pub after-hops : (e r : ring.End) (w : List ℕ) → r ≡ goes_by n p rules states e w → r.hops ≤ e.hops + length w
+  after-hops e r w q = subst (λ (d : ring.End). d.hops ≤ e.hops + length w) (sym q) (on_hops (flagged p rules) up (head p) e w)

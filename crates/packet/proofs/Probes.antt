@@ -1,18 +1,15 @@
 -- Runs over parts, one after the other: how many hops they make, the run over a ring, the round run, the full check, and a probe that comes back. Assumes nothing.
-use mathlib.Core.Path.{◌≡◌, sym, ap, ap₂, ◌∙◌, subst}
-use mathlib.Core.Bool.{Bool, true, false}
+use mathlib.Core.Path.{◌≡◌, sym, ap, ap₂, ◌∙◌}
+use mathlib.Core.Bool.{Bool}
 use mathlib.Core.List.{List, ◌++◌}
-use Prim.Native.Nat.{ℕ, ◌+◌, ◌-◌, ◌≤◌}
-use native.Mathlib.Omega.{arith}
-use lib.ListN.{length, take, drop, length-drop}
-use lib.Seq.{take_all, length-take-le}
-use Rattle.lists.specs.Tests.{choose}
+use Prim.Native.Nat.{ℕ}
+use lib.ListN.{take, drop}
+use Rattle.std.proofs.Math.Nat.{div-one}
 use Rattle.lists.specs.Arrays.{flag}
 use Rattle.plant.specs.declared.Plant.{Plant}
 use Rattle.walks.specs.Arcs.{tail, head}
 use Rattle.rings.specs.Packet.{End, run, run_on, rules_for}
-use Rattle.rings.proofs.Packet.{hops-most, run_on-append}
-use Rattle.rings.specs.Rules.{up_by_link, in_all}
+use Rattle.rings.specs.Rules.{up_by, up_by_link, in_all}
 use Rattle.rings.specs.Ring.{read_from, ring}
 use Rattle.rings.specs.Probe.{back}
 use Rattle.rings.specs.Injection.{place_of, ring_of, probe_run}
@@ -24,65 +21,43 @@ use Rattle.arcs.specs.Net.{AllArcs}
 use Rattle.order.specs.declared.Span.{Span}
 use Rattle.order.specs.Span.{span_of, stretch_of, front_of}
 use Rattle.order.proofs.Spans.{span-stretch, span-front}
-use Rattle.packet.specs.Runs.{flagged, injected_at, up_of, goes_by, goes_on}
+use Rattle.packet.specs.Runs.{flagged, injected_at, goes_by, goes_on}
 use Rattle.packet.specs.Asked.{out_and_back}
+use Rattle.packet.proofs.Hops.{on_two}
 use Rattle.packet.proofs.Rules.{on_all}
-
--- ---- the part of a trail from a place on
-
-pub rest-length : (w : List ℕ) (k : ℕ) → length (take (length w - k) (drop k w)) ≡ length w - k
-rest-length w k = length-take-le (length w - k) (drop k w) (omega (arith, length-drop k w))
-
--- ---- a run makes no more hops than it has labels
-
-module _ (rule : ℕ → ℕ → Bool) (up : ℕ → Bool) (hd : ℕ → ℕ) where
-  on_hops : (e : End) (w : List ℕ) → (run_on rule up hd e w).hops ≤ e.hops + length w
-  unfolding run_on
-  on_hops e w = go e.ended (hops-most rule up hd w e.last e.hops)
-    where
-      go : (b : Bool) → (run rule up hd e.last e.hops w).hops ≤ e.hops + length w → (choose b (run rule up hd e.last e.hops w) e).hops ≤ e.hops + length w
-      go true h = h
-      go false h = omega arith
 
 pub injected_hops : (i : End) (s : ℕ) → i ≡ injected_at s → i.hops ≡ 0
 injected_hops i s e = ap (λ (d : End). d.hops) e
 
--- ---- by a state byte for each label, or for each link
+-- ---- the ring, by a state byte for each n labels
 
-module _ (by_label : Bool) (p : Plant) (rules : List Bool) (states : List ℕ) where
-  pub after-hops : (e r : End) (w : List ℕ) → r ≡ goes_by by_label p rules states e w → r.hops ≤ e.hops + length w
-  after-hops e r w q = subst (λ (d : End). d.hops ≤ e.hops + length w) (sym q) (on_hops (flagged p rules) (up_of by_label states) (head p) e w)
-
-  -- two runs are one
-  pub on_two : (e f r : End) (x y : List ℕ) → f ≡ goes_by by_label p rules states e x → r ≡ goes_by by_label p rules states f y → r ≡ goes_by by_label p rules states e (x ++ y)
-  on_two e f r x y a b = b ∙ ap (λ (d : End). goes_by by_label p rules states d y) a ∙ sym (run_on-append (flagged p rules) (up_of by_label states) (head p) e x y)
-
-  -- the ring of s: the stretch from its place, then the front
-  pub ring-is : (w : List ℕ) (s k : ℕ) (i e r : End) → k ≡ place_of p w s → i ≡ injected_at s → e ≡ goes_by by_label p rules states i (take (length w - k) (drop k w))
-      → r ≡ goes_by by_label p rules states e (take k w) → r ≡ goes_by by_label p rules states (injected_at s) (ring_of p w s)
+module _ (n : ℕ) (p : Plant) (rules : List Bool) (states : List ℕ) where
+  -- the ring of s: what is from its place on, then the front
+  pub ring-is : (w : List ℕ) (s k : ℕ) (i e r : End) → k ≡ place_of p w s → i ≡ injected_at s → e ≡ goes_by n p rules states i (drop k w) → r ≡ goes_by n p rules states e (take k w)
+      → r ≡ goes_by n p rules states (injected_at s) (ring_of p w s)
   unfolding ring_of ring read_from
   ring-is w s k i e r at new a b =
-      let whole : take (length w - k) (drop k w) ≡ drop k w = take_all (length w - k) (drop k w) (omega (arith, length-drop k w)) in
-      on_two i e r (drop k w) (take k w) (a ∙ ap (goes_by by_label p rules states i) whole) b
-      ∙ ap₂ (λ (j : End) (n : ℕ). goes_by by_label p rules states j (drop n w ++ take n w)) new at
+      on_two n p rules states i e r (drop k w) (take k w) a b ∙ ap₂ (λ (j : End) (i : ℕ). goes_by n p rules states j (drop i w ++ take i w)) new at
+
+  -- out over two stretches and back
+  pub on_four : (s : ℕ) (i e f g r : End) (x y : List ℕ) → i ≡ injected_at s → e ≡ goes_by n p rules states i x → f ≡ goes_by n p rules states e y
+      → g ≡ goes_by n p rules states f (back y) → r ≡ goes_by n p rules states g (back x) → r ≡ goes_by n p rules states (injected_at s) (out_and_back x y)
+  on_four s i e f g r x y new a b c d =
+      on_two n p rules states i f r (x ++ y) (back y ++ back x) (on_two n p rules states i e f x y a b) (on_two n p rules states f g r (back y) (back x) c d)
+      ∙ ap (λ (j : End). goes_by n p rules states j (out_and_back x y)) new
 
 -- ---- the round run
 
-pub round_is : (p : Plant) (rules : List Bool) (states w : List ℕ) (s : ℕ) (r : End) → AllArcs p rules → r ≡ goes_by true p rules states (injected_at s) (ring_of p w s)
+pub round_is : (p : Plant) (rules : List Bool) (states w : List ℕ) (s : ℕ) (r : End) → AllArcs p rules → r ≡ goes_by 1 p rules states (injected_at s) (ring_of p w s)
     → r ≡ round_run p w s states
 unfolding run_on round_run
-round_is p rules states w s r all q = q ∙ on_all p rules all true states (injected_at s) (ring_of p w s)
+round_is p rules states w s r all q =
+    q ∙ on_all p rules all 1 states (injected_at s) (ring_of p w s)
+    ∙ ap (λ (up : ℕ → Bool). run (in_all p) up (head p) s 0 (ring_of p w s)) (λ i a. up_by states (div-one a i))
 
 -- ---- by a state byte for each link
 
 module _ (p : Plant) (rules : List Bool) (states : List ℕ) where
-  -- out over two stretches and back
-  pub on_four : (s : ℕ) (i e f g r : End) (x y : List ℕ) → i ≡ injected_at s → e ≡ goes_on p rules states i x → f ≡ goes_on p rules states e y → g ≡ goes_on p rules states f (back y)
-      → r ≡ goes_on p rules states g (back x) → r ≡ goes_on p rules states (injected_at s) (out_and_back x y)
-  on_four s i e f g r x y new a b c d =
-      on_two false p rules states i f r (x ++ y) (back y ++ back x) (on_two false p rules states i e f x y a b) (on_two false p rules states f g r (back y) (back x) c d)
-      ∙ ap (λ (j : End). goes_on p rules states j (out_and_back x y)) new
-
   -- from a switch
   pub from_switch : (s : ℕ) (i r : End) (w : List ℕ) → i ≡ injected_at s → r ≡ goes_on p rules states i w
       → r ≡ run (rules_for (flag rules) (tail p)) (up_by_link states) (head p) s 0 w
@@ -102,6 +77,6 @@ module _ (p : Plant) (rules : List Bool) (states : List ℕ) where
     back_is all table e m b x y r n q f g h =
         let stretch : x ≡ out_stretch (tail p) s w m = f ∙ ap (stretch_of w) q ∙ span-stretch p w s m in
         let front : y ≡ out_front (tail p) s w m = g ∙ ap (front_of w) q ∙ span-front p w s m in
-        h ∙ on_all p rules all false states (injected_at s) (out_and_back x y)
+        h ∙ on_all p rules all 2 states (injected_at s) (out_and_back x y)
         ∙ ap (run (in_all p) (up_by_link states) (head p) s 0) (ap₂ out_and_back stretch front ∙ sym (there_and_back (tail p) s w m))
         ∙ sym (back-run p w s table e (up_by_link states) m n)

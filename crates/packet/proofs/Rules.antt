@@ -20,9 +20,9 @@ module _ (p : Plant) (rules : List Bool) (all : AllArcs p rules) where
   all-arcs a t = true_T (live p (a / 2)) (sym (all.tells a) ∙ t)
 
   -- a run under them is one under all rules
-  pub on_all : (by_label : Bool) (states : List ℕ) (e : End) (w : List ℕ) → goes_by by_label p rules states e w ≡ run_on (in_all p) (up_of by_label states) (head p) e w
+  pub on_all : (n : ℕ) (states : List ℕ) (e : End) (w : List ℕ) → goes_by n p rules states e w ≡ run_on (in_all p) (up_of n states) (head p) e w
   unfolding in_all flagged
-  on_all by_label states e w = ap (λ (kind : ℕ → Bool). run_on (rules_for kind (tail p)) (up_of by_label states) (head p) e w) same
+  on_all n states e w = ap (λ (kind : ℕ → Bool). run_on (rules_for kind (tail p)) (up_of n states) (head p) e w) same
     where
       same : flag rules ≡ (λ a. live p (a / 2))
       same = λ i a. all.tells a i

@@ -25,18 +25,18 @@ after_label e crosses to = choose crosses (record { ended = true; hops = e.hops 
 unfoldable pub flagged : Plant → List Bool → ℕ → ℕ → Bool
 flagged p rules = rules_for (flag rules) (tail p)
 
--- where the state byte of label a stands: its own, or that of its link
-abbrev pub byte_of : Bool → ℕ → ℕ
-byte_of by_label a = choose by_label a (a / 2)
+-- where the state byte of label a stands, where n labels share a byte: the two of a link, or one alone
+abbrev pub byte_of : ℕ → ℕ → ℕ
+byte_of n a = a / n
 
--- the labels that are up, by a state byte for each label, or for each link
-abbrev pub up_of : Bool → List ℕ → ℕ → Bool
-up_of by_label states a = up_by states (byte_of by_label a)
+-- the labels that are up, by such bytes
+abbrev pub up_of : ℕ → List ℕ → ℕ → Bool
+up_of n states a = up_by states (byte_of n a)
 
 -- a packet that came so far goes on under the rules that are flagged, by such bytes
-abbrev pub goes_by : Bool → Plant → List Bool → List ℕ → ring.End → List ℕ → ring.End
-goes_by by_label p rules states e w = run_on (flagged p rules) (up_of by_label states) (head p) e w
+abbrev pub goes_by : ℕ → Plant → List Bool → List ℕ → ring.End → List ℕ → ring.End
+goes_by n p rules states e w = run_on (flagged p rules) (up_of n states) (head p) e w
 
 -- the same, by a state byte for each link
 abbrev pub goes_on : Plant → List Bool → List ℕ → ring.End → List ℕ → ring.End
-goes_on p rules states e w = goes_by false p rules states e w
+goes_on p rules states e w = goes_by 2 p rules states e w

@@ -2,7 +2,7 @@
 // run. Inner: the calls are those of docs/CALLS.md.
 #![tactic(auto)]
 
-ghost use Rattle.std.specs.Prelude.{◌≡◌, not, ◌&&◌, ◌+◌, ◌*◌, ◌%◌, ◌≤◌, ◌<◌, eqb, length, get_or};
+ghost use Rattle.std.specs.Prelude.{◌≡◌, true, not, ◌&&◌, [], ◌∷◌, ◌+◌, ◌*◌, ◌%◌, ◌≤◌, eqb, length};
 ghost use Rattle.lists.specs.Arrays.{flag};
 ghost use Rattle.limits.specs.Limits.{max_links};
 ghost use Rattle.plant.specs.Links.{side};
@@ -13,17 +13,17 @@ ghost use Rattle.rings.specs.Probe.{back};
 ghost use Rattle.rings.specs.Injection.{ring_of, probe_run};
 ghost use Rattle.rings.specs.Round.{round_run};
 ghost use Rattle.order.specs.Labels.{OverArcs};
-ghost use Rattle.packet.specs.Runs.{end_of, injected_at, after_label, byte_of, goes_by, goes_on};
+ghost use Rattle.packet.specs.Runs.{end_of, injected_at, after_label, goes_by, goes_on};
 ghost use Rattle.packet.specs.Outcome.{outcome_of};
-ghost use Rattle.packet.specs.Asked.{CanRunBy, CanRun, CanProbe, CanRound, way, out_and_back};
+ghost use Rattle.packet.specs.Asked.{CanRunBy, CanRun, out_and_back};
 
-use arcs::opposite;
-use order::{front, place_of, span_of, stretch};
+use arcs::{ArcEnds, opposite};
+use order::{Ring, front, place_of, span_of, stretch};
 use plant::{Link, Plant, head_of, tail_of};
 use search::Outcome;
 
 // How a run comes out: has the packet ended (else it is lost), the hops made, and the switch last reached.
-#[derive(Clone, Copy)]
+#[derive(Clone, Copy, Debug, PartialEq, Eq)]
 pub struct End {
     pub ended: bool,
     pub hops: usize,
@@ -52,40 +52,27 @@ pub fn outcome_of(e: End) -> Outcome
     }
 }
 
-// Label i of these labels, or of the way back over them: the opposite arcs, from the last.
-fn label_at(labels: &[u16], i: usize, backward: bool) -> u16
-    requires { i < length labels.now }
-    ensures { result ≡ get_or (way backward labels.now) i 0 }
-{
-    if !backward {
-        return labels[i];
-    }
-    opposite(labels[labels.len() - 1 - i])
-}
+// How many labels share a state byte: the two of a link, or each has its own.
+const OF_LINK: usize = 2;
 
-// The state byte of label a: its own, or that of its link.
-fn state_of(states: &[u8], a: usize, labelwise: bool) -> u8
-    requires { byte_of labelwise a < length states.now }
-    ensures { result ≡ get_or states.now (byte_of labelwise a) 0 }
-{
-    let l = a / 2;
-    if labelwise {
-        return states[a];
-    }
-    states[l]
+const OF_LABEL: usize = 1;
+
+// What packets run under: a plant with the ends of its arcs, rules as flags of its labels, and a state byte for each N labels. The rules are for arcs of the plant, and its labels have
+// their bytes. The functions below take a ring with rules and states, and no course beside it: each would have the ends of the arcs.
+#[derive(Clone, Copy)]
+struct Course<'a, const N: usize> {
+    ends: &'a ArcEnds,
+    rules: &'a [bool; Plant::LABELS],
+    states: &'a [u8],
+    ghost some: { 1 ≤ N },
+    ghost can_run: { CanRunBy N ends.now.plant rules.now states.now },
 }
 
 // Does a packet at switch s cross link l by label a? There is a rule for the label at the switch that its arc leaves, and the label is up.
 fn crosses(rule: bool, state: u8, l: Link, a: usize, s: u8) -> bool
     ensures { result ≡ (rule && eqb (side (a % 2) l.first l.second) s) && not (eqb state 0) }
 {
-    if !rule {
-        return false;
-    }
-    if tail_of(l, a) != s {
-        return false;
-    }
-    state != 0
+    rule && tail_of(l, a) == s && state != 0
 }
 
 // After the next label: a packet that crosses is at the switch that the label leads to, after one hop more; one that does not is lost where it is, after the hops
@@ -94,155 +81,171 @@ fn after_label(e: End, crosses: bool, to: u8) -> End
     requires { e.hops + 1 ≤ usize.MAX }
     ensures { end_of result ≡ after_label (end_of e) crosses to }
 {
-    let hops = e.hops + 1;
     if crosses {
-        return End {
+        End {
             ended: true,
-            hops,
+            hops: e.hops + 1,
             last: to,
-        };
-    }
-    End {
-        ended: false,
-        hops: e.hops,
-        last: e.last,
+        }
+    } else {
+        End { ended: false, ..e }
     }
 }
 
-// A packet that came so far goes on over these labels, or back over them, unless it is lost: by a state byte for each label, or for each link.
-fn run_way(
-    p: Plant,
-    rules: [bool; Plant::LABELS],
-    states: &[u8],
-    labelwise: bool,
-    e: End,
-    labels: &[u16],
-    backward: bool,
-) -> End
-    requires can_run_by { CanRunBy labelwise p rules states.now }
-    requires labels_bound { e.hops + length labels.now ≤ usize.MAX }
-    ensures { end_of result ≡ goes_by labelwise p rules states.now (end_of e) (way backward labels.now) }
-{
-    if !e.ended {
-        return e;
-    }
-    let n = 2 * (p.count as usize);
-    let mut at = e;
-    let mut i: usize = 0;
-    while i < labels.len() {
-        let a = label_at(labels, i, backward) as usize;
-        if n <= a {
-            return after_label(at, false, at.last);
+impl<'a, const N: usize> Course<'a, N> {
+    // A packet goes on over the next label. A label past those of the plant has no rule.
+    fn hop(&self, e: End, a: u16) -> End
+        requires going { e.ended ≡ true }
+        requires hops_bound { e.hops + 1 ≤ usize.MAX }
+        ensures { end_of result ≡ goes_by N self.now.ends.now.plant self.now.rules.now self.now.states.now (end_of e) (a ∷ []) }
+    {
+        let p = &self.ends.plant;
+        let a = usize::from(a);
+        if 2 * usize::from(p.count) <= a {
+            return after_label(e, false, e.last);
         }
         let l = p.links[a / 2];
-        let c = crosses(rules[a], state_of(states, a, labelwise), l, a, at.last);
-        at = after_label(at, c, head_of(l, a));
-        if !at.ended {
-            return at;
-        }
-        i += 1;
+        let c = crosses(self.rules[a], self.states[a / N], l, a, e.last);
+        after_label(e, c, head_of(l, a))
     }
-    at
+
+    // A packet that came so far goes on over these labels, unless it is lost.
+    fn run_out(&self, e: End, labels: &[u16]) -> End
+        requires { e.hops + length labels.now ≤ usize.MAX }
+        ensures { end_of result ≡ goes_by N self.now.ends.now.plant self.now.rules.now self.now.states.now (end_of e) labels.now }
+    {
+        if !e.ended {
+            return e;
+        }
+        let mut at = e;
+        for a in labels {
+            at = self.hop(at, *a);
+            if !at.ended {
+                return at;
+            }
+        }
+        at
+    }
+
+    // A packet that came so far goes back over these labels, unless it is lost: over the opposite arcs, from the last.
+    fn run_back(&self, e: End, labels: &[u16]) -> End
+        requires { e.hops + length labels.now ≤ usize.MAX }
+        ensures { end_of result ≡ goes_by N self.now.ends.now.plant self.now.rules.now self.now.states.now (end_of e) (back labels.now) }
+    {
+        if !e.ended {
+            return e;
+        }
+        let mut at = e;
+        for a in labels.iter().rev() {
+            at = self.hop(at, opposite(*a));
+            if !at.ended {
+                return at;
+            }
+        }
+        at
+    }
+
+    // A packet runs over the ring of switch s, which is the trail from the place of s on and then its front.
+    fn run_ring(&self, s: u8, trail: &[u16]) -> End
+        requires { OverArcs self.now.ends.now.plant trail.now }
+        ensures { end_of result ≡ goes_by N self.now.ends.now.plant self.now.rules.now self.now.states.now (injected_at s) (ring_of self.now.ends.now.plant trail.now s) }
+    {
+        let k = place_of(&Ring {
+            ends: self.ends,
+            switch: s,
+            trail,
+        });
+        let (front, rest) = trail.split_at(k);
+        let e = self.run_out(injected(s), rest);
+        self.run_out(e, front)
+    }
+
+    // From switch s out over x and then y, and back over the opposite arcs.
+    fn there_and_back(&self, s: u8, x: &[u16], y: &[u16]) -> End
+        requires { 2 * (length x.now + length y.now) ≤ usize.MAX }
+        ensures { end_of result ≡ goes_by N self.now.ends.now.plant self.now.rules.now self.now.states.now (injected_at s) (out_and_back x.now y.now) }
+    {
+        let e = self.run_out(injected(s), x);
+        let f = self.run_out(e, y);
+        let g = self.run_back(f, y);
+        self.run_back(g, x)
+    }
 }
 
 // A packet that came so far goes on with these labels, unless it is lost.
-pub fn run_on(p: Plant, rules: [bool; Plant::LABELS], states: &[u8], e: End, labels: &[u16]) -> End
-    requires can_run { CanRun p rules states.now }
+pub fn run_on(
+    ends: &ArcEnds,
+    rules: &[bool; Plant::LABELS],
+    states: &[u8],
+    e: End,
+    labels: &[u16],
+) -> End
+    requires can_run { CanRun ends.now.plant rules.now states.now }
     requires labels_bound { e.hops + length labels.now ≤ usize.MAX }
-    ensures { end_of result ≡ goes_on p rules states.now (end_of e) labels.now }
+    ensures { end_of result ≡ goes_on ends.now.plant rules.now states.now (end_of e) labels.now }
 {
-    run_way(p, rules, states, false, e, labels, false)
+    let course = Course::<OF_LINK> {
+        ends,
+        rules,
+        states,
+    };
+    course.run_out(e, labels)
 }
 
-// A packet that came so far goes back over these labels, unless it is lost: over the opposite arcs, from the last.
-fn run_back(p: Plant, rules: [bool; Plant::LABELS], states: &[u8], e: End, labels: &[u16]) -> End
-    requires can_run { CanRun p rules states.now }
-    requires labels_bound { e.hops + length labels.now ≤ usize.MAX }
-    ensures { end_of result ≡ goes_on p rules states.now (end_of e) (back labels.now) }
+// The full check: the packet runs under the forwarding table over the ring of the switch, by a state byte for each link.
+pub fn full_check(ring: &Ring, table: &[bool; Plant::LABELS], states: &[u8]) -> End
+    requires { CanRun ring.now.ends.now.plant table.now states.now }
+    ensures { end_of result ≡ run (rules_for (flag table.now) (tail ring.now.ends.now.plant)) (up_by_link states.now) (head ring.now.ends.now.plant) ring.now.switch 0 (ring_of ring.now.ends.now.plant ring.now.trail.now ring.now.switch) }
 {
-    run_way(p, rules, states, false, e, labels, true)
+    let course = Course::<OF_LINK> {
+        ends: ring.ends,
+        rules: table,
+        states,
+    };
+    course.run_ring(ring.switch, ring.trail)
 }
 
-// A packet runs over the ring of switch s, which is the trail from the place of s on and then its front: by a state byte for each label, or for each link.
-fn run_ring(
-    p: Plant,
-    rules: [bool; Plant::LABELS],
-    states: &[u8],
-    labelwise: bool,
-    s: u8,
-    trail: &[u16],
-) -> End
-    requires can_run_by { CanRunBy labelwise p rules states.now }
-    requires over_arcs { OverArcs p trail.now }
-    ensures { end_of result ≡ goes_by labelwise p rules states.now (injected_at s) (ring_of p trail.now s) }
+// The round run: the packet runs under all rules over the ring of the switch on the round trail, by a state byte for each label.
+pub fn round_run(ring: &Ring, states: &[u8]) -> End
+    requires { 2 * ring.now.ends.now.plant.count ≤ length states.now }
+    ensures { end_of result ≡ round_run ring.now.ends.now.plant ring.now.trail.now ring.now.switch states.now }
 {
-    let k = place_of(p, s, trail);
-    let e = run_way(p, rules, states, labelwise, injected(s), &trail[k..], false);
-    run_way(p, rules, states, labelwise, e, &trail[..k], false)
+    let all = arcs::all_arcs(ring.ends);
+    let course = Course::<OF_LABEL> {
+        ends: ring.ends,
+        rules: &all,
+        states,
+    };
+    course.run_ring(ring.switch, ring.trail)
 }
 
-// The full check: the packet runs under the forwarding table over the ring of switch s, by a state byte for each link.
-pub fn full_check(
-    p: Plant,
-    table: [bool; Plant::LABELS],
-    states: &[u8],
-    s: u8,
-    trail: &[u16],
-) -> End
-    requires { CanProbe p table states.now trail.now }
-    ensures { end_of result ≡ run (rules_for (flag table) (tail p)) (up_by_link states.now) (head p) s 0 (ring_of p trail.now s) }
-{
-    run_ring(p, table, states, false, s, trail)
-}
-
-// The round run: the packet runs under all rules over the ring of switch s on the round trail, by a state byte for each label.
-pub fn round_run(p: Plant, states: &[u8], s: u8, round: &[u16]) -> End
-    requires { CanRound p states.now round.now }
-    ensures { end_of result ≡ round_run p round.now s states.now }
-{
-    let all = arcs::all_arcs(p);
-    run_ring(p, all, states, true, s, round)
-}
-
-// From switch s out over x and then y, and back over the opposite arcs.
-fn there_and_back(
-    p: Plant,
-    rules: [bool; Plant::LABELS],
-    states: &[u8],
-    s: u8,
-    x: &[u16],
-    y: &[u16],
-) -> End
-    requires can_run { CanRun p rules states.now }
-    requires y_bound { 2 * (length x.now + length y.now) ≤ usize.MAX }
-    ensures { end_of result ≡ goes_on p rules states.now (injected_at s) (out_and_back x.now y.now) }
-{
-    let e = run_on(p, rules, states, injected(s), x);
-    let f = run_on(p, rules, states, e, y);
-    let g = run_back(p, rules, states, f, y);
-    run_back(p, rules, states, g, x)
-}
-
-// The run of probe m of switch s over so many links: the full check if m is their number; else out up to the first crossing of the m-th link of the order, and back,
+// The run of probe m of the switch over so many links: the full check if m is their number; else out up to the first crossing of the m-th link of the order, and back,
 // under all rules, those of the forwarding table and those that opposite arcs have of their own.
 pub fn probe_run(
-    p: Plant,
-    table: [bool; Plant::LABELS],
+    ring: &Ring,
+    table: &[bool; Plant::LABELS],
     states: &[u8],
-    s: u8,
-    trail: &[u16],
     links: u16,
     m: u16,
 ) -> End
-    requires can_probe { CanProbe p table states.now trail.now }
+    requires can_run { CanRun ring.now.ends.now.plant table.now states.now }
     requires le_m { 1 ≤ m }
     requires m_le_max_links { m ≤ max_links }
-    ensures { end_of result ≡ probe_run p (flag table) trail.now s links (up_by_link states.now) m }
+    ensures { end_of result ≡ probe_run ring.now.ends.now.plant (flag table.now) ring.now.trail.now ring.now.switch links (up_by_link states.now) m }
 {
     if m == links {
-        return full_check(p, table, states, s, trail);
+        return full_check(ring, table, states);
     }
-    let span = span_of(p, s, trail, m);
-    let all = arcs::all_arcs(p);
-    there_and_back(p, all, states, s, stretch(trail, span), front(trail, span))
+    let span = span_of(ring, m);
+    let all_rules = arcs::all_arcs(ring.ends);
+    let course = Course::<OF_LINK> {
+        ends: ring.ends,
+        rules: &all_rules,
+        states,
+    };
+    course.there_and_back(
+        ring.switch,
+        stretch(ring.trail, span),
+        front(ring.trail, span),
+    )
 }

@@ -31,9 +31,9 @@ module _ (s : List ℕ) (spare : ℕ) (b : List ℕ) where
     page-left = ap (leaves (λ c. page_in c b) b) (sym (goes_on (reading s) (λ q. pricing q spare) p e))
 
   module _ (n : ℕ) (e : answer (reading s) ≡ refused n) where
-    pub page-refused : refused n ≡ answer (buying s spare b)
+    pub page-refused : answer (buying s spare b) ≡ refused n
     unfolding buying
-    page-refused = sym (stops (reading s) (λ q. quoting q spare b) n e)
+    page-refused = stops (reading s) (λ q. quoting q spare b) n e
 
     pub page-kept : b ≡ bought_out s spare b
     unfolding quoting_for bought_out

@@ -1,4 +1,5 @@
 pub mod Again
 pub mod Owned
+pub mod Planned
 pub mod Trailing
 pub mod Buying

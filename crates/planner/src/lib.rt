@@ -4,309 +4,146 @@
 
 ghost use Rattle.std.specs.Prelude.{◌≡◌};
 ghost use Rattle.answers.specs.Checks.{answer};
-ghost use Rattle.plan.specs.Plan.{trail_of, round_of};
-ghost use Rattle.planning.specs.Plans.{Charted, Plan};
+ghost use Rattle.answers.specs.Results.{answer_of};
 ghost use Rattle.listing.specs.Writing.{buffer_after, writing};
 ghost use Rattle.listing.specs.Listing.{reading};
-ghost use Rattle.listing.specs.Answers.{Reads, write_answer};
 ghost use Rattle.quantity.specs.Quantity.{order_quantity};
-ghost use Rattle.quantity.specs.Answers.{quantity_of};
 ghost use Rattle.allowance.specs.Allowance.{allowance};
 ghost use Rattle.sheet.specs.Form.{reading_page};
-ghost use Rattle.sheet.specs.Answers.{ReadsPage};
-ghost use Rattle.planner.specs.Calls.{rewriting, rewritten, rereading, tabling, counting, bridging, parting, summing, laying, laid_with, trailing, laid_out, round_trailing, round_laid_out, buying, bought_out};
-ghost use Rattle.planner.specs.Answers.{Tables, Counts, AddsUp, Bridges, Splits, summary_answer, trail_answer};
+ghost use Rattle.planner.specs.Calls.{rewriting, rewritten, rereading, tabling, counting, bridging, parting, summing, trailing, laid_out, round_trailing, round_laid_out, buying, bought_out};
+ghost use Rattle.planner.specs.Answers.{AddsUp};
 
-use answers::{Refusal, Verdict};
-use listing::{Decoded, Written};
-use planning::{Components, Numbers, Parts};
+use answers::{Refusal, judge_room};
+use planning::{Components, Numbers, Plan};
 use plant::Plant;
-use quantity::Quantity;
 use senders::BySwitch;
-use sheet::PageRead;
+use sheet::Sheet;
 use table::Table;
 
-// The forwarding table of a listing. At a refusal it has no rule.
-#[derive(Clone, Copy)]
-pub struct Tabled {
-    pub verdict: Verdict,
-    pub table: Table,
-}
-
-// The rules of a listing by sending switch. At a refusal every number is zero.
-#[derive(Clone, Copy)]
-pub struct Counted {
-    pub verdict: Verdict,
-    pub rules: BySwitch,
-}
-
-// A flag for each link place of a listing: is it a bridge? One out of service is none. At a refusal none is set.
-#[derive(Clone, Copy)]
-pub struct Bridged {
-    pub verdict: Verdict,
-    pub flags: [bool; Plant::MAX_LINKS],
-}
-
-// The components of a listing in their order. At a refusal there is none.
-#[derive(Clone, Copy)]
-pub struct Parted {
-    pub verdict: Verdict,
-    pub components: Components,
-}
-
-#[derive(Clone, Copy)]
-pub enum Summary {
-    Plant(Numbers),
-    Refused(Refusal),
-}
-
-// The hops of the trails that were laid into a buffer.
-#[derive(Clone, Copy)]
-pub enum Trailed {
-    Hops(u16),
-    Refused(Refusal),
-}
-
 // The plant of a listing: refusals 1 to 8.
-pub fn read(listing: &[u8]) -> Decoded
-    ensures { Reads (answer (reading listing.now)) result }
+pub fn read(listing: &[u8]) -> Result<Plant, Refusal>
+    ensures { answer_of result ≡ answer (reading listing.now) }
 {
     reading::read(listing)
 }
 
 // The listing of a plant into the front of the lent buffer, and its length: refusals 5, 6, 7 and 16.
-pub fn write(p: Plant, buffer: &mut [u8]) -> Written
-    ensures result_value { write_answer result ≡ answer (writing p buffer.old) }
+pub fn write(p: Plant, buffer: &mut [u8]) -> Result<usize, Refusal>
+    ensures result_value { answer_of result ≡ answer (writing p buffer.old) }
     ensures buffer_now { buffer.new ≡ buffer_after p buffer.old }
 {
     writing::write(p, buffer)
 }
 
 // A listing read and written again: the same bytes at the front of the lent buffer. Refusals 1 to 8, then 16.
-pub fn rewrite(listing: &[u8], buffer: &mut [u8]) -> Written
-    ensures result_value { write_answer result ≡ answer (rewriting listing.now buffer.old) }
+pub fn rewrite(listing: &[u8], buffer: &mut [u8]) -> Result<usize, Refusal>
+    ensures result_value { answer_of result ≡ answer (rewriting listing.now buffer.old) }
     ensures buffer_now { buffer.new ≡ rewritten listing.now buffer.old }
 {
-    let d = reading::read(listing);
-    let v = d.verdict;
-    match v {
-        Verdict::Accepted => {
-            let p = d.plant;
-            writing::write(p, buffer)
-        }
-        Verdict::Refused(k) => Written::Refused(k),
-    }
+    let p = reading::read(listing)?;
+    writing::write(p, buffer)
 }
 
 // A plant written into the lent buffer and read again from there: the same plant. Refusals 5, 6, 7 and 16.
-pub fn reread(p: Plant, buffer: &mut [u8]) -> Decoded
-    ensures reads { Reads (answer (rereading p buffer.old)) result }
+pub fn reread(p: Plant, buffer: &mut [u8]) -> Result<Plant, Refusal>
+    ensures reads { answer_of result ≡ answer (rereading p buffer.old) }
     ensures buffer_now { buffer.new ≡ buffer_after p buffer.old }
 {
-    match writing::write(p, buffer) {
-        Written::Length(n) => reading::read(&buffer[..n]),
-        Written::Refused(k) => listing::refused_reading(k),
-    }
+    let n = writing::write(p, buffer)?;
+    reading::read(&buffer[..n])
 }
 
 // The forwarding table of a listing: refusals 1 to 8.
-pub fn forwarding_table(listing: &[u8]) -> Tabled
-    ensures { Tables (answer (tabling listing.now)) result }
+pub fn forwarding_table(listing: &[u8]) -> Result<Table, Refusal>
+    ensures { answer_of result ≡ answer (tabling listing.now) }
 {
-    let mut t = planning::blank();
-    let d = planning::plan(listing, &mut t);
-    let v = d.verdict;
-    match v {
-        Verdict::Accepted => {
-            let table = planning::table_of(d.parts);
-            Tabled {
-                verdict: Verdict::Accepted,
-                table,
-            }
-        }
-        Verdict::Refused(k) => {
-            let table = Table::empty();
-            Tabled {
-                verdict: Verdict::Refused(k),
-                table,
-            }
-        }
-    }
+    let plan = planning::plan_of(listing)?;
+    Ok(planning::table_of(&plan))
 }
 
 // The number of rules of a listing that each switch sends by, and their total over switches: refusals 1 to 8.
-pub fn rules_by_switch(listing: &[u8]) -> Counted
-    ensures counts { Counts (answer (counting listing.now)) result }
+pub fn rules_by_switch(listing: &[u8]) -> Result<BySwitch, Refusal>
+    ensures counts { answer_of result ≡ answer (counting listing.now) }
     ensures adds_up { AddsUp listing.now result }
 {
-    let mut t = planning::blank();
-    let d = planning::plan(listing, &mut t);
-    let v = d.verdict;
-    match v {
-        Verdict::Accepted => {
-            let table = planning::table_of(d.parts);
-            let rules = senders::by_switch(table);
-            Counted {
-                verdict: Verdict::Accepted,
-                rules,
-            }
-        }
-        Verdict::Refused(k) => {
-            let rules = BySwitch::none();
-            Counted {
-                verdict: Verdict::Refused(k),
-                rules,
-            }
-        }
-    }
+    let plan = planning::plan_of(listing)?;
+    let table = planning::table_of(&plan);
+    let rules = senders::by_switch(table);
+    Ok(rules)
 }
 
-// The bridges of a listing: refusals 1 to 8.
-pub fn find_bridges(listing: &[u8]) -> Bridged
-    ensures { Bridges (answer (bridging listing.now)) result }
+// The bridges of a listing, a flag for each link place; a link out of service is none: refusals 1 to 8.
+pub fn find_bridges(listing: &[u8]) -> Result<[bool; Plant::MAX_LINKS], Refusal>
+    ensures { answer_of result ≡ answer (bridging listing.now) }
 {
-    let mut t = planning::blank();
-    let d = planning::plan(listing, &mut t);
-    let v = d.verdict;
-    match v {
-        Verdict::Accepted => {
-            let flags = d.parts.bridges;
-            Bridged {
-                verdict: Verdict::Accepted,
-                flags,
-            }
-        }
-        Verdict::Refused(k) => {
-            let flags = [false; Plant::MAX_LINKS];
-            Bridged {
-                verdict: Verdict::Refused(k),
-                flags,
-            }
-        }
-    }
+    let Plan { bridges, .. } = planning::plan_of(listing)?;
+    Ok(bridges)
 }
 
-// The components of a listing: how many, and of each its root, where its trail begins among the trails of all and its hops, and the same of its round trail: refusals 1 to 8.
-pub fn find_components(listing: &[u8]) -> Parted
-    ensures { Splits (answer (parting listing.now)) result }
+// The components of a listing in their order: how many, and of each its root, where its trail begins among the trails of all and its hops, and the same of its round trail:
+// refusals 1 to 8.
+pub fn find_components(listing: &[u8]) -> Result<Components, Refusal>
+    ensures { answer_of result ≡ answer (parting listing.now) }
 {
-    let mut t = planning::blank();
-    let d = planning::plan(listing, &mut t);
-    let v = d.verdict;
-    match v {
-        Verdict::Accepted => {
-            let x = d.parts;
-            let components = x.components;
-            Parted {
-                verdict: Verdict::Accepted,
-                components,
-            }
-        }
-        Verdict::Refused(k) => {
-            let components = Components::none();
-            Parted {
-                verdict: Verdict::Refused(k),
-                components,
-            }
-        }
-    }
+    let Plan { components, .. } = planning::plan_of(listing)?;
+    Ok(components)
 }
 
 // Switches, links, bridges, rules and hops of a listing: refusals 1 to 8.
-pub fn summarize(listing: &[u8]) -> Summary
-    ensures { summary_answer result ≡ answer (summing listing.now) }
+pub fn summarize(listing: &[u8]) -> Result<Numbers, Refusal>
+    ensures { answer_of result ≡ answer (summing listing.now) }
 {
-    let mut t = planning::blank();
-    let d = planning::plan(listing, &mut t);
-    let v = d.verdict;
-    match v {
-        Verdict::Accepted => Summary::Plant(planning::numbers_of(d.parts)),
-        Verdict::Refused(k) => Summary::Refused(k),
-    }
-}
-
-// The trails of a plan one after another into the front of the buffer, or refusal 10.
-fn put_trail(x: Parts, t: &[[u8; Plant::PLACES]; Plant::PLACES], buffer: &mut [u16]) -> Trailed
-    requires { Plan x t.now }
-    ensures result_value { trail_answer result ≡ answer (laying (trail_of x.plant) buffer.old) }
-    ensures buffer_now { buffer.new ≡ laid_with (trail_of x.plant) buffer.old }
-{
-    let hops = x.hops;
-    let n = hops as usize;
-    if buffer.len() < n {
-        return Trailed::Refused(Refusal::TrailBufferShort);
-    }
-    planning::lay(x, t, buffer);
-    Trailed::Hops(hops)
+    let plan = planning::plan_of(listing)?;
+    Ok(planning::numbers_of(&plan))
 }
 
 // The trails of a listing's components one after another into the front of the lent buffer, and their hops: refusals 1 to 8, then 10.
-pub fn lay_trail(listing: &[u8], buffer: &mut [u16]) -> Trailed
-    ensures result_value { trail_answer result ≡ answer (trailing listing.now buffer.old) }
+pub fn lay_trail(listing: &[u8], buffer: &mut [u16]) -> Result<u16, Refusal>
+    ensures result_value { answer_of result ≡ answer (trailing listing.now buffer.old) }
     ensures buffer_now { buffer.new ≡ laid_out listing.now buffer.old }
 {
-    let mut t = planning::blank();
-    let d = planning::plan(listing, &mut t);
-    let v = d.verdict;
-    match v {
-        Verdict::Accepted => put_trail(d.parts, &t, buffer),
-        Verdict::Refused(k) => Trailed::Refused(k),
-    }
-}
-
-// The round trails of a plan one after another into the front of the buffer, or refusal 10.
-fn put_round(x: Parts, buffer: &mut [u16]) -> Trailed
-    requires { Charted x }
-    ensures result_value { trail_answer result ≡ answer (laying (round_of x.plant) buffer.old) }
-    ensures buffer_now { buffer.new ≡ laid_with (round_of x.plant) buffer.old }
-{
-    let hops = 2 * arcs::links_in_service(x.plant);
-    let places = hops as usize;
-    if buffer.len() < places {
-        return Trailed::Refused(Refusal::TrailBufferShort);
-    }
-    planning::lay_round(x, buffer);
-    Trailed::Hops(hops)
+    let plan = planning::plan_of(listing)?;
+    judge_room(
+        usize::from(plan.hops),
+        buffer.len(),
+        Refusal::TrailBufferShort,
+    )?;
+    planning::lay(&plan, buffer);
+    Ok(plan.hops)
 }
 
 // The round trails of a listing's components one after another into the front of the lent buffer, and their hops: refusals 1 to 8, then 10.
-pub fn lay_round_trail(listing: &[u8], buffer: &mut [u16]) -> Trailed
-    ensures result_value { trail_answer result ≡ answer (round_trailing listing.now buffer.old) }
+// Its steps are those of `lay_trail`; what is laid and where the hops are known from differ, and a function over both would take a closure and be longer.
+pub fn lay_round_trail(listing: &[u8], buffer: &mut [u16]) -> Result<u16, Refusal>
+    ensures result_value { answer_of result ≡ answer (round_trailing listing.now buffer.old) }
     ensures buffer_now { buffer.new ≡ round_laid_out listing.now buffer.old }
 {
-    let mut t = planning::blank();
-    let d = planning::plan(listing, &mut t);
-    let v = d.verdict;
-    match v {
-        Verdict::Accepted => put_round(d.parts, buffer),
-        Verdict::Refused(k) => Trailed::Refused(k),
-    }
+    let plan = planning::plan_of(listing)?;
+    let hops = 2 * arcs::links_in_service(plan.network.ends.plant);
+    judge_room(usize::from(hops), buffer.len(), Refusal::TrailBufferShort)?;
+    planning::lay_round(&plan, buffer);
+    Ok(hops)
 }
 
 // The buying page of a listing with a spare in percent into the front of the lent buffer, and its length: refusals 1 to 8, then 17, then 18.
-pub fn write_buying_page(listing: &[u8], spare: u8, buffer: &mut [u8]) -> Written
-    ensures result_value { write_answer result ≡ answer (buying listing.now spare buffer.old) }
+pub fn write_buying_page(listing: &[u8], spare: u8, buffer: &mut [u8]) -> Result<usize, Refusal>
+    ensures result_value { answer_of result ≡ answer (buying listing.now spare buffer.old) }
     ensures buffer_now { buffer.new ≡ bought_out listing.now spare buffer.old }
 {
-    let mut t = planning::blank();
-    let d = planning::plan(listing, &mut t);
-    let v = d.verdict;
-    match v {
-        Verdict::Accepted => quoting::put_page(d.parts, spare, buffer),
-        Verdict::Refused(k) => Written::Refused(k),
-    }
+    let plan = planning::plan_of(listing)?;
+    quoting::put_page(&plan, spare, buffer)
 }
 
 // The counts of a buying page: refusal 18.
-pub fn read_buying_page(page: &[u8]) -> PageRead
-    ensures { ReadsPage (answer (reading_page page.now)) result }
+pub fn read_buying_page(page: &[u8]) -> Result<Sheet, Refusal>
+    ensures { answer_of result ≡ answer (reading_page page.now) }
 {
     readback::read(page)
 }
 
 // The order quantity for so many rules and a spare in percent: refusal 17.
-pub fn order_quantity(rules: u16, spare: u8) -> Quantity
-    ensures { quantity_of result ≡ answer (order_quantity rules spare) }
+pub fn order_quantity(rules: u16, spare: u8) -> Result<u32, Refusal>
+    ensures { answer_of result ≡ answer (order_quantity rules spare) }
 {
     quantity::order_quantity(rules, spare)
 }

@@ -1,5 +1,5 @@
--- The numbers of a plan: by the flags of its bridges and of its arcs in use, and the hops of its trails. Assumes charted parts, and of the numbers that they are measured.
-use mathlib.Core.Path.{◌≡◌, ◌∙◌}
+-- The numbers of a plan: by the flags of its bridges and of its arcs in use, and the hops of its trails. Assumes nothing.
+use mathlib.Core.Path.{◌≡◌, ap, ◌∙◌}
 use mathlib.Core.Bool.{Bool}
 use mathlib.Core.List.{List}
 use Prim.Native.Nat.{ℕ, ◌*◌, ◌≤◌}
@@ -19,13 +19,14 @@ use Rattle.walks.proofs.Live.{live_below}
 use Rattle.walks.proofs.Tests.{bridge-live}
 use Rattle.walks.proofs.Components.{used_arc}
 use Rattle.walks.proofs.Limits.{few-used}
+use Rattle.arcs.specs.declared.Net.{Net}
 use Rattle.arcs.specs.Flags.{Flags, count_set}
 use Rattle.uses.proofs.Uses.{flags_count}
 use Rattle.plan.specs.Plan.{table_of}
 use Rattle.plan.proofs.Plan as plant
 use Rattle.table.specs.Rules.{table_in}
-use Rattle.planning.specs.declared.Parts.{Parts}
-use Rattle.planning.specs.Plans.{Charted, OfPlant}
+use Rattle.planning.specs.declared.Numbers.{Numbers}
+use Rattle.planning.specs.declared.Plan.{Plan}
 use Rattle.planning.specs.Numbers.{numbers_of}
 
 pub links-few : (p : Plant) → Sound p → live_links p ≤ max_links
@@ -36,40 +37,49 @@ links-few p sound = omega (arith, count-all p.count (live p), sound.few_links)
 pub flags_same : {n : ℕ} {test : ℕ → Bool} {fs : List Bool} → Flags n test fs → flag fs ≡ test
 flags_same f = λ j a. f.tells a j
 
-module _ (x : Parts) (chart : Charted x) where
+module _ (x : Plan) where
   abbrev p : Plant
-  p = x.plant
+  p = x.network.ends.plant
 
   bridges_are : count_set x.bridges ≡ bridges p
   unfolding bridges
   bridges_are =
-      flags_count max_links (bridge p) p.count x.bridges chart.bridges_are chart.sound.few_links
+      flags_count max_links (bridge p) p.count x.bridges x.charted.bridges_are x.network.ends.sound.few_links
       (λ l h. not_true_false (bridge p l) (λ e. omega (arith, live_below p l (bridge-live p l (true_T (bridge p l) e)))))
 
   rules-are : count_set x.used ≡ arcs_used p
   unfolding arcs_used
   rules-are =
-      flags_count (2 * max_links) (used p) (2 * p.count) x.used chart.used_are (omega (arith, chart.sound.few_links))
+      flags_count (2 * max_links) (used p) (2 * p.count) x.used x.charted.used_are (omega (arith, x.network.ends.sound.few_links))
       (λ a h. not_true_false (used p a) (λ e. omega (arith, arc_below p a (used_arc p a (true_T (used p a) e)))))
 
   -- there is a place for each label and each rule
-  pub places-enough : (x.net.labels ≤ 2 * max_links) × (count x.net.labels (flag x.used) ≤ max_rules)
+  pub places-enough : (x.network.net.labels ≤ 2 * max_links) × (count x.network.net.labels (flag x.used) ≤ max_rules)
   unfolding arcs_used
-  places-enough = (rw chart.net_is (omega (arith, chart.sound.few_links)), rw (chart.net_is, flags_same chart.used_are) (few-used p chart.sound))
+  places-enough = (
+    omega (arith, ap (λ (n : Net). n.labels) x.network_is.net_is, x.network.ends.sound.few_links),
+    omega (arith, ap (λ (n : Net). count n.labels (flag x.used)) x.network_is.net_is, ap (count (2 * p.count)) (flags_same x.charted.used_are), few-used p x.network.ends.sound),
+  )
 
   -- its forwarding table is the plant's
-  pub table_is : table_in x.net.labels (at x.tails) (at x.heads) (flag x.used) ≡ table_of p
-  table_is = let net = chart.net_is in rw net (plant.table_is p chart.ends.tails_are chart.ends.heads_are (flags_same chart.used_are))
+  pub table_is : table_in x.network.net.labels (at x.network.ends.tails) (at x.network.ends.heads) (flag x.used) ≡ table_of p
+  table_is =
+      ap (λ (n : Net). table_in n.labels (at x.network.ends.tails) (at x.network.ends.heads) (flag x.used)) x.network_is.net_is
+      ∙ plant.table_is p x.network.ends.ends.tails_are x.network.ends.ends.heads_are (flags_same x.charted.used_are)
 
   pub bridges-few : count_set x.bridges ≤ max_links
   unfolding bridges
-  bridges-few = omega (arith, bridges_are, count-all p.count (bridge p), chart.sound.few_links)
+  bridges-few = omega (arith, bridges_are, count-all p.count (bridge p), x.network.ends.sound.few_links)
 
   pub rules-few : count_set x.used ≤ 2 * max_links
   unfolding arcs_used
-  rules-few = omega (arith, rules-are, count-all (2 * p.count) (used p), chart.sound.few_links)
+  rules-few = omega (arith, rules-are, count-all (2 * p.count) (used p), x.network.ends.sound.few_links)
 
-pub numbers-are : (x : Parts) (plan : OfPlant x) (n b u : ℕ) → n ≡ live_links x.plant → b ≡ count_set x.bridges → u ≡ count_set x.used
-    → record { switches = x.plant.switches; links = n; bridges = b; rules = u; hops = x.hops } ≡ numbers_of x.plant
+pub numbers-are : (x : Plan) (n b u : ℕ) → n ≡ live_links x.network.ends.plant → b ≡ count_set x.bridges → u ≡ count_set x.used
+    → record { switches = x.network.ends.plant.switches; links = n; bridges = b; rules = u; hops = x.hops } ≡ numbers_of x.network.ends.plant
 unfolding numbers_of
-numbers-are x plan n b u k e d = rw (k, e ∙ bridges_are x plan.charted, d ∙ rules-are x plan.charted, plan.measured.hops_are)
+numbers-are x n b u k e d =
+    rw (k, e ∙ bridges_are x, d ∙ rules-are x) (ap with x.measured.hops_are)
+  where
+    with : ℕ → Numbers
+    with h = record { switches = x.network.ends.plant.switches; links = live_links x.network.ends.plant; bridges = bridges x.network.ends.plant; rules = arcs_used x.network.ends.plant; hops = h }

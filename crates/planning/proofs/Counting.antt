@@ -1,56 +1,72 @@
--- The links of each component, counted one after another. Assumes charted parts.
+-- The links of each component, counted one after another. Assumes a sound plant, and the component of each switch.
 use mathlib.Core.Path.{◌≡◌, refl, sym, ap, ◌∙◌}
-use mathlib.Core.Bool.{true, false}
+use mathlib.Core.Bool.{Bool, true, false, not}
 use mathlib.Core.List.{List}
-use Prim.Native.Nat.{ℕ, ◌+◌, ◌*◌, ◌<◌}
+use Prim.Native.Nat.{ℕ, ◌+◌, ◌≤◌, ◌<◌}
 use native.Mathlib.Omega.{arith}
-use lib.ListN.{length, set}
+use lib.ListN.{length, get_or, set, take, length-take}
+use Rattle.std.proofs.Common.{get_or-take}
 use Rattle.lists.specs.Arrays.{at}
 use Rattle.lists.specs.Count.{count}
 use Rattle.lists.proofs.Arrays.{at_more}
+use Rattle.lists.proofs.Count.{count-all}
 use Rattle.lists.proofs.Stepwise.{count_next, count_no}
 use Rattle.lists.proofs.Tests.{true_T}
+use Rattle.plant.specs.declared.Link.{Link}
 use Rattle.plant.specs.declared.Plant.{Plant}
-use Rattle.plant.specs.Links.{first, live}
-use Rattle.limits.specs.Limits.{max_switches}
+use Rattle.plant.specs.Links.{zero_link, link_at, first, live}
+use Rattle.limits.specs.Limits.{max_switches, max_links}
+use Rattle.limits.specs.Sound.{Sound}
 use Rattle.walks.specs.Components.{component_of}
+use Rattle.walks.proofs.Live.{live-listed}
 use Rattle.walks.proofs.Valid.{sound_valid}
-use Rattle.arcs.proofs.Ends.{first_end}
-use Rattle.planning.specs.declared.Parts.{Parts}
-use Rattle.planning.specs.Plans.{Charted}
+use Rattle.planning.specs.Plans.{HomesAre}
 use Rattle.planning.proofs.Charts.{of_component, home-place}
 
-module _ (x : Parts) (chart : Charted x) (l : ℕ) where
-  abbrev p : Plant
-  p = x.plant
+-- of each component the links below l in service are counted
+pub record Counted (p : Plant) (l : ℕ) (links : List ℕ) : Type 0 where
+  pub long : length links ≡ max_switches
+  pub counts : (i : ℕ) → at links i ≡ count l (of_component p i)
 
-  -- the switch that the first label of link l leaves
-  abbrev pub end : ℕ
-  end = at x.tails (2 * l)
+module _ (p : Plant) (sound : Sound p) (n : ℕ) (all : n ≡ p.count) where
+  pub links_all : length (take n p.links) ≡ p.count
+  links_all = omega (arith, length-take n p.links, sound.places, sound.few_links)
 
-  end_is : end ≡ first p l
-  end_is = first_end p x.tails chart.ends.tails_are l
+  -- link l among those of the plant
+  module _ (l : ℕ) (l_in : l < length (take n p.links)) where
+    abbrev link : Link
+    link = get_or (take n p.links) l zero_link
 
-  module _ (alive : live p l ≡ true) where
-    end_in : end < p.switches
-    end_in = omega (arith, end_is, (sound_valid p chart.sound).first_in_is l (true_T (live p l) alive))
+    link_is : link ≡ link_at p l
+    link_is = get_or-take n p.links l zero_link (omega (arith, links_all))
 
-    pub end_place : end < max_switches
-    end_place = omega (arith, end_in, chart.sound.few_switches)
+    -- by its mark
+    pub told : (b : Bool) → b ≡ not link.out_of_service → live p l ≡ b
+    told b e = live-listed p l (omega (arith, links_all)) ∙ sym (e ∙ ap (λ (k : Link). not k.out_of_service) link_is)
 
-    pub component-place : at x.home end < max_switches
-    component-place = home-place x chart end end_in
+    -- one link more, of component i
+    module _ (home : List ℕ) (homes : HomesAre p home) (alive : live p l ≡ true) (y i : ℕ) (y_is : y ≡ link.first) (i_is : i ≡ at home y) where
+      first_is : y ≡ first p l
+      first_is = y_is ∙ ap (λ (k : Link). k.first) link_is
 
-    home-is : at x.home end ≡ component_of p (first p l)
-    home-is = chart.homes end end_in ∙ ap (component_of p) end_is
+      y_in : y < p.switches
+      y_in = omega (arith, first_is, (sound_valid p sound).first_in_is l (true_T (live p l) alive))
 
-    -- one link more
-    pub counted_yes : (links : List ℕ) → length links ≡ max_switches → ((i : ℕ) → at links i ≡ count l (of_component x chart i))
-        → (i : ℕ) → at (set links (at x.home end) (at links (at x.home end) + 1)) i ≡ count (l + 1) (of_component x chart i)
-    counted_yes links e f i =
-        at_more links (at x.home end) i (omega (arith, component-place, e))
-        ∙ rw (f i, home-is) (sym (count_next (of_component x chart i) l ∙ rw alive (omega arith)))
+      home-is : i ≡ component_of p (first p l)
+      home-is = i_is ∙ homes y y_in ∙ ap (component_of p) first_is
+
+      pub component-place : i < max_switches
+      component-place = omega (arith, i_is, home-place p sound home homes y y_in)
+
+      module _ (links : List ℕ) (so_far : Counted p l links) where
+        pub few : at links i + 1 ≤ max_links
+        few = omega (arith, so_far.counts i, count-all l (of_component p i), links_all, sound.few_links)
+
+        pub counted_yes : (j : ℕ) → at (set links i (at links i + 1)) j ≡ count (l + 1) (of_component p j)
+        counted_yes j =
+            at_more links i j (omega (arith, component-place, so_far.long))
+            ∙ rw (so_far.counts j, home-is) (sym (count_next (of_component p j) l ∙ rw alive (omega arith)))
 
   -- or none
-  pub counted_no : live p l ≡ false → (links : List ℕ) → ((i : ℕ) → at links i ≡ count l (of_component x chart i)) → (i : ℕ) → at links i ≡ count (l + 1) (of_component x chart i)
-  counted_no dead links f i = f i ∙ sym (count_no (of_component x chart i) l (rw dead refl))
+  pub counted_no : (l : ℕ) → live p l ≡ false → (links : List ℕ) → Counted p l links → (i : ℕ) → at links i ≡ count (l + 1) (of_component p i)
+  counted_no l dead links so_far i = so_far.counts i ∙ sym (count_no (of_component p i) l (rw dead refl))

@@ -1,10 +1,12 @@
--- The parts that trails are laid by, from the components that were found: what each step asks, and the parts as a whole. Assumes a sound plant.
-use mathlib.Core.Path.{◌≡◌, refl, sym, ap, subst}
+-- The plan of a plant, from the components that were found: what each step asks, and what the plan says of its fields. Assumes nothing.
+use mathlib.Core.Path.{◌≡◌, refl, sym, ap, ◌∙◌, subst}
 use mathlib.Core.Bool.{Bool}
 use mathlib.Core.List.{List}
-use Prim.Native.Nat.{ℕ, ◌*◌, ◌≤◌, ◌<◌}
+use Prim.Native.Nat.{ℕ, ◌*◌, ◌≤◌}
 use native.Mathlib.Omega.{arith}
-use lib.ListN.{length, get_or}
+use Rattle.std.proofs.Common.{get_or-take}
+use Rattle.std.proofs.lemmas.Grind.{same_number_lists}
+use lib.ListN.{length, get_or, take, length-take}
 use Rattle.lists.specs.Arrays.{flag, at}
 use Rattle.lists.specs.Members.{In}
 use Rattle.lists.specs.Sum.{sum}
@@ -12,16 +14,19 @@ use Rattle.lists.proofs.Members.{get_d_in}
 use Rattle.lists.proofs.Sum.{sum_same}
 use Rattle.lists.proofs.SumOf.{sum_list}
 use Rattle.plant.specs.declared.Plant.{Plant}
-use Rattle.limits.specs.Limits.{max_links, max_rules}
+use Rattle.limits.specs.Limits.{max_switches, max_links, max_rules}
 use Rattle.limits.specs.Sound.{Sound}
-use Rattle.walks.specs.Components.{roots}
+use Rattle.walks.specs.Components.{roots, used}
 use Rattle.walks.specs.Graph.{arcs_used_from}
 use Rattle.walks.proofs.Components.{roots_few, arcs-sum}
 use Rattle.walks.proofs.Limits.{few-used}
 use Rattle.walks.proofs.Valid.{sound_valid}
 use Rattle.arcs.specs.declared.Net.{Net}
+use Rattle.arcs.specs.declared.ArcEnds.{ArcEnds}
 use Rattle.arcs.specs.declared.AllLegs.{AllLegs}
-use Rattle.arcs.specs.Net.{rooted, Ends, Within}
+use Rattle.arcs.specs.declared.Network.{Network}
+use Rattle.arcs.specs.Flags.{Flags}
+use Rattle.arcs.specs.Net.{rooted, Within}
 use Rattle.arcs.specs.Chains.{TailsIn, Chained}
 use Rattle.arcs.specs.Table.{distances_in}
 use Rattle.arcs.specs.Parts as network
@@ -29,88 +34,81 @@ use Rattle.arcs.specs.Legs.{no_legs, LegsIn}
 use Rattle.legs.specs.Several.{in_use, Several, LegsOfAll}
 use Rattle.components.specs.declared.Found.{Found}
 use Rattle.components.specs.Found.{Finds}
-use Rattle.planning.specs.declared.Components.{Components}
-use Rattle.planning.specs.Plans.{net_of, used_flags, Laying}
-use Rattle.planning.proofs.Networks.{flags_from, all-within, all-tails, net_parts}
+use Rattle.planning.specs.Plans.{net_of, used_flags, NetworkOf, HopsBy, LegsBy, Charted}
+use Rattle.planning.proofs.Networks.{flags_from, all-within, all-tails, net_parts, net_trail}
 
-module _ (p : Plant) (sound : Sound p) (tails heads : List ℕ) (ends : Ends p tails heads) (f : Found) (finds : Finds p f) (net : Net) (net_is : net ≡ net_of p p.start) where
-  pub chains_asked : (net.labels ≤ 2 * max_links) × TailsIn net.labels tails f.used
-  chains_asked = rw net_is (all-tails p sound tails heads ends f.used finds.used_are p.start sound.start_in)
+-- ---- the network, by the ends of the arcs and the arcs in use
 
-  pub distances-asked : Within net tails heads f.used
-  distances-asked = rw net_is (all-within p sound tails heads ends f.used finds.used_are p.start sound.start_in)
+module _ (e : ArcEnds) (flags : List Bool) (flags_are : Flags (2 * max_links) (used e.plant) flags) (net : Net) (net_is : net ≡ net_of e.plant e.plant.start) where
+  pub chains_asked : (net.labels ≤ 2 * max_links) × TailsIn net.labels e.tails flags
+  chains_asked = rw net_is (all-tails e.plant e.sound e.tails e.heads e.ends flags flags_are e.plant.start e.sound.start_in)
 
-  module _ (first after : List ℕ) (chained : Chained net.labels (at tails) (flag f.used) first after) (t : List (List ℕ)) (table : t ≡ distances_in net tails heads f.used) where
-    tables : (r : ℕ) → In r (roots p) → network.Parts (net_of p r) tails heads (used_flags p r) first after t
+  pub distances-asked : Within net e.tails e.heads flags
+  distances-asked = rw net_is (all-within e.plant e.sound e.tails e.heads e.ends flags flags_are e.plant.start e.sound.start_in)
+
+module _ (n : Network) where
+  abbrev p : Plant
+  p = n.ends.plant
+
+  sound : Sound p
+  sound = n.ends.sound
+
+  -- what the trail of each component is laid by
+  module _ (flags : List Bool) (flags_are : Flags (2 * max_links) (used p) flags) (of : NetworkOf flags n) where
+    pub tables : (r : ℕ) → In r (roots p) → network.Parts (net_of p r) n.ends.tails n.ends.heads (used_flags p r) n.chains.first n.chains.after n.hops
     tables =
-        net_parts p sound tails heads ends f.used finds.used_are first after
-        (subst (λ (n : Net). Chained n.labels (at tails) (flag f.used) first after) net_is chained) t (subst (λ (n : Net). t ≡ distances_in n tails heads f.used) net_is table)
+        net_parts p sound n.ends.tails n.ends.heads n.ends.ends flags flags_are n.chains.first n.chains.after
+        (subst (λ (k : Net). Chained k.labels (at n.ends.tails) (flag flags) n.chains.first n.chains.after) of.net_is of.chained) n.hops
+        (subst (λ (k : Net). n.hops ≡ distances_in k n.ends.tails n.ends.heads flags) of.net_is of.hops_are)
+
+  module _ (f : Found) (finds : Finds p f) (of : NetworkOf f.used n) where
+    pub charted : Charted p f.count f.roots f.home f.bridges f.used
+    charted = record { count_is = finds.count_is; roots_are = finds.roots_are; homes = finds.homes; bridges_are = finds.bridges_are; used_are = finds.used_are }
 
     -- ---- the legs
 
     abbrev flags_of : ℕ → List Bool
     flags_of i = used_flags p (get_or (roots p) i 0)
 
-    -- the network of component i
-    rooted-is : (i : ℕ) → i < length (roots p) → rooted net (at f.roots i) ≡ net_of p (get_or (roots p) i 0)
-    rooted-is i h = rw (net_is, finds.roots_are i h) refl
-
     -- the arcs in use of all components together
-    room : sum f.count (λ i. in_use net (flags_of i)) ≤ max_rules
+    room : sum (length (roots p)) (λ i. in_use n.net (flags_of i)) ≤ max_rules
     unfolding arcs_used_from
     room =
         omega (
           arith,
-          ap (λ (n : ℕ). sum n (λ i. in_use net (flags_of i))) finds.count_is,
-          sum_same (length (roots p)) (λ i. in_use net (flags_of i)) (λ i. arcs_used_from p (get_or (roots p) i 0)) (λ i h. rw (net_is, flags_from p sound (get_or (roots p) i 0)) refl),
+          sum_same (length (roots p)) (λ i. in_use n.net (flags_of i)) (λ i. arcs_used_from p (get_or (roots p) i 0)) (λ i h. rw (of.net_is, flags_from p sound (get_or (roots p) i 0)) refl),
           sum_list (arcs_used_from p) (roots p),
           arcs-sum p (sound_valid p sound) sound.start_in,
           few-used p sound,
         )
 
-    pub legs-asked : Several net tails heads first after t f.roots f.count
-    legs-asked = record {
-      used = flags_of;
-      few = omega (arith, finds.count_is, roots_few p (sound_valid p sound) sound.start_in, sound.few_switches);
-      parts = λ i h.
-          let k : i < length (roots p) = omega (arith, finds.count_is) in
-          subst (λ (n : Net). network.Parts n tails heads (flags_of i) first after t) (sym (rooted-is i k)) (tables (get_or (roots p) i 0) (get_d_in (roots p) i k));
-      room = room;
-    }
+    -- the roots that were found
+    pub roots-are : (m : ℕ) → m ≡ f.count → length f.roots ≡ max_switches → take m f.roots ≡ roots p
+    roots-are m all places =
+        let number : length (take m f.roots) ≡ length (roots p) =
+        omega (arith, length-take m f.roots, finds.count_is, roots_few p (sound_valid p sound) sound.start_in, sound.few_switches) in
+        same_number_lists (take m f.roots) (roots p) number (λ i h. get_or-take m f.roots i 0 (omega (arith, number, finds.count_is)) ∙ finds.roots_are i (omega (arith, number)))
 
-    -- ---- the parts as a whole
+    module _ (rs : List ℕ) (rs_are : rs ≡ roots p) where
+      -- the network of component i
+      rooted-is : (i : ℕ) → rooted n.net (at rs i) ≡ net_of p (get_or (roots p) i 0)
+      rooted-is i = rw (of.net_is, rs_are) refl
 
-    pub laying : (legs : AllLegs)
-        → ((w : Several net tails heads first after t f.roots f.count) → LegsOfAll net tails heads f.roots w.used f.count legs.aims legs.list)
-        → (components : Components) (hops : ℕ)
-        → Laying (record {
-          plant = p;
-          net = net;
-          tails = tails;
-          heads = heads;
-          count = f.count;
-          roots = f.roots;
-          home = f.home;
-          bridges = f.bridges;
-          used = f.used;
-          first = first;
-          after = after;
-          legs = legs;
-          components = components;
-          hops = hops;
-        }) t
-    unfolding legs-asked
-    laying legs own components hops = record {
-      charted = record {
-        sound = sound;
-        net_is = net_is;
-        ends = ends;
-        count_is = finds.count_is;
-        roots_are = finds.roots_are;
-        homes = finds.homes;
-        bridges_are = finds.bridges_are;
-        used_are = finds.used_are;
-      };
-      tables = tables;
-      legs_are = λ i h. subst (λ (n : Net). LegsIn n tails heads (flags_of i) legs.aims (get_or legs.list i no_legs)) (rooted-is i h) (own legs-asked i (omega (arith, finds.count_is)));
-    }
+      pub legs-asked : Several n rs
+      legs-asked = record {
+        used = flags_of;
+        few = omega (arith, ap length rs_are, roots_few p (sound_valid p sound) sound.start_in, sound.few_switches);
+        parts = λ i h.
+            subst (λ (o : Net). network.Parts o n.ends.tails n.ends.heads (flags_of i) n.chains.first n.chains.after n.hops) (sym (rooted-is i))
+            (tables f.used finds.used_are of (get_or (roots p) i 0) (get_d_in (roots p) i (omega (arith, ap length rs_are))));
+        room = subst (λ (k : List ℕ). sum (length k) (λ i. in_use n.net (flags_of i)) ≤ max_rules) (sym rs_are) room;
+      }
+
+      module _ (legs : AllLegs) (own : (w : Several n rs) → LegsOfAll n rs w.used legs.aims legs.list) where
+        pub legs_by : LegsBy n.ends legs
+        unfolding legs-asked
+        legs_by i h =
+            subst (λ (o : Net). LegsIn o n.ends.tails n.ends.heads (flags_of i) legs.aims (get_or legs.list i no_legs)) (rooted-is i) (own legs-asked i (omega (arith, ap length rs_are)))
+
+        pub hops_by : HopsBy p legs.list
+        hops_by i h = (legs_by i h).hops_are ∙ ap length (net_trail p sound n.ends.tails n.ends.heads n.ends.ends (get_or (roots p) i 0))

@@ -1,6 +1,5 @@
--- The network of each component and the legs of its trail, by the shared arrays. Assumes parts that trails are laid by.
-use mathlib.Core.Path.{◌≡◌}
-use mathlib.Core.List.{List}
+-- The network of each component and the legs of its trail, by the shared arrays. Assumes nothing.
+use mathlib.Core.Path.{◌≡◌, sym, subst}
 use Prim.Native.Nat.{ℕ, ◌<◌}
 use lib.ListN.{length, get_or}
 use Rattle.lists.specs.Arrays.{at}
@@ -9,20 +8,27 @@ use Rattle.arcs.specs.declared.Net.{Net}
 use Rattle.arcs.specs.Net.{rooted}
 use Rattle.arcs.specs.Parts as network
 use Rattle.arcs.specs.Legs.{no_legs, LegsIn}
-use Rattle.planning.specs.declared.Parts.{Parts}
-use Rattle.planning.specs.Plans.{net_of, used_flags, Laying}
+use Rattle.planning.specs.declared.Plan.{Plan}
+use Rattle.planning.specs.Plans.{net_of, used_flags}
 use Rattle.planning.proofs.Charts.{listed, net_is}
+use Rattle.planning.proofs.Drawing.{tables}
 
 -- the network of component i, which is that of the plant from its root
-module _ (x : Parts) (t : List (List ℕ)) (laying : Laying x t) (i : ℕ) (i_in : i < length (roots x.plant)) (net : Net) (from : net ≡ rooted x.net (at x.roots i)) where
+module _ (x : Plan) (i : ℕ) (i_in : i < length (roots x.network.ends.plant)) where
   abbrev r : ℕ
-  r = get_or (roots x.plant) i 0
+  r = get_or (roots x.network.ends.plant) i 0
 
-  pub own_net : net ≡ net_of x.plant r
-  own_net = net_is x laying.charted i i_in net from
+  abbrev pub own : Net
+  own = rooted x.network.net (at x.roots i)
 
-  pub net_parts : network.Parts net x.tails x.heads (used_flags x.plant r) x.first x.after t
-  net_parts = rw own_net (laying.tables r (listed x laying.charted i i_in))
+  pub own_net : own ≡ net_of x.network.ends.plant r
+  own_net = net_is x i i_in
 
-  pub net_legs : LegsIn net x.tails x.heads (used_flags x.plant r) x.legs.aims (get_or x.legs.list i no_legs)
-  net_legs = rw own_net (laying.legs_are i i_in)
+  pub net_parts : network.Parts own x.network.ends.tails x.network.ends.heads (used_flags x.network.ends.plant r) x.network.chains.first x.network.chains.after x.network.hops
+  net_parts =
+      subst (λ (o : Net). network.Parts o x.network.ends.tails x.network.ends.heads (used_flags x.network.ends.plant r) x.network.chains.first x.network.chains.after x.network.hops) (sym own_net)
+      (tables x.network x.used x.charted.used_are x.network_is r (listed x.network.ends.plant x.network.ends.sound i i_in))
+
+  pub net_legs : LegsIn own x.network.ends.tails x.network.ends.heads (used_flags x.network.ends.plant r) x.legs.aims (get_or x.legs.list i no_legs)
+  net_legs =
+      subst (λ (o : Net). LegsIn o x.network.ends.tails x.network.ends.heads (used_flags x.network.ends.plant r) x.legs.aims (get_or x.legs.list i no_legs)) (sym own_net) (x.legs_are i i_in)

@@ -12,33 +12,27 @@ use Rattle.lists.specs.Members.{In}
 use Rattle.lists.proofs.Members.{get_d_in}
 use Rattle.lists.proofs.Chained.{chained, chained-within}
 use Rattle.plant.specs.declared.Plant.{Plant}
-use Rattle.limits.specs.Limits.{max_switches}
 use Rattle.limits.specs.Sound.{Sound}
 use Rattle.walks.specs.Components.{roots}
 use Rattle.walks.specs.Round.{round_from}
-use Rattle.walks.proofs.Components.{listed_in, roots_few}
+use Rattle.walks.proofs.Components.{listed_in}
 use Rattle.walks.proofs.Labels.{arc_below}
 use Rattle.walks.proofs.Valid.{sound_valid}
 use Rattle.routes.specs.Plants.{trail_from}
-use Rattle.plan.specs.Plan.{trails_of, trail_of, rounds_of, round_of}
 use Rattle.plan.proofs.Rounds.{round-from}
 use Rattle.arcs.specs.declared.Net.{Net}
-use Rattle.arcs.specs.declared.Legs.{Legs}
-use Rattle.arcs.specs.declared.Visited.{Visited}
 use Rattle.arcs.specs.Net.{rooted}
 use Rattle.arcs.specs.Legs.{no_legs, LegsOf}
-use Rattle.arcs.specs.Shows.{Visits}
 use Rattle.arcs.specs.Table.{trail_in}
-use Rattle.trail.specs.declared.Compared.{Compared}
-use Rattle.trail.specs.declared.Compared.TheVariants.{Same, Other}
+use Rattle.std.specs.Prelude.{Option, Some, None}
 use Rattle.trail.specs.Filled.{filled_with, Tells}
 use Rattle.trail.specs.Ways.{Trailing, trail_by, Laid, TellsFrom}
 use Rattle.trail.proofs.Filled.{laid_none, laid_then, laid-long, laid-front, tells_none, tells_other, tells_then, tells-front}
 use Rattle.round.specs.declared.Round.{Round}
 use Rattle.round.specs.Round.{labels_of, Labels}
 use Rattle.round.proofs.Follow.{left-length}
-use Rattle.planning.specs.declared.Parts.{Parts}
-use Rattle.planning.specs.Plans.{used_flags, Placed, Charted, Laying}
+use Rattle.planning.specs.declared.Plan.{Plan}
+use Rattle.planning.specs.Plans.{used_flags, LegsAt}
 use Rattle.planning.proofs.Networks.{net_trail}
 use Rattle.planning.proofs.Laid.{own_net, net_parts, net_legs}
 
@@ -94,88 +88,59 @@ module _ (f : ℕ → List ℕ) (rs : List ℕ) where
   -- ---- compared with the list l, where v is the next list
 
   module _ (l : List ℕ) where
-    pub tells-begin : TellsFrom 0 l (first_of 0) (Same 0)
-    tells-begin = subst (λ (w : List ℕ). TellsFrom 0 l w (Same 0)) first-none (tells_none l 0)
+    pub tells-begin : TellsFrom 0 l (first_of 0) (Some 0)
+    tells-begin = subst (λ (w : List ℕ). TellsFrom 0 l w (Some 0)) first-none (tells_none l 0)
 
-    module _ (i j : ℕ) (t : TellsFrom 0 l (first_of i) (Same j)) where
-      module _ (h : i < length rs) (v : List ℕ) (e : v ≡ f (get_or rs i 0)) (r : Compared) (q : TellsFrom j l v r) where
+    module _ (i j : ℕ) (t : TellsFrom 0 l (first_of i) (Some j)) where
+      module _ (h : i < length rs) (v : List ℕ) (e : v ≡ f (get_or rs i 0)) (r : Option ℕ) (q : TellsFrom j l v r) where
         next : TellsFrom 0 l (first_of (i + 1)) r
         next = subst (λ (w : List ℕ). TellsFrom 0 l w r) (ap (λ (w : List ℕ). first_of i ++ w) e ∙ first_next i h) (tells_then l 0 (first_of i) v j t r q)
 
-        pub tells-next : (k : ℕ) → r ≡ Same k → TellsFrom 0 l (first_of (i + 1)) (Same k)
+        pub tells-next : (k : ℕ) → r ≡ Some k → TellsFrom 0 l (first_of (i + 1)) (Some k)
         tells-next k s = subst (TellsFrom 0 l (first_of (i + 1))) s next
 
-        pub tells_away : (all : List ℕ) → all ≡ chained f rs → r ≡ Other → Tells l all Other
+        pub tells_away : (all : List ℕ) → all ≡ chained f rs → r ≡ None → Tells l all None
         tells_away all is s =
-            subst (λ (w : List ℕ). TellsFrom 0 l w Other) (first_rest all is (i + 1))
+            subst (λ (w : List ℕ). TellsFrom 0 l w None) (first_rest all is (i + 1))
             (tells_other l 0 (first_of (i + 1)) (chained f (drop (i + 1) rs)) (subst (TellsFrom 0 l (first_of (i + 1))) s next))
 
-      pub tells_end : (all : List ℕ) → all ≡ chained f rs → length rs ≤ i → Tells l all (Same j)
-      tells_end all is h = tells-front l all (Same j) (subst (λ (w : List ℕ). TellsFrom 0 l w (Same j)) (first_all all is i h) t)
+      pub tells_end : (all : List ℕ) → all ≡ chained f rs → length rs ≤ i → Tells l all (Some j)
+      tells_end all is h = tells-front l all (Some j) (subst (λ (w : List ℕ). TellsFrom 0 l w (Some j)) (first_all all is i h) t)
 
 -- ---- components by number
 
-module _ {x : Parts} (c : Charted x) where
-  pub numbered : {i : ℕ} → i < x.count → i < length (roots x.plant)
-  numbered h = omega (arith, c.count_is)
+module _ (x : Plan) where
+  pub numbered : {i : ℕ} → i < x.count → i < length (roots x.network.ends.plant)
+  numbered h = omega (arith, x.charted.count_is)
 
-  pub every_one : {i : ℕ} → x.count ≤ i → length (roots x.plant) ≤ i
-  every_one h = omega (arith, c.count_is)
-
-  module _ {i : ℕ} (h : i < length (roots x.plant)) where
-    pub root-place : i < max_switches
-    root-place = omega (arith, roots_few x.plant (sound_valid x.plant c.sound) c.sound.start_in, c.sound.few_switches)
-
-    pub root_in : at x.roots i < x.plant.switches
+  module _ {i : ℕ} (h : i < length (roots x.network.ends.plant)) where
+    pub root_in : at x.roots i < x.network.ends.plant.switches
     root_in =
-        let r = get_or (roots x.plant) i 0 in
-        omega (arith, c.roots_are i h, listed_in x.plant (sound_valid x.plant c.sound) c.sound.start_in r (get_d_in (roots x.plant) i h))
+        let r = get_or (roots x.network.ends.plant) i 0 in
+        omega (arith, x.charted.roots_are i h, listed_in x.network.ends.plant (sound_valid x.network.ends.plant x.network.ends.sound) x.network.ends.sound.start_in r (get_d_in (roots x.network.ends.plant) i h))
 
 -- ---- trails
 
-pub trails-chained : (p : Plant) → trail_of p ≡ chained (trail_from p) (roots p)
-unfolding trails_of
-trails-chained p = refl
-
--- by the sizes of the network of component i
-module _ {x : Parts} {t : List (List ℕ)} (laying : Laying x t) {i : ℕ} (h : i < length (roots x.plant)) {net : Net} (e : net ≡ rooted x.net (at x.roots i)) where
+-- that of component i, by its network
+module _ (x : Plan) {i : ℕ} (h : i < length (roots x.network.ends.plant)) where
   abbrev r : ℕ
-  r = get_or (roots x.plant) i 0
+  r = get_or (roots x.network.ends.plant) i 0
 
-  abbrev own : Legs
-  own = get_or x.legs.list i no_legs
-
-  pub placed : Placed own
-  placed = let l = net_legs x t laying i h net e in (l.order, l.within)
+  pub legs_at : {legs : List ℕ} → let own = get_or x.legs.list i no_legs in legs ≡ slice own.from own.to x.legs.aims → LegsAt x.network x.roots i legs
+  legs_at is = record { are = subst (LegsOf (rooted x.network.net (at x.roots i)) x.network.ends.tails x.network.ends.heads (used_flags x.network.ends.plant r)) (sym is) (net_legs x i h).are }
 
   -- and its legs
-  module _ {legs : List ℕ} (is : legs ≡ slice own.from own.to x.legs.aims) where
-    pub trailing : Trailing net x.tails x.heads x.first x.after t legs
-    trailing = record {
-      used = used_flags x.plant r;
-      parts = net_parts x t laying i h net e;
-      legs_are = subst (LegsOf net x.tails x.heads (used_flags x.plant r)) (sym is) (net_legs x t laying i h net e).are;
-    }
+  module _ {legs : List ℕ} (own : LegsAt x.network x.roots i legs) where
+    pub trailing : Trailing x.network (at x.roots i) legs
+    trailing = record { used = used_flags x.network.ends.plant r; parts = net_parts x i h; legs_are = own.are }
 
-    pub trail_is : trail_by trailing ≡ trail_from x.plant r
+    pub trail_is : trail_by trailing ≡ trail_from x.network.ends.plant r
     unfolding trailing
     trail_is =
-        ap (λ (n : Net). trail_in n x.tails x.heads (used_flags x.plant r)) (own_net x t laying i h net e)
-        ∙ net_trail x.plant laying.charted.sound x.tails x.heads laying.charted.ends r
+        ap (λ (n : Net). trail_in n x.network.ends.tails x.network.ends.heads (used_flags x.network.ends.plant r)) (own_net x i h)
+        ∙ net_trail x.network.ends.plant x.network.ends.sound x.network.ends.tails x.network.ends.heads x.network.ends.ends r
 
 -- ---- round trails
-
-pub rounds-chained : (p : Plant) → round_of p ≡ chained (round_from p) (roots p)
-unfolding rounds_of
-rounds-chained p = refl
-
--- from where a visit was made
-module _ {p : Plant} {r : ℕ} {v : Visited} (visits : Visits p r v) where
-  pub own_root : Visits p v.root v
-  own_root = subst (λ (k : ℕ). Visits p k v) (sym visits.root_is) visits
-
-  pub round-root : (x : Round) → labels_of x ≡ round_from p v.root → {k : ℕ} → r ≡ k → labels_of x ≡ round_from p k
-  round-root x e q = e ∙ ap (round_from p) (visits.root_is ∙ q)
 
 -- that of component i
 module _ {p : Plant} (sound : Sound p) {i : ℕ} (h : i < length (roots p)) (x : Round) (e : labels_of x ≡ round_from p (get_or (roots p) i 0)) where

@@ -2,3 +2,4 @@ pub mod Components
 pub mod Plans
 pub mod Planning
 pub mod Numbers
+pub mod OneAfterAnother

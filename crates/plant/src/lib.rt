@@ -7,7 +7,7 @@ ghost use Rattle.plant.specs.Links.{zero_link, plant_with, side};
 
 // A two-way link between two switches, with its cable tag. Label 2 * l crosses link l from its first end to its second, and 2 * l + 1 crosses it back. A link can be
 // out of service (document 02, order 7: laid up): it keeps its number and its labels, and joins nothing.
-#[derive(Clone, Copy)]
+#[derive(Clone, Copy, Debug, PartialEq, Eq)]
 pub struct Link {
     pub first: u8,
     pub second: u8,
@@ -16,7 +16,7 @@ pub struct Link {
 }
 
 // Switches are numbered from 0, and so are links. `count` places of `links` are in use; the others are zero.
-#[derive(Clone, Copy)]
+#[derive(Clone, Copy, Debug, PartialEq, Eq)]
 pub struct Plant {
     pub switches: u8,
     pub count: u16,
@@ -69,7 +69,7 @@ impl Plant {
         }
     }
 
-    // One switch and no link: the plant of the listing `00`, and the plant part of a refused reading.
+    // One switch and no link: the plant of the listing `00`.
     pub fn empty() -> Plant
         ensures { result ≡ plant_with Plant.MAX_LINKS 1 0 0 }
     {
@@ -81,20 +81,14 @@ impl Plant {
 pub fn tail_of(l: Link, a: usize) -> u8
     ensures { result ≡ side (a % 2) l.first l.second }
 {
-    if a % 2 == 0 {
-        return l.first;
-    }
-    l.second
+    if a % 2 == 0 { l.first } else { l.second }
 }
 
 // The switch that it reaches.
 pub fn head_of(l: Link, a: usize) -> u8
     ensures { result ≡ side (a % 2) l.second l.first }
 {
-    if a % 2 == 0 {
-        return l.second;
-    }
-    l.first
+    if a % 2 == 0 { l.second } else { l.first }
 }
 
 // Is the link in service?
@@ -104,7 +98,7 @@ pub fn in_service(l: Link) -> bool
     !l.out_of_service
 }
 
-// The limits as numbers, for definitions of the crates above: their contracts ask each constant its value.
+// The limits as numbers, for definitions of the crates above. Each is a function of its own, since its contract asks the constant its value.
 pub fn most_switches() -> u8
     ensures { result ≡ Plant.MAX_SWITCHES }
 {

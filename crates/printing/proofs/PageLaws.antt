@@ -2,7 +2,7 @@
 -- take. Assumes nothing.
 use mathlib.Core.Path.{◌≡◌, refl, sym, ap, ◌∙◌}
 use mathlib.Core.List.{List, [], ◌∷◌, ◌++◌, map, map-map}
-use Prim.Native.Nat.{ℕ, ◌+◌, ◌*◌, ◌^◌, ◌≤◌, ◌<◌}
+use Prim.Native.Nat.{ℕ, ◌+◌, ◌-◌, ◌*◌, ◌^◌, ◌≤◌, ◌<◌}
 use native.Mathlib.Omega.{arith}
 use lib.Dec.{T}
 use lib.ListN.{length, get_or, take, drop, length-append, length-map, length-drop, get_or-map}
@@ -12,7 +12,6 @@ use Rattle.lists.proofs.Members.{in_each, each_map}
 use Rattle.lists.proofs.Chained.{chained-part}
 use Rattle.lists.specs.Numbers.{range, keep}
 use Rattle.lists.proofs.Numbers.{keep_in, values-are, values-at, values_length}
-use Rattle.lists.proofs.Padded.{padded-at}
 use Rattle.plant.specs.declared.Plant.{Plant}
 use Rattle.limits.specs.Sound.{Sound}
 use Rattle.limits.specs.Limits.{max_switches, max_rules}
@@ -111,6 +110,10 @@ trails-each ls (c ∷ cs) = ap (λ (l : List ℕ). trail_line (stretch_of ls c) 
 stretch_on : (w r : List ℕ) (b n : ℕ) → b + n ≤ length w → take n (drop b (w ++ r)) ≡ take n (drop b w)
 stretch_on w r b n h = ap (take n) (drop-append-le b w r (omega arith)) ∙ take-append-le n (drop b w) r (omega (arith, length-drop b w))
 
+-- the part of the labels from b to b + h
+pub stretch_cut : (ls : List ℕ) (c : Component) (b h : ℕ) → b ≡ c.begin → h ≡ c.hops → take (b + h - b) (drop b ls) ≡ stretch_of ls c
+stretch_cut ls c b h e f = let k : b + h - b ≡ h = omega arith in rw (k, e, f) refl
+
 module _ (p : Plant) (sound : Sound p) (ms : List ℕ) {ls : List ℕ} (e : ls ≡ filled_with (trail_of p) ms) {cs : Components} (f : cs ≡ components_of p) where
   listed : take cs.count cs.list ≡ map (component_at p) (range 0 (length (roots p)))
   unfolding components_of components_with
@@ -120,16 +123,17 @@ module _ (p : Plant) (sound : Sound p) (ms : List ℕ) {ls : List ℕ} (e : ls �
   unfolding components_of components_with
   count_is = rw f (values_length (component_at p) 0 (length (roots p)))
 
-  one : (i : ℕ) → i < length (roots p) → get_or cs.list i zero_component ≡ component_at p i
-  unfolding components_of components_with
-  one i h = rw f (padded-at max_switches zero_component (map (component_at p) (range 0 (length (roots p)))) i ∙ values-at (component_at p) zero_component (length (roots p)) i h)
+  pub count-few : cs.count ≤ max_switches
+  count-few = omega (arith, count_is, few-roots p sound)
 
-  pub stretches : Stretches cs ls
+  one : (i : ℕ) → i < length (roots p) → get_or (take cs.count cs.list) i zero_component ≡ component_at p i
+  one i h = ap (λ (l : List Component). get_or l i zero_component) listed ∙ values-at (component_at p) zero_component (length (roots p)) i h
+
+  pub stretches : Stretches (take cs.count cs.list) ls
   unfolding component_at
   stretches = record {
-    few = omega (arith, count_is, few-roots p sound);
     within = λ i h.
-        let j : i < length (roots p) = omega (arith, count_is) in
+        let j : i < length (roots p) = omega (arith, ap length listed, values_length (component_at p) 0 (length (roots p))) in
         rw (one i j, e) (omega (arith, begin-within p i j, length-append (trail_of p) (drop (length (trail_of p)) ms)));
   }
 

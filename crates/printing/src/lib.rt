@@ -2,12 +2,11 @@
 // and one function writes it. Inner: what the programs `rules` and `samples` share.
 #![tactic(auto)]
 
-ghost use Rattle.std.specs.Prelude.{◌≡◌, map, ◌+◌, ◌*◌, ◌≤◌, length, take, IfSome, OnOk, OnErr};
+ghost use Rattle.std.specs.Prelude.{◌≡◌, map, ◌+◌, ◌≤◌, length, IfSome, OnOk, OnErr};
 ghost use Rattle.std.specs.Io.KnownBytes.{Appends};
 ghost use Rattle.answers.specs.Answers.{number_of};
-ghost use Rattle.limits.specs.Limits.{max_links, max_rules};
+ghost use Rattle.limits.specs.Limits.{max_hops};
 ghost use Rattle.plan.specs.Plan.{trail_of};
-ghost use Rattle.planning.specs.Plans.{Plan};
 ghost use Rattle.text.specs.Lines.{summary_line, rule_line, rule_lines, trail_line, trail_lines, refusal_of};
 ghost use Rattle.text.specs.Sizes.{summary_most};
 ghost use Rattle.text.specs.Laid.{Room, Laid};
@@ -16,20 +15,22 @@ ghost use Rattle.printing.specs.Output.{triple, plant_output, printed};
 ghost use Rattle.printing.specs.Room.{page_room};
 ghost use Rattle.printing.specs.Stretches.{stretch_of, Stretches};
 
-use answers::{Refusal, Verdict};
-use planning::{Component, Components, Numbers, Parts};
+use answers::Refusal;
+use planning::{Component, Numbers, Plan};
 use plant::Plant;
 use std::io;
 use std::io::{Read, Write};
-use table::{Rule, Table};
+use table::Rule;
 
-// The most bytes of a page: `page_room max_hops` of specs/Room.antt.
-const PAGE: usize = text::SUMMARY
+// The trails of a plant have at most so many hops together, and the most bytes of their page: `page_room max_hops` of specs/Room.antt.
+const LONG: usize = Plant::MAX_HOPS;
+
+const LONG_PAGE: usize = text::SUMMARY
     + Plant::MAX_RULES * text::RULE
     + Plant::PLACES * text::TRAIL
-    + Plant::MAX_HOPS * text::LABEL;
+    + LONG * text::LABEL;
 
-// Trails of at most so many hops together are short, and the most bytes of their page: those of most plants are.
+// Trails of at most so many hops together are short, and the most bytes of their page: those of most plants are, and a short buffer does for them.
 const SHORT: usize = Plant::LABELS;
 
 const SHORT_PAGE: usize = text::SUMMARY
@@ -49,7 +50,7 @@ fn put_numbers(n: Numbers, buf: &mut [u8]) -> usize
     text::put_summary(
         buf,
         0,
-        n.switches as u16,
+        u16::from(n.switches),
         n.links,
         n.bridges,
         n.rules,
@@ -62,20 +63,17 @@ fn put_rule(r: Rule, buf: &mut [u8], at: usize) -> usize
     requires { Room buf.old at (rule_line r.from r.label r.to) }
     ensures { Laid buf.old at (rule_line r.from r.label r.to) buf.new result }
 {
-    text::put_rule(buf, at, r.from as u16, r.label, r.to as u16)
+    text::put_rule(buf, at, u16::from(r.from), r.label, u16::from(r.to))
 }
 
-// A line for each rule of a table.
-fn put_table(t: Table, buf: &mut [u8], at: usize) -> usize
-    requires { (t.count ≤ max_rules) × Room buf.old at (rule_lines (map triple (take t.count t.rules))) }
-    ensures { Laid buf.old at (rule_lines (map triple (take t.count t.rules))) buf.new result }
+// A line for each of these rules.
+fn put_rules(rules: &[Rule], buf: &mut [u8], at: usize) -> usize
+    requires { Room buf.old at (rule_lines (map triple rules.now)) }
+    ensures { Laid buf.old at (rule_lines (map triple rules.now)) buf.new result }
 {
-    let n = t.count as usize;
     let mut next = at;
-    let mut i: usize = 0;
-    while i < n {
-        next = put_rule(t.rules[i], buf, next);
-        i += 1;
+    for r in rules {
+        next = put_rule(*r, buf, next);
     }
     next
 }
@@ -86,41 +84,37 @@ fn put_stretch(c: Component, labels: &[u16], buf: &mut [u8], at: usize) -> usize
     requires room { Room buf.old at (trail_line (stretch_of labels.now c)) }
     ensures { Laid buf.old at (trail_line (stretch_of labels.now c)) buf.new result }
 {
-    text::put_trail(buf, at, labels, c.begin as usize, c.hops as usize)
+    let from = usize::from(c.begin);
+    let to = from + usize::from(c.hops);
+    text::put_trail(buf, at, &labels[from..to])
 }
 
-// A trail line for each component, by its stretch of the labels.
-fn put_trails(cs: Components, labels: &[u16], buf: &mut [u8], at: usize) -> usize
-    requires stretches { Stretches cs labels.now }
-    requires room { Room buf.old at (trail_lines (map (stretch_of labels.now) (take cs.count cs.list))) }
-    ensures { Laid buf.old at (trail_lines (map (stretch_of labels.now) (take cs.count cs.list))) buf.new result }
+// A trail line for each of these components, by its stretch of the labels.
+fn put_trails(list: &[Component], labels: &[u16], buf: &mut [u8], at: usize) -> usize
+    requires stretches { Stretches list.now labels.now }
+    requires room { Room buf.old at (trail_lines (map (stretch_of labels.now) list.now)) }
+    ensures { Laid buf.old at (trail_lines (map (stretch_of labels.now) list.now)) buf.new result }
 {
-    let n = cs.count as usize;
     let mut next = at;
-    let mut i: usize = 0;
-    while i < n {
-        next = put_stretch(cs.list[i], labels, buf, next);
-        i += 1;
+    for c in list {
+        next = put_stretch(*c, labels, buf, next);
     }
     next
 }
 
 // The page of a plan at the front of a buffer that has room for as many hops as its trails have. The trails are laid into the lent labels first.
-fn put_plan(
-    x: Parts,
-    t: &[[u8; Plant::PLACES]; Plant::PLACES],
-    labels: &mut [u16],
-    buf: &mut [u8],
-) -> usize
-    requires plan { Plan x t.now }
-    requires labels_room { length (trail_of x.plant) ≤ length labels.old }
-    requires page_room { page_room (length (trail_of x.plant)) ≤ length buf.old }
-    ensures { Laid buf.old 0 (plant_output x.plant) buf.new result }
+fn put_plan(x: &Plan, labels: &mut [u16], buf: &mut [u8]) -> usize
+    requires labels_room { length (trail_of x.now.network.ends.plant) ≤ length labels.old }
+    requires page_room { page_room (length (trail_of x.now.network.ends.plant)) ≤ length buf.old }
+    ensures { Laid buf.old 0 (plant_output x.now.network.ends.plant) buf.new result }
 {
-    planning::lay(x, t, labels);
-    let rules = put_numbers(planning::numbers_of(x), buf);
-    let end = put_table(planning::table_of(x), buf, rules);
-    put_trails(x.components, labels, buf, end)
+    planning::lay(x, labels);
+    let t = planning::table_of(x);
+    let rules = &t.rules[..usize::from(t.count)];
+    let cs = &x.components.list[..usize::from(x.components.count)];
+    let next = put_numbers(planning::numbers_of(x), buf);
+    let end = put_rules(rules, buf, next);
+    put_trails(cs, labels, buf, end)
 }
 
 // Writes the output for a listing. The listing is handed over for the contract alone, which says what the bytes are. After an error a front of them is written.
@@ -132,40 +126,21 @@ fn write_output<W: Write>(out: &mut W, bytes: &[u8], listing: &[u8]) -> io::Resu
     streams::put(out, bytes)
 }
 
-// The page of a plan with short trails, so that a short buffer does.
-fn print_short<W: Write>(
+// The page of a plan, by labels for so many hops and a buffer of so many bytes.
+fn print_plan<W: Write, const HOPS: usize, const BYTES: usize>(
     out: &mut W,
-    x: Parts,
-    t: &[[u8; Plant::PLACES]; Plant::PLACES],
+    x: &Plan,
     listing: &[u8],
 ) -> io::Result<()>
-    requires plan { Plan x t.now }
-    requires short { length (trail_of x.plant) ≤ 2 * max_links }
-    requires output { plant_output x.plant ≡ printed listing.now }
+    requires hops_bound { (length (trail_of x.now.network.ends.plant) ≤ HOPS) × (HOPS ≤ max_hops) }
+    requires bytes_are { BYTES ≡ page_room HOPS }
+    requires output { plant_output x.now.network.ends.plant ≡ printed listing.now }
     ensures ok { OnOk result (Appends (W.contents out.old) (W.contents out.new) (printed listing.now)) }
     ensures err { OnErr result (AppendsFront (W.contents out.old) (W.contents out.new) (printed listing.now)) }
 {
-    let mut labels = [0u16; SHORT];
-    let mut bytes = [0u8; SHORT_PAGE];
-    let n = put_plan(x, t, &mut labels, &mut bytes);
-    write_output(out, &bytes[..n], listing)
-}
-
-// The page of any plan.
-fn print_long<W: Write>(
-    out: &mut W,
-    x: Parts,
-    t: &[[u8; Plant::PLACES]; Plant::PLACES],
-    listing: &[u8],
-) -> io::Result<()>
-    requires plan { Plan x t.now }
-    requires output { plant_output x.plant ≡ printed listing.now }
-    ensures ok { OnOk result (Appends (W.contents out.old) (W.contents out.new) (printed listing.now)) }
-    ensures err { OnErr result (AppendsFront (W.contents out.old) (W.contents out.new) (printed listing.now)) }
-{
-    let mut labels = [0u16; Plant::MAX_HOPS];
-    let mut bytes = [0u8; PAGE];
-    let n = put_plan(x, t, &mut labels, &mut bytes);
+    let mut labels = [0u16; HOPS];
+    let mut bytes = [0u8; BYTES];
+    let n = put_plan(x, &mut labels, &mut bytes);
     write_output(out, &bytes[..n], listing)
 }
 
@@ -185,19 +160,15 @@ pub fn print_listing<W: Write>(out: &mut W, listing: &[u8]) -> io::Result<()>
     ensures ok { OnOk result (Appends (W.contents out.old) (W.contents out.new) (printed listing.now)) }
     ensures err { OnErr result (AppendsFront (W.contents out.old) (W.contents out.new) (printed listing.now)) }
 {
-    let mut t = planning::blank();
-    let d = planning::plan(listing, &mut t);
-    let v = d.verdict;
-    match v {
-        Verdict::Accepted => {
-            let hops = d.parts.hops as usize;
-            if hops <= SHORT {
-                print_short(out, d.parts, &t, listing)
+    match planning::plan_of(listing) {
+        Ok(x) => {
+            if usize::from(x.hops) <= SHORT {
+                print_plan::<W, SHORT, SHORT_PAGE>(out, &x, listing)
             } else {
-                print_long(out, d.parts, &t, listing)
+                print_plan::<W, LONG, LONG_PAGE>(out, &x, listing)
             }
         }
-        Verdict::Refused(k) => print_refusal(out, k, listing),
+        Err(k) => print_refusal(out, k, listing),
     }
 }
 

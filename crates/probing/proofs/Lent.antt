@@ -23,22 +23,18 @@ use Rattle.planning.specs.declared.Component.{Component}
 use Rattle.planning.specs.Components.{component_at, component_with}
 use Rattle.arcs.specs.Flags.{Flags}
 use Rattle.order.specs.Labels.{OverArcs}
-use Rattle.packet.specs.Asked.{CanRun, CanProbe, CanRound}
-use Rattle.answers.specs.declared.Verdict.{Verdict}
-use Rattle.answers.specs.declared.Verdict.TheVariants as verdict
+use Rattle.packet.specs.Asked.{CanRun}
+use Rattle.std.specs.Prelude.{Ok}
+use Rattle.answers.specs.Answers.{given}
 use Rattle.answers.specs.Checks.{answer}
-use Rattle.answers.specs.Verdicts.{Judges}
-use Rattle.answers.proofs.Checks.{none_judged}
-use Rattle.answers.proofs.Beside.{accepted}
+use Rattle.answers.specs.Results.{Judges}
+use Rattle.answers.proofs.Results.{none_judged}
 use Rattle.search.specs.declared.Search.{Search}
 use Rattle.search.specs.declared.Said.{Said}
 use Rattle.search.specs.declared.Said.TheVariants as said
 use Rattle.search.specs.Search.{says}
 use Rattle.search.specs.Answers.{SaysIn}
 use Rattle.search.proofs.Sound.{says_in}
-use Rattle.planning.specs.declared.Parts.{Parts}
-use Rattle.planning.specs.declared.Planned.{Planned}
-use Rattle.planning.specs.Plans.{OfPlant, Plan, Plots}
 use Rattle.planning.specs.Planning.{planning_at}
 use Rattle.planning.proofs.Plans.{at-given}
 use Rattle.judging.specs.Conditions.{hops_differ, search_unsound, lent_checks, round_checks}
@@ -61,10 +57,11 @@ begins-part w lent e b h i =
     ap (λ (l : List ℕ). take h (drop b l)) (sym (take-append-drop (length w) lent) ∙ ap (λ (l : List ℕ). l ++ drop (length w) lent) (hops-begin w lent e))
     ∙ part-front w (drop (length w) lent) b h i
 
-module _ (p : Plant) (ok : Sound p) where
-  pub can_run : (us : List Bool) (states : List ℕ) → Flags (2 * max_links) (used p) us → p.count ≤ length states → CanRun p us states
-  can_run us states f enough = record { sound = ok; arcs = λ a t. used_arc p a (true_T (used p a) (sym (f.tells a) ∙ t)); bytes = enough }
+-- by the arcs in use, with enough state bytes, a packet can run
+pub can_run : (p : Plant) (us : List Bool) (states : List ℕ) → Flags (2 * max_links) (used p) us → p.count ≤ length states → CanRun p us states
+can_run p us states f enough = record { arcs = λ a t. used_arc p a (true_T (used p a) (sym (f.tells a) ∙ t)); bytes = enough }
 
+module _ (p : Plant) (ok : Sound p) where
   -- ---- the component of a switch
 
   module _ (x : ℕ) (x_in : x < p.switches) where
@@ -105,17 +102,8 @@ module _ (p : Plant) (ok : Sound p) where
     pub own-arcs : (own : List ℕ) → own ≡ trail_with p x → OverArcs p own
     own-arcs own e = subst (OverArcs p) (sym e) (λ a h. used_arc p a (trail-used p ok x x_in a h))
 
-    -- ---- state bytes that refusals 12 and 13 let pass
-
-    pub can_probe : (us : List Bool) (states own : List ℕ) → Flags (2 * max_links) (used p) us → own ≡ trail_with p x → p.count ≤ length states → CanProbe p us states own
-    can_probe us states own f e enough = record { runs = can_run us states f enough; trail = own-arcs own e }
-
-    pub can_round : (states own : List ℕ) → own ≡ round_with p x → 2 * p.count ≤ length states → CanRound p states own
-    can_round states own e enough = record {
-      sound = ok;
-      bytes = enough;
-      trail = subst (OverArcs p) (sym e) (λ a h. (((rounds.round-from p ok (root_of p x) (root_among p ok x x_in)).each a).0 h).1);
-    }
+    pub round-arcs : (own : List ℕ) → own ≡ round_with p x → OverArcs p own
+    round-arcs own e = subst (OverArcs p) (sym e) (λ a h. (((rounds.round-from p ok (root_of p x) (root_among p ok x x_in)).each a).0 h).1)
 
     -- ---- what a sound search over its links says
 
@@ -129,26 +117,23 @@ module _ (p : Plant) (ok : Sound p) where
 
 -- ---- a plan
 
-pub of_plan : (x : Parts) (t : List (List ℕ)) → Plan x t → OfPlant x
-of_plan x t plan = record { charted = plan.laying.charted; measured = plan.measured }
-
--- a plan at a switch, if it is not refused, has that switch
-pub planned_in : (s : List ℕ) (x : ℕ) (r : Planned) → Plots (answer (planning_at s x)) r → r.verdict ≡ verdict.Accepted → x < r.parts.plant.switches
-planned_in s x r q e = (at-given s x r.parts.plant (accepted _ _ _ _ q e)).1
+-- a plan at a switch has that switch
+pub planned_in : (s : List ℕ) (x : ℕ) (p : Plant) → given p ≡ answer (planning_at s x) → x < p.switches
+planned_in s x p e = (at-given s x p (sym e)).1
 
 -- ---- what refusals 12 and 13 let pass
 
-module _ (p : Plant) (w states : List ℕ) (v : Verdict) (e : v ≡ verdict.Accepted) where
-  module _ (j : Judges (lent_checks p w states) v) where
+module _ (p : Plant) (w states : List ℕ) (u : Unit) where
+  module _ (j : Judges (lent_checks p w states) (Ok u)) where
     pub lent_same : w ≡ trail_of p
-    lent_same = trail-same p w (none_judged (lent_checks p w states) v j e).0
+    lent_same = trail-same p w (none_judged (lent_checks p w states) (Ok u) j u refl).0
 
     pub lent_enough : p.count ≤ length states
-    lent_enough = states-enough p.count states (none_judged (lent_checks p w states) v j e).1.0
+    lent_enough = states-enough p.count states (none_judged (lent_checks p w states) (Ok u) j u refl).1.0
 
-  module _ (j : Judges (round_checks p w states) v) where
+  module _ (j : Judges (round_checks p w states) (Ok u)) where
     pub round-begins : hops_differ (round_of p) w ≡ false
-    round-begins = (none_judged (round_checks p w states) v j e).0
+    round-begins = (none_judged (round_checks p w states) (Ok u) j u refl).0
 
     pub round-enough : 2 * p.count ≤ length states
-    round-enough = states-enough (2 * p.count) states (none_judged (round_checks p w states) v j e).1.0
+    round-enough = states-enough (2 * p.count) states (none_judged (round_checks p w states) (Ok u) j u refl).1.0

@@ -1,5 +1,5 @@
 -- What each call answers in a plant where nothing is refused, from what the code computes of the trail of the component of a switch. Assumes nothing.
-use mathlib.Core.Path.{◌≡◌, refl, sym, ap, ap₂, ◌∙◌}
+use mathlib.Core.Path.{◌≡◌, ap, ap₂, ◌∙◌}
 use mathlib.Core.Bool.{Bool, false}
 use mathlib.Core.List.{List}
 use Prim.Native.Nat.{ℕ, ◌-◌}
@@ -17,7 +17,6 @@ use Rattle.rings.specs.Packet as ring
 use Rattle.rings.specs.Rules.{up_by_link}
 use Rattle.rings.specs.Order.{nth}
 use Rattle.rings.specs.Injection.{ring_of, order_of, probe_run}
-use Rattle.answers.specs.declared.Verdict.TheVariants as verdict
 use Rattle.order.specs.declared.Order.{Order}
 use Rattle.order.specs.declared.Span.{Span}
 use Rattle.order.specs.Order.{listed}
@@ -29,9 +28,7 @@ use Rattle.search.specs.declared.Said.{Said}
 use Rattle.search.specs.declared.Said.TheVariants.{Down}
 use Rattle.judging.specs.Conditions.{trail_differs}
 use Rattle.probing.specs.Calls.{order_in, own_span, link, named_in}
-use Rattle.probing.specs.Answers.{Orders}
 use Rattle.answers.proofs.Checks.{fails}
-use Rattle.answers.proofs.Beside.{beside_given}
 
 -- ---- a packet that is no probe
 
@@ -62,14 +59,14 @@ module _ (p : Plant) (w : List ℕ) (x : ℕ) (same : w ≡ trail_with p x) wher
 
   -- the link at a place in the order
   pub named_link : (o : Order) (d : Said) (k : ℕ) → o ≡ listed (order_of p w x) → d ≡ Down k
-      → given (link (get_or o.links (k - 1) 0)) ≡ given (named_in (order_of p (trail_with p x) x) d)
+      → link (get_or o.links (k - 1) 0) ≡ (named_in (order_of p (trail_with p x) x) d)
   named_link o d k f e =
       let l : get_or o.links (k - 1) 0 ≡ nth (order_of p (trail_with p x) x) k =
       ap (λ (d : Order). get_or d.links (k - 1) 0) f ∙ listed_nth (order_of p w x) k ∙ ap (λ (v : List ℕ). nth (order_of p v x) k) same
       in
-      rw e (ap (λ (j : ℕ). given (link j)) l)
+      rw e (ap (λ (j : ℕ). link j) l)
 
 pub ordered : (p : Plant) (w own : List ℕ) (x : ℕ) (o : Order) → trail_differs p w ≡ false → own ≡ trail_with p x → o ≡ listed (order_of p own x)
-    → Orders (answer (order_in x w p)) (record { verdict = verdict.Accepted; order = o })
+    → given o ≡ answer (order_in x w p)
 unfolding order_in
-ordered p w own x o d e f = beside_given _ _ _ _ refl (sym (fails 12 _ _ _ d (ap given (f ∙ ap (λ (v : List ℕ). listed (order_of p v x)) e))))
+ordered p w own x o d e f = fails 12 _ _ _ d (ap given (f ∙ ap (λ (v : List ℕ). listed (order_of p v x)) e))

@@ -1,3 +1,2 @@
 pub mod Quantity
-pub mod Answers
 pub mod Cases

@@ -3,30 +3,22 @@
 
 ghost use Rattle.std.specs.Prelude.{◌≡◌};
 ghost use Rattle.answers.specs.Checks.{answer};
+ghost use Rattle.answers.specs.Results.{answer_of};
 ghost use Rattle.quantity.specs.Quantity.{order_quantity};
-ghost use Rattle.quantity.specs.Answers.{quantity_of};
 
 use answers::Refusal;
 
-// So many rules, or a refusal.
-#[derive(Clone, Copy)]
-pub enum Quantity {
-    Rules(u32),
-    Refused(Refusal),
-}
+// The largest spare, in percent.
+pub const MAX_SPARE: u8 = 100;
 
-impl Quantity {
-    // The largest spare, in percent.
-    pub const MAX_SPARE: u8 = 100;
-}
-
-pub fn order_quantity(rules: u16, spare: u8) -> Quantity
-    ensures { quantity_of result ≡ answer (order_quantity rules spare) }
+// So many rules: refusal 17.
+pub fn order_quantity(rules: u16, spare: u8) -> Result<u32, Refusal>
+    ensures { answer_of result ≡ answer (order_quantity rules spare) }
 {
-    if Quantity::MAX_SPARE < spare {
-        return Quantity::Refused(Refusal::SpareTooLarge);
+    if MAX_SPARE < spare {
+        return Err(Refusal::SpareTooLarge);
     }
-    let a = rules as u32;
-    let p = spare as u32;
-    Quantity::Rules(a + (a * p + 99) / 100)
+    let a = u32::from(rules);
+    let p = u32::from(spare);
+    Ok(a + (a * p).div_ceil(100))
 }

@@ -1,22 +1,42 @@
--- The promises of the steps in a row are `read`'s. Assumes nothing.
-use mathlib.Core.Path.{◌≡◌, ap, subst, ◌∙◌}
+-- The steps in a row answer what the whole listing means: a refusal stands, and else the next step goes on where the last one ended. Assumes nothing.
+use mathlib.Core.Path.{◌≡◌, sym, ap, ◌∙◌}
 use mathlib.Core.List.{List}
 use Prim.Native.Nat.{ℕ}
 use denote.Ref.{Bor}
-use Rattle.answers.specs.Checks.{answer}
-use Rattle.listing.specs.Listing.{reading}
-use Rattle.listing.specs.Answers.{Reads}
-use Rattle.listing.specs.Steps.{ReadsHeader, ReadsLinks, ReadsEnd}
-use Rattle.listing.specs.declared.Header.{Header}
+use Rattle.plant.specs.declared.Plant.{Plant}
+use Rattle.answers.specs.Answers.{Answer, given, refused}
+use Rattle.answers.specs.Checks.{answer, ◌then◌}
+use Rattle.answers.proofs.Checks.{goes_on, stops}
+use Rattle.listing.specs.Listing.{header, linked, ended, reading}
+use Rattle.listing.specs.Steps.{plant_of, header_of, linked_of}
+use Rattle.listing.specs.declared.header.Header.{Header}
 use Rattle.listing.specs.declared.Linked.{Linked}
-use Rattle.listing.specs.declared.Decoded.{Decoded}
-use Rattle.listing.proofs.Steps.{reads_whole}
 use Rattle.reading.specs.declared.Reading.{Reading}
-use Rattle.reading.specs.Carried.{reading_at, bytes}
+use Rattle.reading.specs.Carried.{reading_at, bytes, left}
 
-pub in_row : (s : Bor (List ℕ)) (r : Reading) → r ≡ reading_at s 0 → (h : Header) → ReadsHeader (bytes r) r.at h → (q : Reading) → q ≡ reading_at r.listing h.next → (l : Linked) → ReadsLinks (bytes q) q.at h l
-    → (p : Reading) → p ≡ reading_at q.listing l.next → (d : Decoded) → ReadsEnd (bytes p) p.at l d → Reads (answer (reading s.now)) d
-in_row s r r_is h e q q_is l f p p_is d g =
-    let q_at : q ≡ reading_at s h.next = q_is ∙ ap (λ (x : Reading). reading_at x.listing h.next) r_is in
-    let p_at : p ≡ reading_at s l.next = p_is ∙ ap (λ (x : Reading). reading_at x.listing l.next) q_at in
-    reads_whole s.now h l d (subst (λ (x : Reading). ReadsHeader (bytes x) x.at h) r_is e) (subst (λ (x : Reading). ReadsLinks (bytes x) x.at h l) q_at f) (subst (λ (x : Reading). ReadsEnd (bytes x) x.at l d) p_at g)
+-- the header
+module _ (s : Bor (List ℕ)) (r : Reading) (r_is : r ≡ reading_at s 0) where
+  pub header_refused : (n : ℕ) → refused n ≡ answer (header (left r)) → refused n ≡ answer (reading s.now)
+  unfolding reading
+  header_refused n e = sym (stops (header s.now then λ x. linked x.0 x.1) (λ x. ended x.0 x.1) n (stops (header s.now) (λ x. linked x.0 x.1) n (sym (rw r_is at e))))
+
+  -- the links
+  module _ (h : Header) (e : given (header_of (bytes r) h) ≡ answer (header (left r))) (q : Reading) (q_is : q ≡ reading_at r.listing h.next) where
+    q_at : q ≡ reading_at s h.next
+    q_at = q_is ∙ ap (λ (x : Reading). reading_at x.listing h.next) r_is
+
+    to_links : answer (header s.now then λ x. linked x.0 x.1) ≡ answer (linked (plant_of h) (left q))
+    to_links = goes_on (header s.now) (λ x. linked x.0 x.1) (header_of s.now h) (sym (rw r_is at e)) ∙ rw q_at
+
+    pub links_refused : (n : ℕ) → refused n ≡ answer (linked (plant_of h) (left q)) → refused n ≡ answer (reading s.now)
+    unfolding reading
+    links_refused n f = sym (stops (header s.now then λ x. linked x.0 x.1) (λ x. ended x.0 x.1) n (to_links ∙ sym f))
+
+    -- the end
+    pub in_row : (l : Linked) → given (linked_of (bytes q) l) ≡ answer (linked (plant_of h) (left q)) → (p : Reading) → p ≡ reading_at q.listing l.next
+        → (a : Answer Plant) → a ≡ answer (ended l.plant (left p)) → a ≡ answer (reading s.now)
+    unfolding reading
+    in_row l f p p_is a g =
+        let p_at : p ≡ reading_at s l.next = p_is ∙ ap (λ (x : Reading). reading_at x.listing l.next) q_at in
+        rw p_at at g
+        ∙ sym (goes_on (header s.now then λ x. linked x.0 x.1) (λ x. ended x.0 x.1) (linked_of s.now l) (to_links ∙ sym f ∙ ap (λ (x : Reading). given (linked_of (bytes x) l)) q_at))

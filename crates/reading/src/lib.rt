@@ -1,15 +1,17 @@
 // A reading carries the lent listing and how far it has come (document 01, "Listing bytes"). Each function over it is thin:
-// it takes the reading apart, or makes one, and leaves the work to the crate `listing`. A refusal travels in what is handed on. Inner: the call is `planner::read`.
+// it takes the reading apart, or makes one, and leaves the work to the crate `listing`. Inner: the call is `planner::read`.
 #![tactic(auto)]
 
 ghost use Rattle.std.specs.Prelude.{◌≡◌};
 ghost use Rattle.answers.specs.Checks.{answer};
-ghost use Rattle.listing.specs.Listing.{reading};
-ghost use Rattle.listing.specs.Answers.{Reads};
-ghost use Rattle.listing.specs.Steps.{ReadsHeader, ReadsLinks, ReadsEnd};
-ghost use Rattle.reading.specs.Carried.{reading_at, bytes};
+ghost use Rattle.answers.specs.Results.{answer_as, answer_of};
+ghost use Rattle.listing.specs.Listing.{header, linked, ended, reading};
+ghost use Rattle.listing.specs.Steps.{plant_of, header_of, linked_of};
+ghost use Rattle.reading.specs.Carried.{reading_at, bytes, left};
 
-use listing::{Decoded, Header, Linked};
+use answers::Refusal;
+use listing::{Header, Linked};
+use plant::Plant;
 
 #[derive(Clone, Copy)]
 struct Reading<'a> {
@@ -17,52 +19,54 @@ struct Reading<'a> {
     at: usize,
 }
 
-// A reading at the front of a listing.
-fn begin<'a>(listing: &'a [u8]) -> Reading<'a>
-    ensures { result ≡ reading_at listing.entry 0 }
-{
-    Reading { listing, at: 0 }
-}
+impl<'a> Reading<'a> {
+    // A reading at the front of a listing.
+    fn begin(listing: &'a [u8]) -> Reading<'a>
+        ensures { result ≡ reading_at listing.entry 0 }
+    {
+        Reading { listing, at: 0 }
+    }
 
-// The same listing, at another place.
-fn moved<'a>(r: Reading<'a>, at: usize) -> Reading<'a>
-    ensures { result ≡ reading_at r.entry.listing at }
-{
-    Reading {
-        listing: r.listing,
-        at,
+    // The same listing, at another place.
+    fn moved(self, at: usize) -> Reading<'a>
+        ensures { result ≡ reading_at self.entry.listing at }
+    {
+        Reading {
+            listing: self.listing,
+            at,
+        }
+    }
+
+    // The header that comes next, or why there is none: refusals 1 to 5.
+    fn header(self) -> Result<Header, Refusal>
+        ensures { answer_as (header_of (bytes self.entry)) result ≡ answer (header (left self.entry)) }
+    {
+        listing::read_header(self.listing, self.at)
+    }
+
+    // The links that come next, after the header h, or why there are none: refusals 1 to 4, 6 and 7.
+    fn links(self, h: Header) -> Result<Linked, Refusal>
+        ensures { answer_as (linked_of (bytes self.entry)) result ≡ answer (linked (plant_of h) (left self.entry)) }
+    {
+        listing::read_links(self.listing, self.at, h)
+    }
+
+    // The end of the listing, after the links l, or refusal 8 where bytes remain.
+    fn end(self, l: Linked) -> Result<Plant, Refusal>
+        ensures { answer_of result ≡ answer (ended l.plant (left self.entry)) }
+    {
+        listing::read_end(self.listing, self.at, l)
     }
 }
 
-// The header that comes next, or why there is none: refusals 1 to 5.
-fn header<'a>(r: Reading<'a>) -> Header
-    ensures { ReadsHeader (bytes r.entry) r.entry.at result }
-{
-    listing::read_header(r.listing, r.at)
-}
-
-// The links that come next, after the header h, or why there are none: refusals 1 to 4, 6 and 7, or that of the header.
-fn links<'a>(r: Reading<'a>, h: Header) -> Linked
-    ensures { ReadsLinks (bytes r.entry) r.entry.at h result }
-{
-    listing::read_links(r.listing, r.at, h)
-}
-
-// The end of the listing, after the links l: refusal 8 where bytes remain, or that of the links.
-fn end<'a>(r: Reading<'a>, l: Linked) -> Decoded
-    ensures { ReadsEnd (bytes r.entry) r.entry.at l result }
-{
-    listing::read_end(r.listing, r.at, l)
-}
-
 // The plant of a listing, or why there is none: refusals 1 to 8.
-pub fn read(listing: &[u8]) -> Decoded
-    ensures { Reads (answer (reading listing.now)) result }
+pub fn read(listing: &[u8]) -> Result<Plant, Refusal>
+    ensures { answer_of result ≡ answer (reading listing.now) }
 {
-    let r = begin(listing);
-    let h = header(r);
-    let q = moved(r, h.next);
-    let l = links(q, h);
-    let p = moved(q, l.next);
-    end(p, l)
+    let r = Reading::begin(listing);
+    let h = r.header()?;
+    let q = r.moved(h.next);
+    let l = q.links(h)?;
+    let p = q.moved(l.next);
+    p.end(l)
 }

@@ -4,135 +4,111 @@
 
 ghost use Rattle.std.specs.Prelude.{◌≡◌, ◌+◌, ◌*◌, ◌≤◌, ◌<◌, length};
 ghost use Rattle.limits.specs.Limits.{max_links};
-ghost use Rattle.limits.specs.Sound.{Sound};
 ghost use Rattle.walks.specs.Round.{round_from};
-ghost use Rattle.arcs.specs.Net.{Ends};
 ghost use Rattle.arcs.specs.Shows.{Visits};
 ghost use Rattle.trail.specs.Ways.{Laid, TellsFrom};
 ghost use Rattle.round.specs.Round.{labels_of, Labels};
 ghost use Rattle.round.specs.Inner.{or_back, HeadsIn, EntersOnce, WaysBack, hop_after, HopsAfter};
 
-use arcs::{Visited, opposite};
+use arcs::{ArcEnds, Chains, Visited, opposite};
 use plant::Plant;
-use trail::Compared;
 
 // A round trail: the number of its hops, the label of the first, and for each label that of the hop after it.
-#[derive(Clone, Copy)]
+#[derive(Clone, Copy, Debug, PartialEq, Eq)]
 pub struct Round {
     pub hops: u16,
     pub begin: u16,
     pub next: [u16; Plant::LABELS],
 }
 
-// For each switch that is entered the arc by which the round trail goes back from it: the opposite of the one by which it is entered.
-fn ways_back(
-    heads: &[u8; Plant::LABELS],
-    leading: &[bool; Plant::LABELS],
-    entered: &[bool; Plant::MAX_LINKS],
-    n: u16,
-) -> [u16; Plant::PLACES]
-    requires n_bound { n ≤ 2 * max_links }
-    requires enters_once { EntersOnce n heads.now leading.now entered.now }
-    ensures { WaysBack n heads.now leading.now entered.now result }
+// What tells the hop after each hop, of the labels below `labels`: the heads of the arcs, which of them lead, which links the visit entered, and the leading arcs of each switch.
+#[derive(Clone, Copy)]
+struct Turns {
+    labels: u16,
+    heads: [u8; Plant::LABELS],
+    leading: [bool; Plant::LABELS],
+    entered: [bool; Plant::MAX_LINKS],
+    chains: Chains,
+}
+
+// For each switch that is entered the arc by which the round trail goes back from it: the opposite of the one by which it is entered. The number of labels stands for none, as in
+// the chains.
+fn ways_back(t: &Turns) -> [u16; Plant::PLACES]
+    requires n_bound { t.now.labels ≤ 2 * max_links }
+    requires enters_once { EntersOnce t.now.labels t.now.heads t.now.leading t.now.entered }
+    ensures { WaysBack t.now.labels t.now.heads t.now.leading t.now.entered result }
 {
-    let mut up = [n; Plant::PLACES];
-    let mut a: u16 = 0;
-    while a < n {
+    let mut up = [t.labels; Plant::PLACES];
+    for a in 0..t.labels {
         let i = a as usize;
-        if leading[i] && entered[i / 2] {
-            let x = heads[i] as usize;
-            up[x] = opposite(a);
+        if t.leading[i] && t.entered[i / 2] {
+            up[t.heads[i] as usize] = opposite(a);
         }
-        a += 1;
     }
     up
 }
 
-// The next leading arc, if there is one, or the way back.
+// The next leading arc, if there is one, or the way back. What ends a chain is the number of labels.
 fn or_back(next: u16, n: u16, up: u16) -> u16
     ensures { result ≡ or_back n next up }
 {
-    if next < n {
-        return next;
-    }
-    up
+    if next < n { next } else { up }
 }
 
 // The hop after hop a. After a leading arc into a switch the first leading arc that leaves it; after any other leading arc the one back; after an arc back the leading
 // arc that follows at the same switch. Where no leading arc is left at a switch, the way back from it.
-fn hop_after(
-    heads: &[u8; Plant::LABELS],
-    leading: &[bool; Plant::LABELS],
-    entered: &[bool; Plant::MAX_LINKS],
-    first: &[u16; Plant::PLACES],
-    after: &[u16; Plant::LABELS],
-    up: &[u16; Plant::PLACES],
-    n: u16,
-    a: u16,
-) -> u16
-    requires heads_in { HeadsIn heads.now }
+fn hop_after(t: &Turns, up: &[u16; Plant::PLACES], a: u16) -> u16
+    requires heads_in { HeadsIn t.now.heads }
     requires a_bound { a < 2 * max_links }
-    ensures { result ≡ hop_after n heads.now leading.now entered.now first.now after.now up.now a }
+    ensures { result ≡ hop_after t.now.labels t.now.heads t.now.leading t.now.entered t.now.chains.first t.now.chains.after up.now a }
 {
     let i = a as usize;
-    let x = heads[i] as usize;
+    let x = t.heads[i] as usize;
     let back = opposite(a);
-    if !leading[i] {
-        return or_back(after[back as usize], n, up[x]);
+    if !t.leading[i] {
+        return or_back(t.chains.after[back as usize], t.labels, up[x]);
     }
-    if entered[i / 2] {
-        return or_back(first[x], n, up[x]);
+    if t.entered[i / 2] {
+        return or_back(t.chains.first[x], t.labels, up[x]);
     }
     back
 }
 
 // The hop after each hop.
-fn hops_after(
-    heads: &[u8; Plant::LABELS],
-    leading: &[bool; Plant::LABELS],
-    entered: &[bool; Plant::MAX_LINKS],
-    first: &[u16; Plant::PLACES],
-    after: &[u16; Plant::LABELS],
-    up: &[u16; Plant::PLACES],
-    n: u16,
-) -> [u16; Plant::LABELS]
-    requires heads_in { HeadsIn heads.now }
-    requires n_bound { n ≤ 2 * max_links }
-    ensures { HopsAfter n heads.now leading.now entered.now first.now after.now up.now result }
+fn hops_after(t: &Turns, up: &[u16; Plant::PLACES]) -> [u16; Plant::LABELS]
+    requires heads_in { HeadsIn t.now.heads }
+    requires n_bound { t.now.labels ≤ 2 * max_links }
+    ensures { HopsAfter t.now.labels t.now.heads t.now.leading t.now.entered t.now.chains.first t.now.chains.after up.now result }
 {
     let mut next = [0u16; Plant::LABELS];
-    let mut a: u16 = 0;
-    while a < n {
-        let i = a as usize;
-        next[i] = hop_after(heads, leading, entered, first, after, up, n, a);
-        a += 1;
+    for a in 0..t.labels {
+        next[a as usize] = hop_after(t, up, a);
     }
     next
 }
 
 // The round trail of what the visit reached, from its root.
-pub fn round_of(
-    p: Plant,
-    tails: &[u8; Plant::LABELS],
-    heads: &[u8; Plant::LABELS],
-    v: Visited,
-) -> Round
-    requires sound { Sound p }
-    requires ends { Ends p tails.now heads.now }
-    requires visits { Visits p v.root v }
-    ensures { labels_of result ≡ round_from p v.root }
+pub fn round_of(ends: &ArcEnds, v: Visited) -> Round
+    requires visits { Visits ends.now.plant v.root v }
+    ensures { labels_of result ≡ round_from ends.now.plant v.root }
 {
-    let n = 2 * p.count;
-    let leading = uses::leading_arcs(p, tails, heads, v);
-    let c = arcs::chains_of(tails, &leading, n);
-    let first = c.first;
-    let after = c.after;
-    let entered = v.entered;
-    let up = ways_back(heads, &leading, &entered, n);
-    let next = hops_after(heads, &leading, &entered, &first, &after, &up, n);
+    let labels = 2 * ends.plant.count;
+    let leading = uses::leading_arcs(ends, v);
     let links = uses::count_set(&leading);
+    let chains = arcs::chains_of(&ends.tails, &leading, labels);
+    let heads = ends.heads;
+    let entered = v.entered;
+    let t = Turns {
+        labels,
+        heads,
+        leading,
+        entered,
+        chains,
+    };
+    let up = ways_back(&t);
+    let next = hops_after(&t, &up);
     let x = v.root as usize;
-    let begin = or_back(first[x], n, up[x]);
+    let begin = or_back(t.chains.first[x], labels, up[x]);
     Round {
         hops: 2 * (links as u16),
         begin,
@@ -146,38 +122,30 @@ pub fn lay(x: Round, buf: &mut [u16], from: usize) -> usize
     requires hops_in_bounds { from + x.hops ≤ length buf.old }
     ensures { Laid (labels_of x) buf.old from buf.new result }
 {
-    let n = x.hops as usize;
     let mut a = x.begin;
     let mut at = from;
-    let mut i: usize = 0;
-    while i < n {
+    for _ in 0..x.hops {
         buf[at] = a;
         at += 1;
         a = x.next[a as usize];
-        i += 1;
     }
     at
 }
 
 // Do the labels of the lent slice from place `from` on begin with the hops of the round trail? Then the place after it. Places past them are not looked at.
-pub fn compare(x: Round, lent: &[u16], from: usize) -> Compared
+pub fn compare(x: Round, lent: &[u16], from: usize) -> Option<usize>
     requires { Labels x }
     ensures { TellsFrom from lent.now (labels_of x) result }
 {
-    let n = x.hops as usize;
     let mut a = x.begin;
     let mut at = from;
-    let mut i: usize = 0;
-    while i < n {
-        if lent.len() <= at {
-            return Compared::Other;
-        }
-        if lent[at] != a {
-            return Compared::Other;
+    for _ in 0..x.hops {
+        let label = *lent.get(at)?;
+        if label != a {
+            return None;
         }
         at += 1;
         a = x.next[a as usize];
-        i += 1;
     }
-    Compared::Same(at)
+    Some(at)
 }

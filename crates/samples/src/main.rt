@@ -5,15 +5,24 @@ use std::io::{Cursor, Write};
 use std::rt::Files;
 use std::{fs, io, str};
 
+// The files of the samples, in the order in which they are printed.
+const SAMPLES: [&str; 7] = [
+    "ring.listing",
+    "tree.listing",
+    "ring-with-tails.listing",
+    "two-rings.listing",
+    "limits.listing",
+    "out-of-service.listing",
+    "components.listing",
+];
+
 // As much of an error's text as is laid here.
 const TEXT: usize = 300;
 
 // The system's words in the text of an error, without the number that `io::Error` puts after them.
 fn words(text: &str) -> &str {
-    match text.split_once(" (os error ") {
-        Some((words, _)) => words,
-        None => text,
-    }
+    text.split_once(" (os error ")
+        .map_or(text, |(words, _)| words)
 }
 
 // A line on standard error: the file that could not be opened, and why.
@@ -36,11 +45,8 @@ fn print_sample(rt: &(impl Files + Print + Eprint), path: &str) -> io::Result<()
 }
 
 fn main(rt: HostRuntime) -> io::Result<()> {
-    print_sample(&rt, "ring.listing")?;
-    print_sample(&rt, "tree.listing")?;
-    print_sample(&rt, "ring-with-tails.listing")?;
-    print_sample(&rt, "two-rings.listing")?;
-    print_sample(&rt, "limits.listing")?;
-    print_sample(&rt, "out-of-service.listing")?;
-    print_sample(&rt, "components.listing")
+    for path in SAMPLES {
+        print_sample(&rt, path)?;
+    }
+    Ok(())
 }

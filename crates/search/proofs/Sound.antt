@@ -4,14 +4,10 @@ use mathlib.Core.Bool.{true, false, ◌&&◌}
 use Prim.Native.Nat.{ℕ, ◌≤◌, ◌<◌}
 use native.Mathlib.Omega.{arith}
 use lib.Dec.{leb, ltb}
-use borrow.Author.Tests.{eqb-true, leb-true, ltb-true, eq-eqb, le-leb, lt-ltb, not-false}
+use borrow.Author.Tests.{eqb-true, leb-true, ltb-true, eq-eqb, le-leb, lt-ltb}
 use Rattle.lists.proofs.Tests.{and_true, not_both}
 use Rattle.answers.specs.Answers.{given, refused}
-use Rattle.answers.specs.declared.Verdict.{Verdict}
-use Rattle.answers.specs.declared.Verdict.TheVariants as verdict
 use Rattle.answers.specs.Checks.{check, answer}
-use Rattle.answers.specs.Verdicts.{Judges}
-use Rattle.answers.proofs.Checks.{none_judged}
 use Rattle.limits.specs.Limits.{max_links}
 use Rattle.search.specs.declared.Search.{Search}
 use Rattle.search.specs.declared.Search.TheVariants.{Checking, Halving, AllUp, Down}
@@ -27,10 +23,6 @@ module _ {A : Type 0} (s : Search) (a : A) where
 
   pub answers-given : sound s ≡ true → ended s ≡ false → answer (check (call_checks s) a) ≡ given a
   answers-given e q = rw (e, q)
-
--- a state that a call accepts is sound
-pub judged_sound : (s : Search) (v : Verdict) → Judges (call_checks s) v → v ≡ verdict.Accepted → sound s ≡ true
-judged_sound s v j e = not-false (sound s) (none_judged (call_checks s) v j e).0
 
 -- ---- a sound state
 

@@ -1,26 +1,11 @@
 -- What the code's answers say. Contracts go by it, and no promise needs it. Assumes nothing.
 use Rattle.std.specs.Prelude.{[], ◌∷◌, List, ℕ, ◌≤◌, eqb}
 use Rattle.lists.specs.Tests.{choose}
-use Rattle.answers.specs.Answers.{number_of, Answer, given, refused}
-use Rattle.search.specs.declared.Search.{Search}
 use Rattle.search.specs.declared.Said.{Said}
 use Rattle.search.specs.declared.Said.TheVariants as said
 use Rattle.search.specs.declared.Outcome.{Outcome}
 use Rattle.search.specs.declared.Outcome.TheVariants.{Returned, Lost}
-use Rattle.search.specs.declared.Asked.{Asked}
-use Rattle.search.specs.declared.Asked.TheVariants as asked
-use Rattle.search.specs.declared.Told.{Told}
-use Rattle.search.specs.declared.Told.TheVariants as told
 use Rattle.search.specs.Calls.{Call, asks, gives}
-
--- what the code's answers say
-abbrev pub asked_of : Asked → Answer ℕ
-asked_of (asked.Probe m) = given m
-asked_of (asked.Refused r) = refused (number_of r)
-
-abbrev pub told_of : Told → Answer Search
-told_of (told.State s) = given s
-told_of (told.Refused r) = refused (number_of r)
 
 -- what it says names no place, or one of the places 1 .. e
 abbrev pub SaysIn : ℕ → Said → Type 0

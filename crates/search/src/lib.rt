@@ -2,12 +2,11 @@
 #![tactic(auto)]
 
 ghost use Rattle.std.specs.Prelude.{◌≡◌, true};
-ghost use Rattle.answers.specs.Checks.{answer};
-ghost use Rattle.answers.specs.Verdicts.{Judges};
+ghost use Rattle.answers.specs.Checks.{check, answer};
+ghost use Rattle.answers.specs.Results.{answer_of, answer_as};
 ghost use Rattle.search.specs.Search.{new_search, counts, halves, short, sound, sound_for, says, ended, wanted, lost_so_far, settles, narrowed, settled, once_more, next, call_checks, ask, give};
-ghost use Rattle.search.specs.Answers.{asked_of, told_of};
 
-use answers::{Refusal, Verdict};
+use answers::Refusal;
 use plant::Plant;
 
 // How often a probe is sent at most: it counts as lost when so many sendings in a row were lost.
@@ -15,7 +14,7 @@ const TRIES: usize = 3;
 
 // Checking a number of links, halving the places from low to high, all links are up, or the link at a place is down. Places count from 1 in the order of links. The
 // last number of Checking and Halving is how many sendings of the probe wanted were lost so far.
-#[derive(Clone, Copy)]
+#[derive(Clone, Copy, Debug, PartialEq, Eq)]
 pub enum Search {
     Checking(u16, u8),
     Halving(u16, u16, u8),
@@ -24,7 +23,7 @@ pub enum Search {
 }
 
 // What a state says: nothing yet, that all links are up, or that the link at a place is down.
-#[derive(Clone, Copy)]
+#[derive(Clone, Copy, Debug, PartialEq, Eq)]
 pub enum Said {
     Open,
     AllUp,
@@ -32,33 +31,26 @@ pub enum Said {
 }
 
 // The outcome of a sending of a probe, as it is given to a search. Which one a run has is read out of it by `packet::outcome_of`.
-#[derive(Clone, Copy)]
+#[derive(Clone, Copy, Debug, PartialEq, Eq)]
 pub enum Outcome {
     Returned,
     Lost,
 }
 
-// The probe to send, or a refusal.
-#[derive(Clone, Copy)]
-pub enum Asked {
-    Probe(u16),
-    Refused(Refusal),
-}
-
-// The next state, or a refusal.
-#[derive(Clone, Copy)]
-pub enum Told {
-    State(Search),
-    Refused(Refusal),
-}
-
 // The state that the last accepted outcome returned; the number of probes: how many accepted outcomes settled theirs; the number of packets: how many outcomes were
 // accepted.
-#[derive(Clone, Copy)]
+#[derive(Clone, Copy, Debug, PartialEq, Eq)]
 pub struct Progress {
     pub state: Search,
     pub probes: usize,
     pub packets: usize,
+}
+
+// A search that was judged: refusal 14 does not meet it.
+#[derive(Clone, Copy)]
+struct Judged {
+    search: Search,
+    ghost is_sound: { sound search ≡ true },
 }
 
 impl Search {
@@ -79,8 +71,8 @@ impl Search {
         ensures { result ≡ sound self }
     {
         match self {
-            Search::Checking(count, lost) => counts(count) && short(lost as usize),
-            Search::Halving(low, high, lost) => halves(low, high) && short(lost as usize),
+            Search::Checking(count, lost) => counts(count) && short(usize::from(lost)),
+            Search::Halving(low, high, lost) => halves(low, high) && short(usize::from(lost)),
             Search::AllUp => true,
             Search::Down(place) => counts(place),
         }
@@ -103,8 +95,7 @@ impl Search {
         ensures { result ≡ says self }
     {
         match self {
-            Search::Checking(_, _) => Said::Open,
-            Search::Halving(_, _, _) => Said::Open,
+            Search::Checking(..) | Search::Halving(..) => Said::Open,
             Search::AllUp => Said::AllUp,
             Search::Down(place) => Said::Down(place),
         }
@@ -114,24 +105,7 @@ impl Search {
     pub fn ended(self) -> bool
         ensures { result ≡ ended self }
     {
-        match self.says() {
-            Said::Open => false,
-            Said::AllUp => true,
-            Said::Down(_) => true,
-        }
-    }
-
-    // The probe to send.
-    fn wanted(self) -> u16
-        requires { sound self ≡ true }
-        ensures { result ≡ wanted self }
-    {
-        match self {
-            Search::Checking(count, _) => count,
-            Search::Halving(low, high, _) => (low + high) / 2,
-            Search::AllUp => 0,
-            Search::Down(_) => 0,
-        }
+        self.says() != Said::Open
     }
 
     // The sendings lost so far of the probe that is wanted.
@@ -139,10 +113,8 @@ impl Search {
         ensures { result ≡ lost_so_far self }
     {
         match self {
-            Search::Checking(_, lost) => lost,
-            Search::Halving(_, _, lost) => lost,
-            Search::AllUp => 0,
-            Search::Down(_) => 0,
+            Search::Checking(_, lost) | Search::Halving(_, _, lost) => lost,
+            Search::AllUp | Search::Down(_) => 0,
         }
     }
 
@@ -152,17 +124,56 @@ impl Search {
     {
         match o {
             Outcome::Returned => true,
-            Outcome::Lost => !short(self.lost_so_far() as usize + 1),
+            Outcome::Lost => !short(usize::from(self.lost_so_far()) + 1),
+        }
+    }
+
+    // Refusals 14 and 15 of a call to a search.
+    fn judge(self) -> Result<Judged, Refusal>
+        ensures { answer_as (λ j. j.search) result ≡ answer (check (call_checks self) self) }
+    {
+        if !self.sound() {
+            return Err(Refusal::SearchUnsound);
+        }
+        if self.ended() {
+            return Err(Refusal::SearchEnded);
+        }
+        Ok(Judged { search: self })
+    }
+
+    // The call for a probe.
+    pub fn ask(self) -> Result<u16, Refusal>
+        ensures { answer_of result ≡ answer (ask self) }
+    {
+        Ok(self.judge()?.wanted())
+    }
+
+    // The call that gives an outcome.
+    pub fn give(self, o: Outcome) -> Result<Search, Refusal>
+        ensures { answer_of result ≡ answer (give self o) }
+    {
+        Ok(self.judge()?.next(o))
+    }
+}
+
+impl Judged {
+    // The probe to send. A search that has ended wants none, and 0 stands for that, as in the definition `wanted`, which promises cite.
+    fn wanted(self) -> u16
+        ensures { result ≡ wanted self.search }
+    {
+        match self.search {
+            Search::Checking(count, _) => count,
+            Search::Halving(low, high, _) => (low + high) / 2,
+            Search::AllUp | Search::Down(_) => 0,
         }
     }
 
     // The state after the probe that is wanted counts as returned or lost; no sending of the next one is lost.
     fn settled(self, o: Outcome) -> Search
-        requires { sound self ≡ true }
-        ensures { result ≡ settled self o }
+        ensures { result ≡ settled self.search o }
     {
         let m = self.wanted();
-        match self {
+        match self.search {
             Search::Checking(count, _) => match o {
                 Outcome::Returned => Search::AllUp,
                 Outcome::Lost => narrowed(1, count, 0),
@@ -171,70 +182,29 @@ impl Search {
                 Outcome::Returned => narrowed(m + 1, high, 0),
                 Outcome::Lost => narrowed(low, m, 0),
             },
-            Search::AllUp => self,
-            Search::Down(_) => self,
+            Search::AllUp | Search::Down(_) => self.search,
         }
     }
 
     // The state after one more of its sendings was lost, and the probe does not count yet.
     fn once_more(self) -> Search
-        requires { sound self ≡ true }
-        ensures { result ≡ once_more self }
+        ensures { result ≡ once_more self.search }
     {
-        match self {
+        match self.search {
             Search::Checking(count, lost) => Search::Checking(count, lost + 1),
             Search::Halving(low, high, lost) => Search::Halving(low, high, lost + 1),
-            Search::AllUp => self,
-            Search::Down(_) => self,
+            Search::AllUp | Search::Down(_) => self.search,
         }
     }
 
     // The state after a sending of the probe that is wanted had an outcome.
     fn next(self, o: Outcome) -> Search
-        requires { sound self ≡ true }
-        ensures { result ≡ next self o }
+        ensures { result ≡ next self.search o }
     {
-        if self.settles(o) {
+        if self.search.settles(o) {
             self.settled(o)
         } else {
             self.once_more()
-        }
-    }
-
-    // Refusals 14 and 15 of a call to a search.
-    fn judge(self) -> Verdict
-        ensures { Judges (call_checks self) result }
-    {
-        let sound = self.sound();
-        let ended = self.ended();
-        if !sound {
-            return Verdict::Refused(Refusal::SearchUnsound);
-        }
-        if ended {
-            return Verdict::Refused(Refusal::SearchEnded);
-        }
-        Verdict::Accepted
-    }
-
-    // The call for a probe.
-    #[tactic(auto, unfolding(crate::specs::Search::ask))]
-    pub fn ask(self) -> Asked
-        ensures { asked_of result ≡ answer (ask self) }
-    {
-        match self.judge() {
-            Verdict::Accepted => Asked::Probe(self.wanted()),
-            Verdict::Refused(k) => Asked::Refused(k),
-        }
-    }
-
-    // The call that gives an outcome.
-    #[tactic(auto, unfolding(crate::specs::Search::give))]
-    pub fn give(self, o: Outcome) -> Told
-        ensures { told_of result ≡ answer (give self o) }
-    {
-        match self.judge() {
-            Verdict::Accepted => Told::State(self.next(o)),
-            Verdict::Refused(k) => Told::Refused(k),
         }
     }
 }
@@ -243,14 +213,14 @@ impl Search {
 fn counts(n: u16) -> bool
     ensures { result ≡ counts n }
 {
-    0 < n && n as usize <= Plant::MAX_LINKS
+    0 < n && usize::from(n) <= Plant::MAX_LINKS
 }
 
 // Can they be the places that are left to halve?
 fn halves(low: u16, high: u16) -> bool
     ensures { result ≡ halves low high }
 {
-    0 < low && (low < high && high as usize <= Plant::MAX_LINKS)
+    0 < low && (low < high && usize::from(high) <= Plant::MAX_LINKS)
 }
 
 // Are so many sendings lost fewer than settle a probe?

@@ -1,14 +1,17 @@
 -- Laws of the rules by sending switch: the total over switches is the number of rules, whatever the rules are; and the counts after one rule more. Assumes nothing.
-use mathlib.Core.Path.{◌≡◌, refl, ap, ◌∙◌, subst}
+use mathlib.Core.Path.{◌≡◌, refl, sym, ap, ◌∙◌}
 use mathlib.Core.Logic.{inl, inr}
 use mathlib.Core.Bool.{Bool}
 use mathlib.Core.List.{List, [], ◌∷◌, ◌++◌, map}
 use Prim.Native.Nat.{ℕ, zero, suc, ◌+◌, ◌≤◌, ◌<◌}
+use native.Mathlib.Numerals.{add-one}
 use native.Mathlib.Omega.{arith}
 use borrow.Author.Tests.{ne_eqb}
 use lib.Dec.{T, eqb}
 use lib.ListN.{length, get_or, set, take, replicate, length-set, length-replicate}
-use lib.Seq.{length-take-le, get_or-take, take-append_seam}
+use lib.Seq.{length-take-le, take_all, take-append_seam}
+use Rattle.std.specs.List as std
+use Rattle.std.proofs.lemmas.List.Sums.{sum_by_more}
 use Rattle.lists.specs.Arrays.{at}
 use Rattle.lists.specs.Count.{bit}
 use Rattle.lists.specs.Members.{In}
@@ -16,10 +19,10 @@ use Rattle.lists.specs.Numbers.{range, keep}
 use Rattle.lists.specs.Sum.{sum}
 use Rattle.lists.proofs.Count.{bit_le_one}
 use Rattle.lists.proofs.Members.{get_d_same}
-use Rattle.lists.proofs.Numbers.{keep_in, values-are, values-at}
+use Rattle.lists.proofs.Numbers.{keep_in, values-are, values_length, values-at}
 use Rattle.lists.proofs.Arrays.{take_next, at_more}
 use Rattle.lists.proofs.Sum.{sum_same, sum_plus, sum-none, sum_one}
-use Rattle.limits.specs.Limits.{max_switches}
+use Rattle.limits.specs.Limits.{max_switches, max_rules}
 use Rattle.table.specs.declared.Rule.{Rule}
 use Rattle.table.specs.declared.Table.{Table}
 use Rattle.table.specs.Rules.{zero_rule, table_with, rule_for, rules_in}
@@ -94,33 +97,65 @@ counts-next rs r l h c = record {
 pub counts_are : (rs : List Rule) (l : List ℕ) → CountsOf rs l → l ≡ map (sent_by rs) (range 0 max_switches)
 counts_are rs l c = values-are (sent_by rs) 0 max_switches l c.places c.tells
 
+-- ---- the sum of an array
+
+-- as the library says it
+abbrev pub total : List ℕ → ℕ
+total = std.sum
+
+total_front : (l : List ℕ) (n : ℕ) → n ≤ length l → total (take n l) ≡ sum n (at l)
+unfolding sum
+total_front l zero h = refl
+total_front l (suc n) h =
+    omega (arith, total_front l n (omega arith), sum_by_more (λ x. x) l n 0 (omega arith), ap (λ (k : ℕ). total (take k l)) (add-one n))
+
+total-of : (n : ℕ) (l : List ℕ) → length l ≡ n → total l ≡ sum n (at l)
+total-of n l e = ap total (sym (take_all n l (omega (arith, e)))) ∙ total_front l n (omega (arith, e))
+
 -- ---- of a table
 
 module _ (t : Table) (f : Placed t) where
-  -- the rule at place k, which is one of those held
-  module _ (k : ℕ) (h : k < t.count) where
-    pub sender_in : (get_or t.rules k zero_rule).from < max_switches
-    sender_in =
-        subst (λ (r : Rule). r.from < max_switches) (get_or-take t.count t.rules k zero_rule h)
-        (omega (arith, f.senders, sender_before (rules_held t) k zero_rule (omega (arith, f.few, f.places, length-take-le t.count t.rules (omega (arith, f.few, f.places))))))
+  -- the rules that it holds, as the code reads them
+  module _ {n : ℕ} (all : n ≡ t.count) where
+    abbrev rs : List Rule
+    rs = take n t.rules
 
-    module _ (l : List ℕ) (c : CountsOf (take k t.rules) l) where
-      pub counts-after : (x : ℕ) → x ≡ (get_or t.rules k zero_rule).from → CountsOf (take (k + 1) t.rules) (set l x (at l x + 1))
-      counts-after x e =
-          rw (e, take_next zero_rule t.rules k (omega (arith, f.few, f.places)))
-          (counts-next (take k t.rules) (get_or t.rules k zero_rule) l sender_in c)
+    holds : rs ≡ rules_held t
+    holds = ap (λ (i : ℕ). take i t.rules) all
 
-      -- a count stays small
-      pub count_most : (x : ℕ) → x < max_switches → at l x ≤ k
-      count_most x i =
-          omega (arith, c.tells x i, sent-most (take k t.rules) x, length-take-le k t.rules (omega (arith, f.few, f.places)))
+    few_held : length rs ≤ max_rules
+    few_held = omega (arith, f.few, ap length holds, length-take-le t.count t.rules (omega (arith, f.few, f.places)))
+
+    -- the rule at place k
+    module _ (k : ℕ) (h : k < length rs) where
+      pub sender_in : (x : ℕ) → x ≡ (get_or rs k zero_rule).from → x < max_switches
+      sender_in x e = omega (arith, e, sender_before rs k zero_rule h, ap past_senders holds, f.senders)
+
+      module _ (l : List ℕ) (c : CountsOf (take k rs) l) (x : ℕ) (e : x ≡ (get_or rs k zero_rule).from) where
+        pub counts-after : CountsOf (take (k + 1) rs) (set l x (at l x + 1))
+        counts-after =
+            rw (take_next zero_rule rs k h, e)
+            (counts-next (take k rs) (get_or rs k zero_rule) l (sender_in (get_or rs k zero_rule).from refl) c)
+
+        -- a count stays small
+        pub count_most : at l x < max_rules
+        count_most =
+            omega (arith, h, few_held, c.tells x (sender_in x e), sent-most (take k rs) x, length-take-le k rs (omega arith))
+
+    -- with all of them
+    pub counts_all : (k : ℕ) (l : List ℕ) → length rs ≤ k → CountsOf (take k rs) l → l ≡ (by_switch t).counts
+    unfolding by_switch
+    counts_all k l h c = counts_are (rules_held t) l (rw (take_all k rs h, holds) at c)
 
   -- the sum of the places is the total over switches
-  pub places-total : sum max_switches (at (by_switch t).counts) ≡ over_switches (rules_held t)
+  pub places-total : (l : List ℕ) → l ≡ (by_switch t).counts → total l ≡ over_switches (rules_held t)
   unfolding by_switch
-  places-total =
-      sum_same max_switches (at (map (sent_by (rules_held t)) (range 0 max_switches))) (sent_by (rules_held t)) (λ x h. values-at (sent_by (rules_held t)) 0 max_switches x h)
+  places-total l e =
+      rw e (
+      total-of max_switches (map (sent_by (rules_held t)) (range 0 max_switches)) (values_length (sent_by (rules_held t)) 0 max_switches)
+      ∙ sum_same max_switches (at (map (sent_by (rules_held t)) (range 0 max_switches))) (sent_by (rules_held t)) (λ x h. values-at (sent_by (rules_held t)) 0 max_switches x h)
       ∙ omega (arith, sent-all (rules_held t) max_switches f.senders, over_switches_is (rules_held t))
+      )
 
-  pub total-most : over_switches (rules_held t) ≤ t.count
-  total-most = omega (arith, over_switches_is (rules_held t), length-take-le t.count t.rules (omega (arith, f.few, f.places)))
+  pub total-most : over_switches (rules_held t) ≤ max_rules
+  total-most = omega (arith, over_switches_is (rules_held t), few_held {n = t.count} refl)

@@ -1,10 +1,7 @@
 // The rules of a forwarding table by sending switch (document 02, order 2). Inner: the calls are those of docs/CALLS.md.
 #![tactic(auto)]
 
-ghost use Rattle.std.specs.Prelude.{◌≡◌, ◌^◌, ◌<◌};
-ghost use Rattle.lists.specs.Arrays.{at};
-ghost use Rattle.lists.specs.Sum.{sum};
-ghost use Rattle.limits.specs.Limits.{max_switches};
+ghost use Rattle.std.specs.Prelude.{◌≡◌};
 ghost use Rattle.senders.specs.Senders.{none_sent, by_switch};
 ghost use Rattle.senders.specs.Placed.{Placed};
 
@@ -12,7 +9,7 @@ use plant::Plant;
 use table::{Table, sender_of};
 
 // How many rules each switch sends by, at the place of the switch, and their total over switches.
-#[derive(Clone, Copy)]
+#[derive(Clone, Copy, Debug, PartialEq, Eq)]
 pub struct BySwitch {
     pub counts: [u16; Plant::PLACES],
     pub total: u16,
@@ -30,42 +27,15 @@ impl BySwitch {
     }
 }
 
-// How many rules of a table each switch sends by.
-fn sent_by_each(t: Table) -> [u16; Plant::PLACES]
-    requires { Placed t }
-    ensures { result ≡ (by_switch t).counts }
-{
-    let n = t.count as usize;
-    let mut counts = [0u16; Plant::PLACES];
-    let mut k: usize = 0;
-    while k < n {
-        let x = sender_of(t.rules[k]);
-        counts[x] += 1;
-        k += 1;
-    }
-    counts
-}
-
-// The total over all switch places.
-fn total_of(counts: &[u16; Plant::PLACES]) -> u16
-    requires { sum max_switches (at counts.now) < 2 ^ 16 }
-    ensures { result ≡ sum max_switches (at counts.now) }
-{
-    let mut total: u16 = 0;
-    let mut x: usize = 0;
-    while x < Plant::PLACES {
-        total += counts[x];
-        x += 1;
-    }
-    total
-}
-
 // The rules of a table by sending switch, and their total over switches.
 pub fn by_switch(t: Table) -> BySwitch
     requires { Placed t }
     ensures { result ≡ by_switch t }
 {
-    let counts = sent_by_each(t);
-    let total = total_of(&counts);
-    BySwitch { counts, total }
+    let mut b = BySwitch::none();
+    for rule in &t.rules[..usize::from(t.count)] {
+        b.counts[sender_of(*rule)] += 1;
+    }
+    b.total = b.counts.iter().sum();
+    b
 }

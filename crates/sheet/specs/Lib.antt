@@ -1,7 +1,6 @@
 pub mod Columns
 pub mod Page
 pub mod Form
-pub mod Answers
 pub mod Shown
 pub mod Numbers
 pub mod Cases

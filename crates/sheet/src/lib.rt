@@ -8,11 +8,9 @@ ghost use Rattle.text.specs.Lines.{each};
 ghost use Rattle.text.specs.Laid.{Room, Laid};
 ghost use Rattle.sheet.specs.Columns.{line_columns};
 ghost use Rattle.sheet.specs.Page.{switch_line, total_line, buying_page, page_length};
-ghost use Rattle.sheet.specs.Answers.{no_counts};
 ghost use Rattle.sheet.specs.Shown.{ThreeDigits};
 ghost use Rattle.sheet.specs.Numbers.{numbers_of};
 
-use answers::Verdict;
 use columns::{LAST, LINE, LINKS, LINKS_END, RULES, SWITCH};
 use plant::Plant;
 
@@ -26,26 +24,12 @@ pub struct Sheet {
     pub quantity: u32,
 }
 
-// The counts that were read. At a refusal every number is zero.
+// Counts that a page can hold: there are not too many switches, and each number has at most three digits.
 #[derive(Clone, Copy)]
-pub struct PageRead {
-    pub verdict: Verdict,
+pub struct Quote {
     pub sheet: Sheet,
-}
-
-impl Sheet {
-    // No counts.
-    pub fn none() -> Sheet
-        ensures { result ≡ no_counts }
-    {
-        Sheet {
-            switches: 0,
-            rules: [0; Plant::PLACES],
-            links: [0; Plant::PLACES],
-            total: 0,
-            quantity: 0,
-        }
-    }
+    pub ghost few: { sheet.switches ≤ max_switches },
+    pub ghost three_digits: { ThreeDigits sheet },
 }
 
 // What follows the first field of a line: two numbers, spaces and the line's end.
@@ -61,39 +45,33 @@ fn put_numbers(buf: &mut [u8], at: usize, rules: u16, links: u32) -> usize
 }
 
 // The line of switch x.
-fn put_switch(s: Sheet, x: usize, buf: &mut [u8], at: usize) -> usize
-    requires three_digits { ThreeDigits s }
-    requires x_lt_switches { (x < s.switches) × (s.switches ≤ max_switches) }
+fn put_switch(quote: &Quote, x: usize, buf: &mut [u8], at: usize) -> usize
+    requires x_lt_switches { x < quote.now.sheet.switches }
     requires line_columns_in_bounds { at + line_columns ≤ length buf.old }
-    ensures { Laid buf.old at (switch_line s x) buf.new result }
+    ensures { Laid buf.old at (switch_line quote.now.sheet x) buf.new result }
 {
+    let s = &quote.sheet;
     let next = columns::put_right(buf, at, SWITCH, x as u32);
     put_numbers(buf, next, s.rules[x], s.links[x] as u32)
 }
 
 // The last line.
-fn put_total(s: Sheet, buf: &mut [u8], at: usize) -> usize
-    requires three_digits { ThreeDigits s }
+fn put_total(quote: &Quote, buf: &mut [u8], at: usize) -> usize
     requires line_columns_in_bounds { at + line_columns ≤ length buf.old }
-    ensures { Laid buf.old at (total_line s) buf.new result }
+    ensures { Laid buf.old at (total_line quote.now.sheet) buf.new result }
 {
     let next = columns::put_left(buf, at, SWITCH, b"total");
-    put_numbers(buf, next, s.total, s.quantity)
+    put_numbers(buf, next, quote.sheet.total, quote.sheet.quantity)
 }
 
 // The line of each switch.
-fn put_switches(s: Sheet, buf: &mut [u8]) -> usize
-    requires three_digits { ThreeDigits s }
-    requires switches_le_max_switches { s.switches ≤ max_switches }
-    requires s_in_bounds { page_length s ≤ length buf.old }
-    ensures { Laid buf.old 0 (each (switch_line s) (range 0 s.switches)) buf.new result }
+fn put_switches(quote: &Quote, buf: &mut [u8]) -> usize
+    requires { page_length quote.now.sheet ≤ length buf.old }
+    ensures { Laid buf.old 0 (each (switch_line quote.now.sheet) (range 0 quote.now.sheet.switches)) buf.new result }
 {
-    let n = s.switches as usize;
     let mut next: usize = 0;
-    let mut x: usize = 0;
-    while x < n {
-        next = put_switch(s, x, buf, next);
-        x += 1;
+    for x in 0..usize::from(quote.sheet.switches) {
+        next = put_switch(quote, x, buf, next);
     }
     next
 }
@@ -106,12 +84,10 @@ pub fn page_length(switches: u8) -> usize
 }
 
 // The page of these counts at the front of the buffer.
-pub fn put_page(s: Sheet, buf: &mut [u8])
-    requires three_digits { ThreeDigits s }
-    requires switches_le_max_switches { s.switches ≤ max_switches }
-    requires s_in_bounds { page_length s ≤ length buf.old }
-    ensures { buf.new ≡ buying_page s ++ drop (page_length s) buf.old }
+pub fn put_page(quote: &Quote, buf: &mut [u8])
+    requires { page_length quote.now.sheet ≤ length buf.old }
+    ensures { buf.new ≡ buying_page quote.now.sheet ++ drop (page_length quote.now.sheet) buf.old }
 {
-    let last = put_switches(s, buf);
-    put_total(s, buf, last);
+    let last = put_switches(quote, buf);
+    put_total(quote, buf, last);
 }

@@ -8,7 +8,7 @@ ghost use Rattle.streams.specs.Streams.{AppendsFront, ConsumesFront, Grows, IsPr
 use std::io;
 use std::io::{Read, Write};
 
-// Reads to the front of the buffer until it is full or the reader ends; how many bytes were read.
+// Reads to the front of the buffer until it is full or the reader ends; how many bytes were read. The library's `read_exact` does not tell how many came before the end.
 #[tactic(auto, unfolding(crate::specs::Streams::Shrinks))]
 pub fn fill<R: Read>(reader: &mut R, buf: &mut [u8]) -> io::Result<usize>
     ensures front { IfOk result (λ n. IsPrefixLen n buf.new) }
@@ -28,7 +28,7 @@ pub fn fill<R: Read>(reader: &mut R, buf: &mut [u8]) -> io::Result<usize>
     Ok(done)
 }
 
-// Writes all of the bytes. After an error a front of them is written.
+// Writes all of the bytes. After an error a front of them is written: the library's `write_all` does not say so, and tries an interrupted call again.
 #[tactic(auto, unfolding(crate::specs::Streams::Grows))]
 pub fn put<W: Write>(out: &mut W, bytes: &[u8]) -> io::Result<()>
     ensures ok { OnOk result (Appends (W.contents out.old) (W.contents out.new) bytes.now) }

@@ -9,14 +9,15 @@ ghost use Rattle.table.specs.Rules.{table_with, table_in};
 
 use plant::Plant;
 
-#[derive(Clone, Copy)]
+#[derive(Clone, Copy, Debug, PartialEq, Eq)]
 pub struct Rule {
     pub from: u8,
     pub label: u16,
     pub to: u8,
 }
 
-#[derive(Clone, Copy)]
+// `count` places of `rules` are in use; the others are zero. The array has a place for each rule of any plant, since nothing is kept on a heap.
+#[derive(Clone, Copy, Debug, PartialEq, Eq)]
 pub struct Table {
     pub count: u16,
     pub rules: [Rule; Plant::MAX_RULES],
@@ -48,20 +49,16 @@ pub fn table_of(
     ensures { result ≡ table_in n (at tails.now) (at heads.now) (flag used.now) }
 {
     let mut t = Table::empty();
-    let end = n as usize;
-    let mut a: usize = 0;
-    while a < end {
-        let in_use = used[a];
-        if in_use {
-            let k = t.count as usize;
-            t.rules[k] = Rule {
+    for label in 0..n {
+        let a = usize::from(label);
+        if used[a] {
+            t.rules[usize::from(t.count)] = Rule {
                 from: tails[a],
-                label: a as u16,
+                label,
                 to: heads[a],
             };
             t.count += 1;
         }
-        a += 1;
     }
     t
 }
@@ -70,5 +67,5 @@ pub fn table_of(
 pub fn sender_of(r: Rule) -> usize
     ensures { result ≡ r.from }
 {
-    r.from as usize
+    usize::from(r.from)
 }

@@ -1,16 +1,13 @@
 -- Laws of bytes laid into a buffer, one after the other. Assumes nothing.
 use mathlib.Core.Path.{◌≡◌, refl, sym, ap, ap₂, ◌∙◌}
-use mathlib.Core.List.{List, [], ◌∷◌, ◌++◌}
+use mathlib.Core.List.{List, [], ◌∷◌, ◌++◌, append_assoc}
 use Prim.Native.Nat.{ℕ, ◌+◌, ◌≤◌, ◌<◌}
 use native.Mathlib.Omega.{arith}
 use lib.ListN.{length, set, take, drop, length-append, length-set}
-use lib.Seq.{sets, sets-eq, length-sets, length-take-le, take-append_seam}
+use lib.Seq.{drop-drop, sets, sets-eq, length-sets, length-take-le, take-append_seam}
+use borrow.Rule.Slice.PartMut.{put_mid}
 use Rattle.text.specs.Laid.{Laid}
 use Rattle.lists.proofs.Arrays.{sets-append}
-
--- no bytes
-pub laid_none : (b : List ℕ) (at : ℕ) → at ≤ length b → Laid b at [] b at
-laid_none b at h = record { buffer = refl; place = omega arith; within = h; front = sym (length-take-le at b h) }
 
 -- one byte
 pub laid-byte : (b : List ℕ) (at x : ℕ) → at < length b → Laid b at (x ∷ []) (set b at x) (at + 1)
@@ -51,3 +48,10 @@ laid-front b xs b' next l =
     let e : next ≡ length xs = omega (arith, l.place) in
     let h : 0 + length xs ≤ length b = omega (arith, laid_same l, l.within, l.place) in
     rw (e, l.buffer, sets-eq xs b 0 h) (take-append_seam xs (drop (0 + length xs) b))
+
+-- written over the part of the buffer that is as long as they are, they are laid there
+pub laid-put : (b : List ℕ) (at k : ℕ) (xs ys : List ℕ) → k ≡ length xs → ys ≡ xs → at + length xs ≤ length b → Laid b at xs (put_mid at k b ys) (at + length xs)
+laid-put b at k xs ys e q room =
+    let put : put_mid at k b ys ≡ sets b at xs = rw (e, q, sets-eq xs b at room, drop-drop (length xs) at b, append_assoc (take at b) xs (drop (at + length xs) b)) refl in
+    let w : at + length xs ≤ length (put_mid at k b ys) = omega (arith, ap length put, length-sets b at xs) in
+    record { buffer = put; place = refl; within = w; front = sym (length-take-le (at + length xs) (put_mid at k b ys) w) }

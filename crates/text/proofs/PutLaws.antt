@@ -1,33 +1,14 @@
--- The loops that lay a word, or pieces such as numbers: what is laid before a turn, and what the turn lays, is what is laid after it. Assumes nothing.
+-- The loop that lays pieces such as numbers: what is laid before a turn, and what the turn lays, is what is laid after it. Assumes nothing.
 use mathlib.Core.Path.{◌≡◌, refl, sym, ap, ◌∙◌}
 use mathlib.Core.List.{List, [], ◌∷◌, ◌++◌, append-nil, append_assoc}
 use Prim.Native.Nat.{ℕ, zero, suc, ◌+◌, ◌≤◌, ◌<◌}
 use native.Mathlib.Numerals.{add-one}
 use native.Mathlib.Omega.{arith}
-use lib.ListN.{length, get_or, set, take, length-append}
-use lib.Seq.{length-take-le, take_all, take-suc}
-use Rattle.text.specs.Decimal.{decimal}
-use Rattle.text.specs.Lines.{space, newline, each, spaced, spaced_all, line}
+use lib.ListN.{length, get_or, take, length-append}
+use lib.Seq.{take-suc}
+use Rattle.text.specs.Lines.{newline, each, spaced_all, line}
 use Rattle.text.specs.Laid.{Room, Laid}
-use Rattle.lists.proofs.Arrays.{take_next}
-use Rattle.text.proofs.LaidLaws.{laid_none, laid-byte, laid_same, laid_then}
-
--- ---- a word, byte by byte
-
-module _ {b : List ℕ} {at : ℕ} (word : List ℕ) {c : List ℕ} {next : ℕ} (i : ℕ) (h : i < length word) (l : Laid b at (take i word) c next) where
-  pub word_room : Room b at word → next < length c
-  word_room room = omega (arith, laid_same l, l.place, length-take-le i word (omega arith))
-
-  pub word_next : Room b at word → Laid b at (take (i + 1) word) (set c next (get_or word i 0)) (next + 1)
-  word_next room = rw (take_next 0 word i h) (laid_then l (laid-byte c next (get_or word i 0) (word_room room)))
-
-pub word_all : {b : List ℕ} {at : ℕ} (word : List ℕ) {c : List ℕ} {next : ℕ} (i : ℕ) → length word ≤ i → Laid b at (take i word) c next → Laid b at word c next
-word_all word i h l = rw (take_all i word h) at l
-
--- ---- a number after a space
-
-pub spaced-laid : (b : List ℕ) (at n : ℕ) {c : List ℕ} {next : ℕ} → Room b at (spaced n) → Laid (set b at space) (at + 1) (decimal n) c next → Laid b at (spaced n) c next
-spaced-laid b at n room l = laid_then (laid-byte b at space (omega arith)) l
+use Rattle.text.proofs.LaidLaws.{laid_same, laid_then}
 
 -- ---- pieces, one by one
 
@@ -55,9 +36,6 @@ module _ {A : Type 0} (f : A → List ℕ) where
 pub record Turns {A : Type 0} (f : A → List ℕ) (b : List ℕ) (at : ℕ) (xs : List A) (n : ℕ) (c : List ℕ) (next i : ℕ) : Type 0 where
   pub count : i ≤ n
   pub laid : Laid b at (each f (take i xs)) c next
-
-pub turns-none : {A : Type 0} {f : A → List ℕ} {b : List ℕ} {at : ℕ} {xs : List A} {n : ℕ} → at ≤ length b → Turns f b at xs n b at 0
-turns-none {b = b} {at} room = record { count = omega arith; laid = laid_none b at room }
 
 module _ {A : Type 0} {f : A → List ℕ} {b : List ℕ} {at : ℕ} {xs : List A} {n : ℕ} {c : List ℕ} {next i : ℕ} (t : Turns f b at xs n c next i) where
   pub turns-all : n ≤ i → Laid b at (each f (take n xs)) c next

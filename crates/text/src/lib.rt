@@ -1,8 +1,9 @@
 // The lines that the program `rules` prints (document 01, "Edges and marked cases"), laid into a lent buffer of bytes.
-// Each function lays its bytes from place `at` on and answers the place after them. Inner: each asks for room.
+// Each function lays its bytes from place `at` on and answers the place after them: no writer keeps the two, since `Laid` speaks of both, and of the buffer before and after.
+// Inner: each asks for room.
 #![tactic(auto)]
 
-ghost use Rattle.std.specs.Prelude.{◌+◌, ◌≤◌, ◌<◌, ◌∷◌, [], length, take, drop};
+ghost use Rattle.std.specs.Prelude.{◌+◌, ◌≤◌, ◌<◌, ◌∷◌, [], length};
 ghost use Rattle.text.specs.Decimal.{decimal};
 ghost use Rattle.text.specs.Lines.{newline, spaced, spaced_all, line, summary_line, rule_line, trail_line, refusal_of};
 ghost use Rattle.text.specs.Sizes.{summary_most, refusal_most};
@@ -30,33 +31,28 @@ pub fn put_word(buf: &mut [u8], at: usize, word: &[u8]) -> usize
     requires { Room buf.old at word.now }
     ensures { Laid buf.old at word.now buf.new result }
 {
-    let mut next = at;
-    let mut i: usize = 0;
-    while i < word.len() {
-        buf[next] = word[i];
-        next += 1;
-        i += 1;
-    }
-    next
+    let end = at + word.len();
+    buf[at..end].copy_from_slice(word);
+    end
 }
 
-// A number below 1000 in decimal: one, two or three digits.
+// A number below 1000 in decimal: one, two or three digits. They are laid at their place in the buffer; the library prints to a writer.
 pub fn put_short(buf: &mut [u8], at: usize, n: u32) -> usize
     requires { (n < 1000) × Room buf.old at (decimal n) }
     ensures { Laid buf.old at (decimal n) buf.new result }
 {
     if n < 10 {
-        buf[at] = 48 + n as u8;
+        buf[at] = b'0' + n as u8;
         return at + 1;
     }
     if n < 100 {
-        buf[at] = 48 + (n / 10) as u8;
-        buf[at + 1] = 48 + (n % 10) as u8;
+        buf[at] = b'0' + (n / 10) as u8;
+        buf[at + 1] = b'0' + (n % 10) as u8;
         return at + 2;
     }
-    buf[at] = 48 + (n / 100) as u8;
-    buf[at + 1] = 48 + (n / 10 % 10) as u8;
-    buf[at + 2] = 48 + (n % 10) as u8;
+    buf[at] = b'0' + (n / 100) as u8;
+    buf[at + 1] = b'0' + (n / 10 % 10) as u8;
+    buf[at + 2] = b'0' + (n % 10) as u8;
     at + 3
 }
 
@@ -69,7 +65,7 @@ fn put_decimal(buf: &mut [u8], at: usize, n: u32) -> usize
         return put_short(buf, at, n);
     }
     let last = put_decimal(buf, at, n / 10);
-    buf[last] = 48 + (n % 10) as u8;
+    buf[last] = b'0' + (n % 10) as u8;
     last + 1
 }
 
@@ -100,10 +96,8 @@ fn put_numbers(buf: &mut [u8], at: usize, ns: &[u16]) -> usize
     ensures { Laid buf.old at (spaced_all ns.now) buf.new result }
 {
     let mut next = at;
-    let mut i: usize = 0;
-    while i < ns.len() {
-        next = put_number(buf, next, ns[i] as u32);
-        i += 1;
+    for n in ns {
+        next = put_number(buf, next, u32::from(*n));
     }
     next
 }
@@ -145,14 +139,12 @@ pub fn put_rule(buf: &mut [u8], at: usize, from: u16, label: u16, to: u16) -> us
     put_line(buf, at, b"rule", &ns)
 }
 
-// The trail line of `count` of these labels, from place `begin` on.
-pub fn put_trail(buf: &mut [u8], at: usize, labels: &[u16], begin: usize, count: usize) -> usize
-    requires count_in_bounds { begin + count ≤ length labels.now }
-    requires room { Room buf.old at (trail_line (take count (drop begin labels.now))) }
-    ensures { Laid buf.old at (trail_line (take count (drop begin labels.now))) buf.new result }
+// The trail line of these labels.
+pub fn put_trail(buf: &mut [u8], at: usize, labels: &[u16]) -> usize
+    requires { Room buf.old at (trail_line labels.now) }
+    ensures { Laid buf.old at (trail_line labels.now) buf.new result }
 {
-    let end = begin + count;
-    put_line(buf, at, b"trail", &labels[begin..end])
+    put_line(buf, at, b"trail", labels)
 }
 
 // The output of a refusal, at the front of the buffer.
@@ -160,6 +152,6 @@ pub fn put_refusal(buf: &mut [u8], n: u8) -> usize
     requires { refusal_most ≤ length buf.old }
     ensures { Laid buf.old 0 (refusal_of n) buf.new result }
 {
-    let ns = [n as u16];
+    let ns = [u16::from(n)];
     put_line(buf, 0, b"refused", &ns)
 }

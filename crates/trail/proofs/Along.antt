@@ -13,20 +13,36 @@ use Rattle.lists.proofs.Members.{get_d_in}
 use Rattle.limits.specs.Limits.{max_links}
 use Rattle.routes.specs.Meaning.{InUse}
 use Rattle.arcs.specs.declared.Net.{Net}
-use Rattle.arcs.specs.Parts.{Parts}
-use Rattle.arcs.specs.Legs.{route_in, Joined, along, LegsOf}
+use Rattle.arcs.specs.declared.Network.{Network}
+use Rattle.arcs.specs.Net.{rooted}
+use Rattle.arcs.specs.Legs.{route_in, Joined, along}
 use Rattle.arcs.proofs.Ways.{part-joined}
+use Rattle.trail.specs.Ways.{PartsFrom, Trailing}
 use Rattle.trail.proofs.Filled.{Splits}
 
 -- what is left of the trail at u, after k legs
-abbrev pub left_of : Net → List ℕ → List ℕ → List Bool → List ℕ → ℕ → ℕ → List ℕ
-left_of net tails heads used legs k u = along net tails heads used (drop k legs) u
+abbrev pub left_of : {x : Network} {root : ℕ} {legs : List ℕ} → Trailing x root legs → ℕ → ℕ → List ℕ
+left_of {x} {root} {legs} w k u = along (rooted x.net root) x.ends.tails x.ends.heads w.used (drop k legs) u
 
-module _ {net : Net} {tails heads : List ℕ} {used : List Bool} {first after : List ℕ} {t : List (List ℕ)} (p : Parts net tails heads used first after t) {legs : List ℕ}
-    (are : LegsOf net tails heads used legs) (u k : ℕ) (inside : T (p.part u))
+module _ {x : Network} {root : ℕ} {legs : List ℕ} (w : Trailing x root legs) (u k : ℕ) (inside : T (w.parts.part u))
   where
+    abbrev net : Net
+    net = rooted x.net root
+
+    abbrev tails : List ℕ
+    tails = x.ends.tails
+
+    abbrev heads : List ℕ
+    heads = x.ends.heads
+
+    abbrev used : List Bool
+    used = w.used
+
+    abbrev p : PartsFrom x root used
+    p = w.parts
+
     abbrev left : ℕ → ℕ → List ℕ
-    left j v = left_of net tails heads used legs j v
+    left j v = left_of w j v
 
     abbrev way : ℕ → List ℕ
     way v = route_in net tails heads used u v
@@ -52,7 +68,7 @@ module _ {net : Net} {tails heads : List ℕ} {used : List Bool} {first after : 
         a = at legs k
 
         live : InUse net.labels (flag used) a
-        live = are.in_use a (get_d_in legs k h)
+        live = w.legs_are.in_use a (get_d_in legs k h)
 
     -- the way back
     pub record Back : Type 0 where

@@ -9,12 +9,11 @@ use native.Mathlib.Omega.{arith}
 use native.Mathlib.Numerals.{add-one}
 use borrow.Author.Tests.{eqb-true, eq-eqb, ne_eqb}
 use lib.Dec.{eqb}
+use Rattle.std.specs.Prelude.{Option, Some, None}
 use lib.ListN.{length, get_or, set, take, drop, length-set, length-append, drop_of_length-le}
 use lib.Seq.{sets, drop-cons, drop-drop}
 use Rattle.lists.proofs.Arrays.{sets-append, sets-front, laid}
 use Rattle.lists.proofs.Tests.{and_true}
-use Rattle.trail.specs.declared.Compared.{Compared}
-use Rattle.trail.specs.declared.Compared.TheVariants.{Same, Other}
 use Rattle.trail.specs.Filled.{filled_with, begins_with, Tells}
 use Rattle.trail.specs.Ways.{Laid, TellsFrom}
 
@@ -93,7 +92,7 @@ module _ {l : List ℕ} {i₀ : ℕ} {w₀ : List ℕ} where
 
   module _ {i : ℕ} {w : List ℕ} (m : Met l i₀ w₀ i w) where
     module _ {a : ℕ} {v : List ℕ} (e : w ≡ a ∷ v) where
-      pub met-short : length l ≤ i → TellsFrom i₀ l w₀ Other
+      pub met-short : length l ≤ i → TellsFrom i₀ l w₀ None
       unfolding begins_with
       met-short h = sym m.begins ∙ ap₂ begins_with (drop_of_length-le l h) e
 
@@ -102,13 +101,13 @@ module _ {l : List ℕ} {i₀ : ℕ} {w₀ : List ℕ} where
       unfolding begins_with
       first b h q = sym m.begins ∙ ap₂ begins_with (drop-cons l i 0 h) e ∙ ap₂ (λ (c : Bool) (k : ℕ). c && begins_with (drop k l) v) q (sym (add-one i))
 
-      pub met_differs : i < length l → (get_or l i 0 ≡ a → ⊥) → TellsFrom i₀ l w₀ Other
+      pub met_differs : i < length l → (get_or l i 0 ≡ a → ⊥) → TellsFrom i₀ l w₀ None
       met_differs h f = first false h (ne_eqb (get_or l i 0) a f)
 
       pub met-one : i < length l → get_or l i 0 ≡ a → Met l i₀ w₀ (i + 1) v
       met-one h f = record { counted = omega (arith, m.counted, ap length e); begins = sym (first true h (eq-eqb (get_or l i 0) a f)) }
 
-    module _ {x v : List ℕ} (e : Splits w x v) (r : Compared) (t : TellsFrom i l x r) where
+    module _ {x v : List ℕ} (e : Splits w x v) (r : Option ℕ) (t : TellsFrom i l x r) where
       -- by what is told of x
       by : (b : Bool) → begins_with (drop i l) x ≡ b → begins_with (drop i₀ l) w₀ ≡ b && begins_with (drop (i + length x) l) v
       by b q =
@@ -117,30 +116,30 @@ module _ {l : List ℕ} {i₀ : ℕ} {w₀ : List ℕ} where
           ∙ begins-append (drop i l) x v
           ∙ ap₂ (λ (c : Bool) (k : List ℕ). c && begins_with k v) q (drop-drop (length x) i l)
 
-      pub met_other : r ≡ Other → TellsFrom i₀ l w₀ Other
+      pub met_other : r ≡ None → TellsFrom i₀ l w₀ None
       met_other q = by false (subst (TellsFrom i l x) q t)
 
-      pub met_list : {j : ℕ} → r ≡ Same j → Met l i₀ w₀ j v
+      pub met_list : {j : ℕ} → r ≡ Some j → Met l i₀ w₀ j v
       met_list {j} q =
           let f : (begins_with (drop i l) x ≡ true) × (j ≡ i + length x) = subst (TellsFrom i l x) q t in record {
             counted = omega (arith, f.1, m.counted, ap length e.is, length-append x v);
             begins = sym (by true f.0 ∙ ap (λ (k : ℕ). begins_with (drop k l) v) (sym f.1));
           }
 
-    pub met_all : w ≡ [] → TellsFrom i₀ l w₀ (Same i)
+    pub met_all : w ≡ [] → TellsFrom i₀ l w₀ (Some i)
     unfolding begins_with
     met_all e = (sym m.begins ∙ ap (begins_with (drop i l)) e, omega (arith, m.counted, ap length e))
 
 -- what is told of the last list is told of all
-pub met-last : {l w v x : List ℕ} {i₀ i : ℕ} → Met l i₀ w i v → Splits v x [] → (r : Compared) → TellsFrom i l x r → TellsFrom i₀ l w r
-met-last m e (Same j) t = met_all (met_list m e (Same j) t refl) refl
-met-last m e Other t = met_other m e Other t refl
+pub met-last : {l w v x : List ℕ} {i₀ i : ℕ} → Met l i₀ w i v → Splits v x [] → (r : Option ℕ) → TellsFrom i l x r → TellsFrom i₀ l w r
+met-last m e (Some j) t = met_all (met_list m e (Some j) t refl) refl
+met-last m e None t = met_other m e None t refl
 
 -- ---- what is told of lists
 
 module _ (l : List ℕ) where
   -- of none, and of one list after another: by what is told of the first, and then of the second from the place after it
-  pub tells_none : (i : ℕ) → TellsFrom i l [] (Same i)
+  pub tells_none : (i : ℕ) → TellsFrom i l [] (Some i)
   tells_none i = met_all (met-none refl) refl
 
   module _ (i : ℕ) (w v : List ℕ) where
@@ -150,16 +149,16 @@ module _ (l : List ℕ) where
     all : Met l i (w ++ v) i (w ++ v)
     all = met-none refl
 
-    pub tells_other : TellsFrom i l w Other → TellsFrom i l (w ++ v) Other
-    tells_other t = met_other all both Other t refl
+    pub tells_other : TellsFrom i l w None → TellsFrom i l (w ++ v) None
+    tells_other t = met_other all both None t refl
 
-    pub tells_then : (j : ℕ) → TellsFrom i l w (Same j) → (r : Compared) → TellsFrom j l v r → TellsFrom i l (w ++ v) r
-    tells_then j t r q = met-last (met_list all both (Same j) t refl) (record { is = sym (append-nil v) }) r q
+    pub tells_then : (j : ℕ) → TellsFrom i l w (Some j) → (r : Option ℕ) → TellsFrom j l v r → TellsFrom i l (w ++ v) r
+    tells_then j t r q = met-last (met_list all both (Some j) t refl) (record { is = sym (append-nil v) }) r q
 
   -- from place 0 on: of the whole list
-  pub tells-front : (w : List ℕ) (r : Compared) → TellsFrom 0 l w r → Tells l w r
-  tells-front w (Same n) t = (t.0, omega (arith, t.1))
-  tells-front w Other t = t
+  pub tells-front : (w : List ℕ) (r : Option ℕ) → TellsFrom 0 l w r → Tells l w r
+  tells-front w (Some n) t = (t.0, omega (arith, t.1))
+  tells-front w None t = t
 
 -- ---- a list that begins with another and has its length is the other, and so is no other list
 

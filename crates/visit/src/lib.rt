@@ -4,14 +4,19 @@
 ghost use Rattle.std.specs.Prelude.{◌≡◌, ◌*◌, ◌≤◌, ◌<◌};
 ghost use Rattle.lists.specs.Arrays.{at};
 ghost use Rattle.limits.specs.Limits.{max_switches, max_links};
-ghost use Rattle.limits.specs.Sound.{Sound};
-ghost use Rattle.walks.specs.Arcs.{tail, head};
-ghost use Rattle.arcs.specs.Net.{Ends};
 ghost use Rattle.arcs.specs.Shows.{Visits};
 ghost use Rattle.visit.specs.Inner.{SomeArcs, AllChained, enter_of, begin_of, At, Went};
 
-use arcs::{Chains, Visited};
+use arcs::{ArcEnds, Chains, Visited};
 use plant::Plant;
+
+// The chains of all arcs of a plant, which each visit of it goes by, beside the ends of the arcs.
+#[derive(Clone, Copy)]
+pub struct AllChains<'a> {
+    pub ends: &'a ArcEnds,
+    pub chains: Chains,
+    pub ghost all_chained: { AllChained ends.now.plant chains.first chains.after },
+}
 
 // Link l is entered, and the switch `to` is visited.
 fn enter(v: Visited, to: u8, l: usize) -> Visited
@@ -22,44 +27,36 @@ fn enter(v: Visited, to: u8, l: usize) -> Visited
 {
     let mut r = v;
     let i = to as usize;
-    let n = r.next;
-    r.next = n + 1;
+    r.next += 1;
     r.seen[i] = true;
-    r.rank[i] = n;
+    r.rank[i] = v.next;
     r.entered[l] = true;
     r
 }
 
-// The visit goes on from the switch `from`, which is visited. It tries the arcs that leave it by rising label, and calls itself for each switch that it enters. The
+// The visit goes on from the switch `from`, which is visited. It follows the chain of the arcs that leave it, by rising label, and calls itself for each switch that it enters. The
 // number of unvisited switches falls with each call, so it calls itself no deeper than there are switches.
-fn visit_from(
-    heads: &[u8; Plant::LABELS],
-    first: &[u16; Plant::PLACES],
-    after: &[u16; Plant::LABELS],
-    n: u16,
-    v0: Visited,
-    from: u8,
-) -> Visited
+fn visit_from(ends: &ArcEnds, chains: &Chains, n: u16, v0: Visited, from: u8) -> Visited
     requires n_bound { n ≤ 2 * max_links }
-    requires some_arcs { SomeArcs n heads.now first.now after.now }
+    requires some_arcs { SomeArcs n ends.now.heads chains.now.first chains.now.after }
     requires at { At v0 from }
-    ensures { (w : SomeArcs n heads.now first.now after.now) → Went n w.tl (at heads.now) w.ok v0 from result }
+    ensures { (w : SomeArcs n ends.now.heads chains.now.first chains.now.after) → Went n w.tl (at ends.now.heads) w.ok v0 from result }
 {
     let mut v = v0;
-    let mut a = first[from as usize];
+    let mut a = chains.first[from as usize];
     while a < n {
-        let to = heads[a as usize];
-        let j = to as usize;
-        if !v.seen[j] {
-            let l = (a / 2) as usize;
-            v = visit_from(heads, first, after, n, enter(v, to, l), to);
+        let i = a as usize;
+        let to = ends.heads[i];
+        if !v.seen[to as usize] {
+            v = visit_from(ends, chains, n, enter(v, to, i / 2), to);
         }
-        a = after[a as usize];
+        a = chains.after[i];
     }
     v
 }
 
 // The root is visited, and nothing else yet.
+#[tactic(auto, unfolding(crate::specs::Inner::begin_of))]
 fn begin(root: u8) -> Visited
     requires { root < max_switches }
     ensures { result ≡ begin_of root }
@@ -71,54 +68,32 @@ fn begin(root: u8) -> Visited
         rank: [0; Plant::PLACES],
         entered: [false; Plant::MAX_LINKS],
     };
-    let i = root as usize;
-    v.seen[i] = true;
+    v.seen[root as usize] = true;
     v
 }
 
-// The chains of all arcs of a plant, which each visit of it goes by.
-pub fn all_chains(p: Plant, tails: &[u8; Plant::LABELS]) -> Chains
-    requires sound { Sound p }
-    requires tails_value { at tails.now ≡ tail p }
-    ensures { AllChained p result.first result.after }
+// The chains of all arcs of a plant.
+pub fn all_chains(ends: &ArcEnds) -> AllChains<'_>
+    ensures { result.ends.now ≡ ends.now }
 {
-    let n = 2 * p.count;
-    let all = arcs::all_arcs(p);
-    arcs::chains_of(tails, &all, n)
+    let chains = arcs::chains_of(&ends.tails, &arcs::all_arcs(ends), 2 * ends.plant.count);
+    AllChains { ends, chains }
 }
 
 // The depth-first visit from a root by the chains of all arcs.
-pub fn visit_by(
-    p: Plant,
-    heads: &[u8; Plant::LABELS],
-    first: &[u16; Plant::PLACES],
-    after: &[u16; Plant::LABELS],
-    root: u8,
-) -> Visited
-    requires sound { Sound p }
-    requires heads_value { at heads.now ≡ head p }
-    requires all_chained { AllChained p first.now after.now }
-    requires root_lt_switches { root < p.switches }
-    ensures { Visits p root result }
+pub fn visit_by(all: &AllChains, root: u8) -> Visited
+    requires { root < all.now.ends.now.plant.switches }
+    ensures { Visits all.now.ends.now.plant root result }
 {
-    let n = 2 * p.count;
-    visit_from(heads, first, after, n, begin(root), root)
+    let n = 2 * all.ends.plant.count;
+    visit_from(all.ends, &all.chains, n, begin(root), root)
 }
 
 // The depth-first visit from a root.
-pub fn visit(
-    p: Plant,
-    tails: &[u8; Plant::LABELS],
-    heads: &[u8; Plant::LABELS],
-    root: u8,
-) -> Visited
-    requires sound { Sound p }
-    requires ends { Ends p tails.now heads.now }
-    requires root_lt_switches { root < p.switches }
-    ensures { Visits p root result }
+pub fn visit(ends: &ArcEnds, root: u8) -> Visited
+    requires { root < ends.now.plant.switches }
+    ensures { Visits ends.now.plant root result }
 {
-    let c = all_chains(p, tails);
-    let first = c.first;
-    let after = c.after;
-    visit_by(p, heads, &first, &after, root)
+    let all = all_chains(ends);
+    visit_by(&all, root)
 }

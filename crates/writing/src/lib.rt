@@ -1,191 +1,131 @@
 // The writer of a plant's listing (document 01, "Listing bytes"). Inner: the calls are those of docs/CALLS.md.
 #![tactic(auto)]
 
-ghost use Rattle.std.specs.Prelude.{◌≡◌, [], ◌∷◌, ◌+◌, ◌≤◌, length, drop};
+ghost use Rattle.std.specs.Prelude.{◌≡◌, [], ◌∷◌, ◌+◌, ◌^◌, ◌<◌, ◌≤◌, length, drop};
+ghost use Rattle.std.specs.List.{list_all};
 ghost use Rattle.std.proofs.lemmas.List.Edits.{sets};
-ghost use Rattle.lists.specs.Members.{all};
 ghost use Rattle.plant.specs.Links.{zero_link};
-ghost use Rattle.answers.specs.Answers.{refused, number_of};
-ghost use Rattle.answers.specs.Verdicts.{verdict_answer};
 ghost use Rattle.answers.specs.Checks.{answer};
-ghost use Rattle.limits.specs.Limits.{max_links};
-ghost use Rattle.listing.specs.Listing.{service, link_values, links_of, links_bytes, encode};
+ghost use Rattle.answers.specs.Results.{answer_of};
+ghost use Rattle.listing.specs.Listing.{link_values, links_of, links_bytes, encode};
 ghost use Rattle.listing.specs.Writing.{is_zero, sound_links, sound_plant, writing, buffer_after};
-ghost use Rattle.listing.specs.Answers.{write_answer};
 
-use answers::{Refusal, Verdict, first_of, judge_room};
-use codec::Layout;
+use answers::{Refusal, judge, judge_room};
 use encoder::{part_size, put_part};
-use listing::{Written, header_layout, judge_ends, link_layout, out_of_range};
+use listing::{header_fields, judge_ends, link_fields, out_of_range};
 use plant::{Link, Plant};
 
-// The values of a plant's header; a header has no fourth field.
-fn header_values(p: Plant) -> [u32; Layout::MOST]
-    ensures { result ≡ p.switches ∷ p.count ∷ p.start ∷ 0 ∷ [] }
+// The values of a plant's header.
+fn header_values(p: &Plant) -> [u32; 3]
+    ensures { result ≡ p.now.switches ∷ p.now.count ∷ p.now.start ∷ [] }
 {
-    let mut vs = [0u32; Layout::MOST];
-    vs[0] = p.switches as u32;
-    vs[1] = p.count as u32;
-    vs[2] = p.start as u32;
-    vs
+    [
+        u32::from(p.switches),
+        u32::from(p.count),
+        u32::from(p.start),
+    ]
 }
 
-// Is the link in service? 1 if it is, 0 if it is out of service.
-fn service_of(l: Link) -> u32
-    ensures { result ≡ service l }
+// The values of a link: the last is 1 in service, 0 out of service.
+fn link_values(l: &Link) -> [u32; 4]
+    ensures { result ≡ link_values l.now }
 {
-    if l.out_of_service { 0 } else { 1 }
-}
-
-// The values of a link.
-fn link_values(l: Link) -> [u32; Layout::MOST]
-    ensures { result ≡ link_values l }
-{
-    let mut vs = [service_of(l); Layout::MOST];
-    vs[0] = l.first as u32;
-    vs[1] = l.second as u32;
-    vs[2] = l.tag as u32;
-    vs
-}
-
-// Is this the link place that is not in use?
-fn is_zero(l: Link) -> bool
-    ensures { result ≡ is_zero l }
-{
-    if l.first != 0 {
-        return false;
-    }
-    if l.second != 0 {
-        return false;
-    }
-    if l.tag != 0 {
-        return false;
-    }
-    !l.out_of_service
+    [
+        u32::from(l.first),
+        u32::from(l.second),
+        u32::from(l.tag),
+        u32::from(!l.out_of_service),
+    ]
 }
 
 // Is every link place past the links zero?
-fn places_zero(p: Plant) -> bool
-    ensures { result ≡ all is_zero (drop p.count p.links) }
+#[tactic(auto, unfolding(listing::specs::Writing::is_zero))]
+fn places_zero(p: &Plant) -> bool
+    ensures { result ≡ list_all is_zero (drop p.now.count p.now.links) }
 {
-    let mut i = p.count as usize;
-    while i < Plant::MAX_LINKS {
-        if !is_zero(p.links[i]) {
-            return false;
-        }
-        i += 1;
-    }
-    true
+    let zero = Link::zero();
+    p.links
+        .iter()
+        .skip(usize::from(p.count))
+        .all(|l| *l == zero)
 }
 
 // The links that a plant value holds: a count past its places counts as all of them.
-fn links_held(p: Plant) -> usize
-    ensures { (result ≡ length (links_of p)) × (result ≤ max_links) }
+fn links_held(p: &Plant) -> &[Link]
+    ensures links_are { result.now ≡ links_of p.now }
+    ensures few { length result.now < 2 ^ 16 }
 {
-    let n = p.count as usize;
-    if Plant::MAX_LINKS < n {
-        return Plant::MAX_LINKS;
-    }
-    n
+    let links = p.links.as_slice();
+    &links[..usize::from(p.count).min(links.len())]
 }
 
 // Refusals 6 and 7, link by link.
-fn judge_links(p: Plant) -> Verdict
-    ensures { verdict_answer result ≡ answer (sound_links p.switches (links_of p)) }
+fn judge_links(p: &Plant) -> Result<(), Refusal>
+    ensures { answer_of result ≡ answer (sound_links p.now.switches (links_of p.now)) }
 {
-    let n = links_held(p);
-    let switches = p.switches;
-    let mut i: usize = 0;
-    while i < n {
-        let l = p.links[i];
-        match judge_ends(l.first as u32, l.second as u32, switches) {
-            Verdict::Accepted => {}
-            Verdict::Refused(k) => {
-                return Verdict::Refused(k);
-            }
-        }
-        i += 1;
+    for l in links_held(p) {
+        judge_ends(u32::from(l.first), u32::from(l.second), p.switches)?;
     }
-    Verdict::Accepted
+    Ok(())
 }
 
 // Refusals 5, 6 and 7 of any plant value.
-fn judge_plant(p: Plant) -> Verdict
-    ensures { verdict_answer result ≡ answer (sound_plant p) }
+fn judge_plant(p: &Plant) -> Result<(), Refusal>
+    ensures { answer_of result ≡ answer (sound_plant p.now) }
 {
-    if out_of_range(p.switches as u32, p.count as u32, p.start as u32) {
-        return Verdict::Refused(Refusal::ValueOutOfRange);
-    }
-    if !places_zero(p) {
-        return Verdict::Refused(Refusal::ValueOutOfRange);
-    }
+    let outside = out_of_range(
+        u32::from(p.switches),
+        u32::from(p.count),
+        u32::from(p.start),
+    );
+    judge(outside || !places_zero(p), Refusal::ValueOutOfRange)?;
     judge_links(p)
 }
 
 // The length of a plant's listing.
-fn listing_size(p: Plant) -> usize
-    ensures { result ≡ length (encode p) }
+fn listing_size(p: &Plant) -> usize
+    ensures { result ≡ length (encode p.now) }
 {
-    let n = links_held(p);
-    let mut size = part_size(header_layout(), header_values(p));
+    let mut size = part_size(&header_fields(), &header_values(p));
     let mut before = Link::zero();
-    let mut i: usize = 0;
-    while i < n {
-        let l = p.links[i];
-        size += part_size(link_layout(before), link_values(l));
-        before = l;
-        i += 1;
+    for l in links_held(p) {
+        size += part_size(&link_fields(before), &link_values(l));
+        before = *l;
     }
     size
 }
 
 // The links of a plant, from `from` on.
-fn put_links(p: Plant, buf: &mut [u8], from: usize)
-    requires { from + length (links_bytes zero_link (links_of p)) ≤ length buf.old }
-    ensures { buf.new ≡ sets buf.old from (links_bytes zero_link (links_of p)) }
+fn put_links(p: &Plant, buf: &mut [u8], from: usize)
+    requires { from + length (links_bytes zero_link (links_of p.now)) ≤ length buf.old }
+    ensures { buf.new ≡ sets buf.old from (links_bytes zero_link (links_of p.now)) }
 {
-    let n = links_held(p);
     let mut before = Link::zero();
     let mut at = from;
-    let mut i: usize = 0;
-    while i < n {
-        let l = p.links[i];
-        at = put_part(buf, at, link_layout(before), link_values(l));
-        before = l;
-        i += 1;
+    for l in links_held(p) {
+        at = put_part(buf, at, &link_fields(before), &link_values(l));
+        before = *l;
     }
 }
 
 // A plant's listing at the front of the buffer.
-fn put_listing(p: Plant, buf: &mut [u8])
-    requires { length (encode p) ≤ length buf.old }
-    ensures { buf.new ≡ sets buf.old 0 (encode p) }
+fn put_listing(p: &Plant, buf: &mut [u8])
+    requires { length (encode p.now) ≤ length buf.old }
+    ensures { buf.new ≡ sets buf.old 0 (encode p.now) }
 {
-    let from = put_part(buf, 0, header_layout(), header_values(p));
+    let from = put_part(buf, 0, &header_fields(), &header_values(p));
     put_links(p, buf, from);
 }
 
-// A refused writing: the lent buffer stays as it was.
-fn refused_writing(k: Refusal, buffer: &mut [u8]) -> Written
-    ensures result_value { write_answer result ≡ refused (number_of k) }
-    ensures buffer_unchanged { buffer.new ≡ buffer.old }
-{
-    Written::Refused(k)
-}
-
-// The listing of a plant into the front of the lent buffer: its length, or refusals 5, 6, 7 and 16.
-pub fn write(p: Plant, buffer: &mut [u8]) -> Written
-    ensures result_value { write_answer result ≡ answer (writing p buffer.old) }
+// The listing of a plant into the front of the lent buffer: its length, or refusals 5, 6, 7 and 16, which leave the buffer as it was.
+pub fn write(p: Plant, buffer: &mut [u8]) -> Result<usize, Refusal>
+    ensures result_value { answer_of result ≡ answer (writing p buffer.old) }
     ensures buffer_now { buffer.new ≡ buffer_after p buffer.old }
 {
-    let sound = judge_plant(p);
-    let n = listing_size(p);
+    let sound = judge_plant(&p);
+    let n = listing_size(&p);
     let room = judge_room(n, buffer.len(), Refusal::ListingBufferShort);
-    match first_of(sound, room) {
-        Verdict::Accepted => {
-            put_listing(p, buffer);
-            Written::Length(n)
-        }
-        Verdict::Refused(k) => refused_writing(k, buffer),
-    }
+    sound.and(room)?;
+    put_listing(&p, buffer);
+    Ok(n)
 }

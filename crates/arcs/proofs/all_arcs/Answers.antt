@@ -12,19 +12,19 @@ abbrev part : Plant → ℕ → Bool
 part p a = live p (a / 2)
 
 pub loop-a-init : goal.loop-a-init
-loop-a-init c = (omega arith, laid_none false (2 * max_links) (part c.args.p))
+loop-a-init c = laid_none false (2 * max_links) (part c.args.ends.now.plant)
 
 pub loop-a-preserved : goal.loop-a-preserved
 loop-a-preserved c =
     let k = c.loop-a in
-    let few : k.a < 2 * max_links = omega (arith, c.loop-a-test.true, c.requires.few_links) in
-    let told = c.in_service.ensures ∙ sym (live-listed c.args.p (k.a / 2) (omega (arith, c.loop-a-test.true))) in
-    (omega arith, laid_put false (2 * max_links) (part c.args.p) k.a k.r k.invariant.1 _ few told)
+    let few : k.a < 2 * max_links = omega (arith, c.loop-a-test.true, c.from-a-end.ensures, c.args.ends.now.sound.few_links) in
+    let told = c.in_service.ensures ∙ sym (live-listed c.args.ends.now.plant (k.a / 2) (omega (arith, c.loop-a-test.true, c.from-a-end.ensures))) in
+    laid_put false (2 * max_links) (part c.args.ends.now.plant) k.a k.r k.invariant _ few told
 
 pub returns : goal.returns
 returns c =
     let k = c.loop-a in
     record {
-      places = k.invariant.1.places;
-      tells = laid_all false (2 * max_links) (part c.args.p) k.a k.r k.invariant.1 (λ b h. dead_past c.args.p b (omega (arith, c.loop-a-test.false)));
+      places = k.invariant.places;
+      tells = laid_all false (2 * max_links) (part c.args.ends.now.plant) k.a k.r k.invariant (λ b h. dead_past c.args.ends.now.plant b (omega (arith, c.loop-a-test.false, c.from-a-end.ensures)));
     }

@@ -7,6 +7,6 @@ pub returns-then-x-from : goal.returns-then-x-from
 unfolding across_of
 returns-then-x-from c = simp (eq-eqb _ _ c.if-x-from.true)
 
-pub returns : goal.returns
+pub returns-else-x-from : goal.returns-else-x-from
 unfolding across_of
-returns c = simp (ne_eqb _ _ c.if-x-from.false)
+returns-else-x-from c = simp (ne_eqb _ _ c.if-x-from.false)

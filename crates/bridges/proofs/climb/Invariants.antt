@@ -5,7 +5,7 @@ use Rattle.bridges.proofs.Cycles.{Climbing}
 use Rattle.bridges.proofs.climb.Given as goal
 
 abbrev pub invariant-loop-x : goal.invariant-loop-x
-invariant-loop-x l = Climbing l.fn.p l.fn.k l.c l.x l.y
+invariant-loop-x l = Climbing l.all.ends.now.plant l.fn.k l.c l.x l.y
 
 abbrev pub decreases-loop-x : goal.decreases-loop-x
-decreases-loop-x l = at l.v.rank l.x + at l.v.rank l.y
+decreases-loop-x l = at l.all.visited.rank l.x + at l.all.visited.rank l.y

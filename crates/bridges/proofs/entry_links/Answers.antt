@@ -1,32 +1,36 @@
 -- Of the two ends of an entered link the one with the higher number gets it.
-use Rattle.std.proofs.Common.{◌*◌, arith}
+use Rattle.std.proofs.Common.{◌*◌}
 use Rattle.arcs.proofs.Ends.{first_end, second_end, tail-place, head-place}
 use Rattle.bridges.proofs.Cycles.{entry_pass, entry_second, entry_first, entry_all}
 use Rattle.bridges.proofs.entry_links.Goals as goal
-use Rattle.bridges.proofs.entry_links.Goals.{then-v-l+then-v-x, then-v-l+else-v-x, else-v-l}
+use Rattle.bridges.proofs.entry_links.Goals.{then-all-l+then-all-x, then-all-l+else-all-x, else-all-l}
 
-pub bounds-v-x : goal.bounds-v-x
-bounds-v-x c = tail-place c.args.p c.args.tails.now c.requires.ends.tails_are c.requires.sound (2 * c.loop-l.l)
+pub bounds-all-x : goal.bounds-all-x
+bounds-all-x c =
+    let e = c.args.all.now.ends.now in
+    tail-place e.plant e.tails e.ends.tails_are e.sound (2 * c.loop-l.l)
 
-pub bounds-v-y : goal.bounds-v-y
-bounds-v-y c = head-place c.args.p c.args.heads.now c.requires.ends.heads_are c.requires.sound (2 * c.loop-l.l)
+pub bounds-all-y : goal.bounds-all-y
+bounds-all-y c =
+    let e = c.args.all.now.ends.now in
+    head-place e.plant e.heads e.ends.heads_are e.sound (2 * c.loop-l.l)
 
 pub bounds-up-x : goal.bounds-up-x
-bounds-up-x c = tail-place c.args.p c.args.tails.now c.requires.ends.tails_are c.requires.sound (2 * c.loop-l.l)
+bounds-up-x c =
+    let e = c.args.all.now.ends.now in
+    tail-place e.plant e.tails e.ends.tails_are e.sound (2 * c.loop-l.l)
 
 pub loop-l-preserved : goal.loop-l-preserved
 loop-l-preserved c =
-    let h = c.requires in
+    let e = c.args.all.now.ends.now in
     let k = c.loop-l in
-    let x = first_end c.args.p c.args.tails.now h.ends.tails_are k.l in
-    let y = second_end c.args.p c.args.heads.now h.ends.heads_are k.l in (
-      omega arith,
-      elim c.if-v-l.branch [
-        | then-v-l+then-v-x w ↦ rw w.up-is (entry_second h.sound h.tells_all k.invariant.1 w.if-v-l.true x y w.if-v-x.true)
-        | then-v-l+else-v-x w ↦ rw w.up-is (entry_first h.sound h.tells_all k.invariant.1 w.if-v-l.true x y w.if-v-x.false)
-        | else-v-l w ↦ rw w.up-is (entry_pass h.sound h.tells_all k.invariant.1 w.if-v-l.false)
-      ],
-    )
+    let x = first_end e.plant e.tails e.ends.tails_are k.l in
+    let y = second_end e.plant e.heads e.ends.heads_are k.l in
+    elim c.if-all-l.branch [
+      | then-all-l+then-all-x w ↦ rw w.up-is (entry_second e.sound c.args.all.now.tells_all k.invariant w.if-all-l.true x y w.if-all-x.true)
+      | then-all-l+else-all-x w ↦ rw w.up-is (entry_first e.sound c.args.all.now.tells_all k.invariant w.if-all-l.true x y w.if-all-x.false)
+      | else-all-l w ↦ rw w.up-is (entry_pass e.sound c.args.all.now.tells_all k.invariant w.if-all-l.false)
+    ]
 
 pub returns : goal.returns
-returns c = entry_all c.requires.sound c.loop-l.invariant.1 c.loop-l-test.false
+returns c = entry_all c.args.all.now.ends.now.sound c.loop-l.invariant c.loop-l-test.false

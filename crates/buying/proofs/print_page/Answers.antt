@@ -26,17 +26,17 @@ module _ (s argument : List ℕ) (k : ℕ) (bytes : Bytes s) (e : k ≡ min (rea
 
 pub print_refusal-requires : goal.print_refusal-requires
 print_refusal-requires g c =
-    refusal_is c.args.listing.now c.args.argument.now c.spare_of.result (bytes_known c.args.listing.now (λ i. (c.type_inv.listing i).fits)) c.spare_of.ensures _ _ (sym c.in-Refused.ensures.result_value) (omega arith)
+    refusal_is c.args.listing.now c.args.spare.now.argument.now c.percent.result (bytes_known c.args.listing.now (λ i. (c.type_inv.listing i).fits)) c.percent.ensures _ _ (sym c.in-Err.ensures.result_value) (omega arith)
 
 pub slice_bounds-page-end : goal.slice_bounds-page-end
 slice_bounds-page-end g c =
-    (page-is c.args.listing.now c.args.argument.now c.spare_of.result (bytes_known c.args.listing.now (λ i. (c.type_inv.listing i).fits)) c.spare_of.ensures _ c.in-Length.n (sym c.in-Length.ensures.result_value) c.in-Length.ensures.buffer_now (omega arith)).0
+    (page-is c.args.listing.now c.args.spare.now.argument.now c.percent.result (bytes_known c.args.listing.now (λ i. (c.type_inv.listing i).fits)) c.percent.ensures _ c.in-Ok.n (sym c.in-Ok.ensures.result_value) c.in-Ok.ensures.buffer_now (omega arith)).0
 
 pub slice_bounds-write_output-end : goal.slice_bounds-write_output-end
 slice_bounds-write_output-end g c =
-    let w = page-is c.args.listing.now c.args.argument.now c.spare_of.result (bytes_known c.args.listing.now (λ i. (c.type_inv.listing i).fits)) c.spare_of.ensures _ c.in-Length.n (sym c.in-Length.ensures.result_value) c.in-Length.ensures.buffer_now (omega arith) in
-    sym (length-take-le c.in-Length.n _ w.0)
+    let w = page-is c.args.listing.now c.args.spare.now.argument.now c.percent.result (bytes_known c.args.listing.now (λ i. (c.type_inv.listing i).fits)) c.percent.ensures _ c.in-Ok.n (sym c.in-Ok.ensures.result_value) c.in-Ok.ensures.buffer_now (omega arith) in
+    sym (length-take-le c.in-Ok.n _ w.0)
 
 pub write_output-requires : goal.write_output-requires
 write_output-requires g c =
-    (page-is c.args.listing.now c.args.argument.now c.spare_of.result (bytes_known c.args.listing.now (λ i. (c.type_inv.listing i).fits)) c.spare_of.ensures _ c.in-Length.n (sym c.in-Length.ensures.result_value) c.in-Length.ensures.buffer_now (omega arith)).1
+    (page-is c.args.listing.now c.args.spare.now.argument.now c.percent.result (bytes_known c.args.listing.now (λ i. (c.type_inv.listing i).fits)) c.percent.ensures _ c.in-Ok.n (sym c.in-Ok.ensures.result_value) c.in-Ok.ensures.buffer_now (omega arith)).1

@@ -2,14 +2,5 @@ use Rattle.std.proofs.Common.{rules}
 use Rattle.streams.proofs.Growing.{grows_twice}
 use Rattle.caseplans.proofs.show_numbers.Goals as goal
 
-pub returns-in_err-next : goal.returns-in_err-next
-returns-in_err-next g c = search (rules, grows_twice)
-
-pub returns-in_err-next-2 : goal.returns-in_err-next-2
-returns-in_err-next-2 g c = search (rules, grows_twice)
-
-pub returns-in_err-next-3 : goal.returns-in_err-next-3
-returns-in_err-next-3 g c = search (rules, grows_twice)
-
 pub returns : goal.returns
 returns g c = search (rules, grows_twice)

@@ -2,11 +2,8 @@ use Rattle.std.proofs.Common.{rules}
 use Rattle.streams.proofs.Growing.{grows_twice}
 use Rattle.caseplans.proofs.show_sheet.Goals as goal
 
-pub returns-in_err-next : goal.returns-in_err-next
-returns-in_err-next g c = search (rules, grows_twice)
-
-pub returns-in_err-next-2 : goal.returns-in_err-next-2
-returns-in_err-next-2 g c = search (rules, grows_twice)
+pub returns-in_err-spaced : goal.returns-in_err-spaced
+returns-in_err-spaced g c = search (rules, grows_twice)
 
 pub returns-in_err-show_counts : goal.returns-in_err-show_counts
 returns-in_err-show_counts g c = search (rules, grows_twice)

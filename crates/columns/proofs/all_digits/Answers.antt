@@ -1,11 +1,13 @@
--- Where each of the first i bytes is a digit and i is not below the length, all are.
-use Rattle.std.proofs.Common.{length, sym, arith}
-use Rattle.std.proofs.Math.Seq.{take-length}
-use Rattle.lists.proofs.Parts.{all_take}
+-- Each byte is a digit, or one is not.
+use Rattle.std.proofs.Common.{rules, tests, refl, ◌∙◌}
+use Rattle.std.specs.Char.{is_ascii_digit}
+use Rattle.std.proofs.lemmas.Iterator.{YieldsList-from_slice}
+use Rattle.std.proofs.lemmas.Iterator.Search.{all_from_yields_List}
 use Rattle.text.specs.Decimal.{is_digit}
+use Rattle.columns.proofs.Fields.{all_same}
 use Rattle.columns.proofs.all_digits.Goals as goal
 
 pub returns : goal.returns
 returns c =
-    let bs = c.args.bytes.now in
-    sym (rw (take-length bs) at ((all_take is_digit bs (length bs) (omega arith)).1 (λ j h. c.loop-i.invariant.1 j (omega (arith, c.loop-i-test.false)))))
+    all_from_yields_List is_ascii_digit _ _ _ c.all.ensures.ran (YieldsList-from_slice c.args.bytes.now cc) (λ x b q k. search (rules, tests))
+    ∙ all_same is_ascii_digit is_digit (λ b. refl) c.args.bytes.now

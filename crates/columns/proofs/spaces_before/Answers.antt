@@ -1,10 +1,16 @@
--- The first i bytes are spaces, and there the spaces end.
-use Rattle.std.proofs.Common.{sym, arith}
-use Rattle.columns.proofs.Fields.{spaces-are}
+-- The spaces that are taken are counted.
+use Rattle.std.proofs.Common.{rules, tests, eqb, ◌∙◌}
+use Rattle.std.proofs.lemmas.Iterator.{YieldsList-from_slice}
+use Rattle.std.proofs.lemmas.Iterator.Consumers.{YieldsList-at, count_from_yields_List}
+use Rattle.std.proofs.lemmas.Iterator.Search.{YieldsList-from_take_while}
+use Rattle.std.proofs.lemmas.List.Folds.{length-prefix_len}
+use Rattle.text.specs.Lines.{space}
+use Rattle.columns.proofs.Fields.{spaces_counted}
 use Rattle.columns.proofs.spaces_before.Goals as goal
 
-pub returns-then-field-i-ne32-clause-value : goal.returns-then-field-i-ne32-clause-value
-returns-then-field-i-ne32-clause-value c = sym (spaces-are c.args.field.now c.loop-i.i c.loop-i.invariant.0 c.loop-i.invariant.1 (λ h. c.if-field-i-ne32.true))
-
 pub returns-clause-value : goal.returns-clause-value
-returns-clause-value c = sym (spaces-are c.args.field.now c.loop-i.i c.loop-i.invariant.0 c.loop-i.invariant.1 (λ h. absurd (omega arith)))
+returns-clause-value c =
+    count_from_yields_List c.take_while.result _ c.count.ensures.ran
+    (YieldsList-from_take_while _ (λ b. eqb b space) (YieldsList-at c.take_while.ensures.source (YieldsList-from_slice c.args.field.now cc)) c.take_while.ensures.closure c.take_while.ensures.done (λ x b q k. search (rules, tests)))
+    ∙ length-prefix_len _ c.args.field.now
+    ∙ spaces_counted c.args.field.now

@@ -1,12 +1,19 @@
 -- The forest tells of the visits of all components, and so of the bridges and of the arcs in use.
+use Rattle.std.proofs.Common.{ℕ, None, ◌≡◌, ◌<◌, get_or, rules}
+use borrow.Author.Tests.{tests}
+use Rattle.std.specs.Option.{unwrap_or}
+use Rattle.lists.specs.Arrays.{at}
+use Rattle.limits.specs.Limits.{max_switches}
+use Rattle.arcs.proofs.Made.{made}
 use Rattle.components.proofs.Scanning.{tells_all, finds}
 use Rattle.components.proofs.find.Goals as goal
 
-pub bridges_of-bridges-requires-clause-tells_all : goal.bridges_of-bridges-requires-clause-tells_all
-bridges_of-bridges-requires-clause-tells_all c = tells_all _ c.requires.sound _ c.visit_all-f.ensures _ _
-
-pub arcs_in_use-used-requires-clause-tells_all : goal.arcs_in_use-used-requires-clause-tells_all
-arcs_in_use-used-requires-clause-tells_all c = tells_all _ c.requires.sound _ c.visit_all-f.ensures _ _
+pub invariant_of-all : goal.invariant_of-all
+invariant_of-all c = record { tells_all = tells_all _ c.args.ends.now.sound _ (rw c.all_chains-chains.ensures at c.visit_all-f.ensures) _ _ }
 
 pub returns : goal.returns
-returns c = finds _ c.requires.sound _ c.visit_all-f.ensures _ _ c.bridges_of-bridges.ensures c.arcs_in_use-used.ensures
+returns c =
+    let home = c.visit_all-f.result.home in
+    let numbered : (x : ℕ) → x < max_switches → at c.from_fn-home.result x ≡ unwrap_or (get_or home x None) 0 =
+    λ x. made _ (λ i. unwrap_or (get_or home i None) 0) _ (λ i y q k. search (rules, tests) fits 5000) _ max_switches c.from_fn-home.ensures.items x 0 in
+    finds _ c.args.ends.now.sound _ (rw c.all_chains-chains.ensures at c.visit_all-f.ensures) _ _ _ numbered c.bridges_of-bridges.ensures c.arcs_in_use-used.ensures

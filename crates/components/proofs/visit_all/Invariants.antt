@@ -1,12 +1,9 @@
 -- The components of the start and of the roots below x are found.
-use Rattle.std.proofs.Common.{◌∷◌, ◌-◌, ◌≤◌}
+use Rattle.std.proofs.Common.{◌∷◌}
 use Rattle.lists.specs.Numbers.{range, keep}
 use Rattle.walks.specs.Components.{begun_at}
 use Rattle.components.specs.Inner.{Covers}
 use Rattle.components.proofs.visit_all.Given as goal
 
 abbrev pub invariant-loop-x : goal.invariant-loop-x
-invariant-loop-x l = (l.x ≤ l.p.switches) × Covers l.p (l.p.start ∷ keep (begun_at l.p) (range 0 l.x)) l.f
-
-abbrev pub decreases-loop-x : goal.decreases-loop-x
-decreases-loop-x l = l.p.switches - l.x
+invariant-loop-x l = Covers l.all.ends.now.plant (l.all.ends.now.plant.start ∷ keep (begun_at l.all.ends.now.plant) (range 0 l.x)) l.f

@@ -1,19 +1,26 @@
 -- Refusal 19, then those of the listing, or the switches of its plant and the links in service of the component of the switch. Assumes nothing.
-use Rattle.std.proofs.Common.{refl, [], ◌∷◌}
-use lib.Dec.{ltb}
-use Rattle.answers.specs.Verdicts.{Judges}
+use Rattle.std.proofs.Common.{sym, ◌∙◌, [], ◌∷◌}
+use Rattle.answers.specs.Results.{Judges}
+use Rattle.answers.proofs.Results.{exit}
+use Rattle.consoles.specs.Answers.{sized}
 use Rattle.consoles.specs.Calls.{console_out_of_range}
-use Rattle.consoles.proofs.Sizing.{sized_on, sized_off}
+use Rattle.consoles.proofs.Sizing.{no_console, sized_on, sized_off}
 use Rattle.consoles.proofs.size_of.Goals as goal
 
-pub returns-in-Refused : goal.returns-in-Refused
+pub returns-in_err-judge : goal.returns-in_err-judge
 unfolding console_out_of_range
-returns-in-Refused c =
-    let known : Judges ((19, ltb 3 c.args.console) ∷ []) c.judge-known.result = c.judge-known.ensures in
-    sized_off c.args.console _ _ _ _ c.plan-d.ensures.plots _ known _ c.in-Refused.ensures _ refl
+returns-in_err-judge c =
+    let known : Judges ((19, console_out_of_range c.args.console) ∷ []) c.judge.result = rw c.from-past.ensures at c.judge.ensures in
+    exit sized _ _ c.from_residual.ensures.1 ∙ sym (no_console c.args.console _ _ _ known _ c.in_err-judge.was)
 
-pub returns-in-Accepted : goal.returns-in-Accepted
+pub returns-in_err-plan : goal.returns-in_err-plan
 unfolding console_out_of_range
-returns-in-Accepted c =
-    let known : Judges ((19, ltb 3 c.args.console) ∷ []) c.judge-known.result = c.judge-known.ensures in
-    sized_on c.args.console _ _ _ _ c.plan-d.ensures.plots _ known _ c.in-Accepted.ensures refl _ c.links_with-links.ensures
+returns-in_err-plan c =
+    let known : Judges ((19, console_out_of_range c.args.console) ∷ []) c.judge.result = rw c.from-past.ensures at c.judge.ensures in
+    exit sized _ _ c.from_residual-in_err-plan.ensures.1 ∙ sym (sized_off c.args.console _ _ _ known _ c.in_ok-judge.was _ c.plan_of.ensures _ c.in_err-plan.was)
+
+pub returns : goal.returns
+unfolding console_out_of_range
+returns c =
+    let known : Judges ((19, console_out_of_range c.args.console) ∷ []) c.judge.result = rw c.from-past.ensures at c.judge.ensures in
+    sized_on c.args.console _ _ _ known _ c.in_ok-judge.was _ c.plan_of.ensures _ c.in_ok-plan.was _ c.links_with-links.ensures

@@ -3,7 +3,4 @@ use Rattle.codec.proofs.LayoutLaws.{MapFrom}
 use Rattle.encoder.proofs.part_map.Given as goal
 
 abbrev pub invariant-loop-i : goal.invariant-loop-i
-invariant-loop-i l = MapFrom l.layout l.values l.i l.m
-
-abbrev pub decreases-loop-i : goal.decreases-loop-i
-decreases-loop-i l = l.i
+invariant-loop-i g l = MapFrom l.fields l.values l.i l.m

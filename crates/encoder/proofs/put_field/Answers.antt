@@ -1,9 +1,6 @@
 use Rattle.std.proofs.Common.{arith}
-use Rattle.encoder.proofs.PutLaws.{field-size, field-some}
+use Rattle.encoder.proofs.PutLaws.{field-size}
 use Rattle.encoder.proofs.put_field.Goals as goal
-
-pub returns-clause-buf_after : goal.returns-clause-buf_after
-returns-clause-buf_after c = rw (field-some c.args.f c.args.value c.if-value-f.false) c.put_number.ensures
 
 pub put_number-requires : goal.put_number-requires
 put_number-requires c = omega (arith, c.requires, field-size c.args.f c.args.value c.if-value-f.false)

@@ -1,83 +1,61 @@
 -- Each leg in turn, and the way back at the end.
 use Rattle.std.proofs.Common.{arith}
-use Rattle.legs.proofs.Aims.{no_legs_is, asks_first, found_none, turn, ends}
+use Rattle.legs.proofs.Aims.{no_legs_is, found_none, asks, turn, ends}
 use Rattle.legs.proofs.legs_from.Goals as goal
-
-pub returns : goal.returns
-returns c w =
-    let k = c.loop-a in
-    (ends w _ k.low k.aims k.k k.hops k.u k.a (k.invariant w) c.loop-a-test.false).added
 
 pub returns-then-alone : goal.returns-then-alone
 returns-then-alone c w = no_legs_is w _ c.requires.aims_len c.if-alone.true
 
-pub nearest-a-requires : goal.nearest-a-requires
-nearest-a-requires c = asks_first c.requires.some_parts c.args.aims.now _ c.firsts_reached-low.ensures
-
 pub loop-a-init : goal.loop-a-init
-loop-a-init c w = found_none w _ c.requires.aims_len _ _ c.firsts_reached-low.ensures c.nearest-a.ensures
+loop-a-init c w = found_none w _ c.requires.aims_len _ c.firsts_reached-low.ensures
+
+pub nearest-requires : goal.nearest-requires
+nearest-requires c = asks c.requires.some_parts _ (c.loop-a.invariant c.requires.some_parts)
+
+pub bounds-network-i : goal.bounds-network-i
+bounds-network-i c = omega (arith, (turn c.requires.some_parts _ (c.loop-a.invariant c.requires.some_parts) c.in-Some.a c.in-Some.ensures).label_low)
 
 pub offset_bounds-aims-k : goal.offset_bounds-aims-k
-offset_bounds-aims-k c =
-    let k = c.loop-a in
-    omega (arith, (turn c.requires.some_parts _ k.low k.aims k.k k.hops k.u k.a (k.invariant c.requires.some_parts) c.loop-a-test.true).room)
+offset_bounds-aims-k c = omega (arith, (turn c.requires.some_parts _ (c.loop-a.invariant c.requires.some_parts) c.in-Some.a c.in-Some.ensures).room)
 
 pub bounds-aims-k : goal.bounds-aims-k
-bounds-aims-k c =
-    let k = c.loop-a in
-    omega (arith, (turn c.requires.some_parts _ k.low k.aims k.k k.hops k.u k.a (k.invariant c.requires.some_parts) c.loop-a-test.true).room)
+bounds-aims-k c = omega (arith, (turn c.requires.some_parts _ (c.loop-a.invariant c.requires.some_parts) c.in-Some.a c.in-Some.ensures).room)
 
 pub overflow_add-k : goal.overflow_add-k
-overflow_add-k c =
-    let k = c.loop-a in
-    omega (arith, (turn c.requires.some_parts _ k.low k.aims k.k k.hops k.u k.a (k.invariant c.requires.some_parts) c.loop-a-test.true).room)
+overflow_add-k c = omega (arith, (turn c.requires.some_parts _ (c.loop-a.invariant c.requires.some_parts) c.in-Some.a c.in-Some.ensures).room)
 
-pub bounds-t-u : goal.bounds-t-u
-bounds-t-u c =
-    let k = c.loop-a in
-    omega (arith, (turn c.requires.some_parts _ k.low k.aims k.k k.hops k.u k.a (k.invariant c.requires.some_parts) c.loop-a-test.true).from_low)
+pub bounds-network-u : goal.bounds-network-u
+bounds-network-u c = omega (arith, (turn c.requires.some_parts _ (c.loop-a.invariant c.requires.some_parts) c.in-Some.a c.in-Some.ensures).from_low)
 
-pub bounds-t-x : goal.bounds-t-x
-bounds-t-x c =
-    let k = c.loop-a in
-    omega (arith, (turn c.requires.some_parts _ k.low k.aims k.k k.hops k.u k.a (k.invariant c.requires.some_parts) c.loop-a-test.true).tail_low)
+pub bounds-network-x : goal.bounds-network-x
+bounds-network-x c = omega (arith, (turn c.requires.some_parts _ (c.loop-a.invariant c.requires.some_parts) c.in-Some.a c.in-Some.ensures).tail_low)
 
-pub overflow_add-hops-in-loop-a : goal.overflow_add-hops-in-loop-a
-overflow_add-hops-in-loop-a c =
-    let k = c.loop-a in
-    omega (arith, (turn c.requires.some_parts _ k.low k.aims k.k k.hops k.u k.a (k.invariant c.requires.some_parts) c.loop-a-test.true).short)
+pub overflow_add-hops-in-Some : goal.overflow_add-hops-in-Some
+overflow_add-hops-in-Some c = omega (arith, (turn c.requires.some_parts _ (c.loop-a.invariant c.requires.some_parts) c.in-Some.a c.in-Some.ensures).short)
+
+pub bounds-network-i-in-Some : goal.bounds-network-i-in-Some
+bounds-network-i-in-Some c = omega (arith, (turn c.requires.some_parts _ (c.loop-a.invariant c.requires.some_parts) c.in-Some.a c.in-Some.ensures).label_low)
 
 pub bounds-low-x : goal.bounds-low-x
-bounds-low-x c =
-    let k = c.loop-a in
-    omega (arith, (turn c.requires.some_parts _ k.low k.aims k.k k.hops k.u k.a (k.invariant c.requires.some_parts) c.loop-a-test.true).tail_low)
+bounds-low-x c = omega (arith, (turn c.requires.some_parts _ (c.loop-a.invariant c.requires.some_parts) c.in-Some.a c.in-Some.ensures).tail_low)
 
-pub nearest-a-requires-in-loop-a : goal.nearest-a-requires-in-loop-a
-nearest-a-requires-in-loop-a c =
-    let k = c.loop-a in
-    (turn c.requires.some_parts _ k.low k.aims k.k k.hops k.u k.a (k.invariant c.requires.some_parts) c.loop-a-test.true).asks
+pub bounds-network-i-in-Some-2 : goal.bounds-network-i-in-Some-2
+bounds-network-i-in-Some-2 c = omega (arith, (turn c.requires.some_parts _ (c.loop-a.invariant c.requires.some_parts) c.in-Some.a c.in-Some.ensures).label_low)
 
 pub loop-a-smaller : goal.loop-a-smaller
-loop-a-smaller c =
-    let k = c.loop-a in
-    omega (arith, (turn c.requires.some_parts _ k.low k.aims k.k k.hops k.u k.a (k.invariant c.requires.some_parts) c.loop-a-test.true).room)
+loop-a-smaller c = omega (arith, (turn c.requires.some_parts _ (c.loop-a.invariant c.requires.some_parts) c.in-Some.a c.in-Some.ensures).room)
 
 pub loop-a-preserved : goal.loop-a-preserved
-loop-a-preserved c w =
-    let k = c.loop-a in
-    (turn w _ k.low k.aims k.k k.hops k.u k.a (k.invariant w) c.loop-a-test.true).again _ c.nearest-a-in-loop-a.ensures
+loop-a-preserved c w = (turn w _ (c.loop-a.invariant w) c.in-Some.a c.in-Some.ensures).again
 
 pub overflow_cast-result : goal.overflow_cast-result
-overflow_cast-result c =
-    let k = c.loop-a in
-    omega (arith, (ends c.requires.some_parts _ k.low k.aims k.k k.hops k.u k.a (k.invariant c.requires.some_parts) c.loop-a-test.false).room)
+overflow_cast-result c = omega (arith, (ends c.requires.some_parts _ (c.loop-a.invariant c.requires.some_parts) c.in_default.ensures).room)
 
-pub bounds-t-u-after-loop-a : goal.bounds-t-u-after-loop-a
-bounds-t-u-after-loop-a c =
-    let k = c.loop-a in
-    omega (arith, (ends c.requires.some_parts _ k.low k.aims k.k k.hops k.u k.a (k.invariant c.requires.some_parts) c.loop-a-test.false).from_low)
+pub bounds-network-u-in_default : goal.bounds-network-u-in_default
+bounds-network-u-in_default c = omega (arith, (ends c.requires.some_parts _ (c.loop-a.invariant c.requires.some_parts) c.in_default.ensures).from_low)
 
 pub overflow_add-result : goal.overflow_add-result
-overflow_add-result c =
-    let k = c.loop-a in
-    omega (arith, (ends c.requires.some_parts _ k.low k.aims k.k k.hops k.u k.a (k.invariant c.requires.some_parts) c.loop-a-test.false).short)
+overflow_add-result c = omega (arith, (ends c.requires.some_parts _ (c.loop-a.invariant c.requires.some_parts) c.in_default.ensures).short)
+
+pub returns : goal.returns
+returns c w = (ends w _ (c.loop-a.invariant w) c.in_default.ensures).added

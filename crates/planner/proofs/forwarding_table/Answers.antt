@@ -1,16 +1,12 @@
-use mathlib.Core.Path.{refl, sym}
 use Rattle.plan.specs.Plan.{table_of}
-use Rattle.listing.specs.Listing.{reading}
 use Rattle.planner.specs.Calls.{tabling}
-use Rattle.answers.proofs.Beside.{beside_given, beside_refused, on_giving, off_giving}
+use Rattle.planner.proofs.Planned.{plan_giving, plan_refusing}
 use Rattle.planner.proofs.forwarding_table.Goals as goal
 
-pub returns-in-Accepted : goal.returns-in-Accepted
+pub returns-in_err-plan : goal.returns-in_err-plan
 unfolding tabling
-returns-in-Accepted c =
-    beside_given _ _ _ _ refl (sym (on_giving _ (reading _) _ _ c.plan-d.ensures.plots table_of _ c.in-Accepted.is c.table_of-table.ensures))
+returns-in_err-plan c = plan_refusing _ table_of _ c.in_err-plan.ensures _ c.from_residual.ensures.1
 
-pub returns-in-Refused : goal.returns-in-Refused
+pub returns : goal.returns
 unfolding tabling
-returns-in-Refused c =
-    beside_refused _ _ _ _ _ refl c.empty-table.ensures (sym (off_giving _ (reading _) _ _ c.plan-d.ensures.plots table_of _ c.in-Refused.is))
+returns c = plan_giving _ table_of _ c.in_ok-plan.ensures _ c.table_of.ensures

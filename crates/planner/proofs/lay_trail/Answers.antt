@@ -1,26 +1,44 @@
-use mathlib.Core.Path.{◌∙◌}
-use Rattle.answers.proofs.Beside.{accepted, was_refused}
+use mathlib.Core.Path.{◌∙◌, sym}
+use Rattle.answers.proofs.Results.{exit}
 use Rattle.plan.specs.Plan.{trail_of}
 use Rattle.planner.specs.Calls.{trailing, laid_out}
-use Rattle.planner.proofs.Trailing.{trail-given, left-given, trail-refused, left-refused}
+use Rattle.planner.proofs.Trailing.{trail-refused, left-refused, short_answer, short_left, enough_room, enough_answer, enough_left}
 use Rattle.planner.proofs.lay_trail.Goals as goal
 
-pub returns-in-Accepted-clause-result_value : goal.returns-in-Accepted-clause-result_value
+pub returns-in_err-plan-clause-result_value : goal.returns-in_err-plan-clause-result_value
 unfolding trailing
-returns-in-Accepted-clause-result_value c =
-    c.put_trail.ensures.result_value ∙ trail-given trail_of _ _ _ (accepted _ _ _ _ c.plan-d.ensures.plots c.in-Accepted.is)
+returns-in_err-plan-clause-result_value c =
+    exit (λ n. n) _ _ c.from_residual.ensures.1 ∙ sym (trail-refused trail_of _ _ _ (sym c.in_err-plan.ensures))
 
-pub returns-in-Accepted-clause-buffer_now : goal.returns-in-Accepted-clause-buffer_now
+pub returns-in_err-plan-clause-buffer_now : goal.returns-in_err-plan-clause-buffer_now
 unfolding laid_out
-returns-in-Accepted-clause-buffer_now c =
-    c.put_trail.ensures.buffer_now ∙ left-given trail_of _ _ _ (accepted _ _ _ _ c.plan-d.ensures.plots c.in-Accepted.is)
+returns-in_err-plan-clause-buffer_now c = left-refused trail_of _ _ _ (sym c.in_err-plan.ensures)
 
-pub returns-in-Refused-clause-result_value : goal.returns-in-Refused-clause-result_value
+pub returns-in_err-judge_room-clause-result_value : goal.returns-in_err-judge_room-clause-result_value
 unfolding trailing
-returns-in-Refused-clause-result_value c =
-    trail-refused trail_of _ _ _ (was_refused _ _ _ _ c.plan-d.ensures.plots _ c.in-Refused.is)
+returns-in_err-judge_room-clause-result_value c =
+    let read = sym c.in_ok-plan.ensures in
+    exit (λ n. n) _ _ c.from_residual-in_err-judge_room.ensures.1 ∙ sym (short_answer trail_of _ _ _ read _ (c.from.ensures ∙ c.in_ok-plan.plan.measured.hops_are) _ c.judge_room.ensures _ c.in_err-judge_room.was)
 
-pub returns-in-Refused-clause-buffer_now : goal.returns-in-Refused-clause-buffer_now
+pub returns-in_err-judge_room-clause-buffer_now : goal.returns-in_err-judge_room-clause-buffer_now
 unfolding laid_out
-returns-in-Refused-clause-buffer_now c =
-    left-refused trail_of _ _ _ (was_refused _ _ _ _ c.plan-d.ensures.plots _ c.in-Refused.is)
+returns-in_err-judge_room-clause-buffer_now c =
+    let read = sym c.in_ok-plan.ensures in
+    short_left trail_of _ _ _ read _ (c.from.ensures ∙ c.in_ok-plan.plan.measured.hops_are) _ c.judge_room.ensures _ c.in_err-judge_room.was
+
+pub lay-requires : goal.lay-requires
+lay-requires c =
+    let read = sym c.in_ok-plan.ensures in
+    enough_room trail_of _ _ _ read _ (c.from.ensures ∙ c.in_ok-plan.plan.measured.hops_are) _ c.judge_room.ensures _ c.in_ok-judge_room.was
+
+pub returns-clause-result_value : goal.returns-clause-result_value
+unfolding trailing
+returns-clause-result_value c =
+    let read = sym c.in_ok-plan.ensures in
+    enough_answer trail_of _ _ _ read _ (c.from.ensures ∙ c.in_ok-plan.plan.measured.hops_are) _ c.judge_room.ensures _ c.in_ok-judge_room.was _ c.in_ok-plan.plan.measured.hops_are
+
+pub returns-clause-buffer_now : goal.returns-clause-buffer_now
+unfolding laid_out
+returns-clause-buffer_now c =
+    let read = sym c.in_ok-plan.ensures in
+    c.lay.ensures ∙ enough_left trail_of _ _ _ read _ (c.from.ensures ∙ c.in_ok-plan.plan.measured.hops_are) _ c.judge_room.ensures _ c.in_ok-judge_room.was

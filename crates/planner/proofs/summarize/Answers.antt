@@ -1,13 +1,12 @@
-use Rattle.listing.specs.Listing.{reading}
 use Rattle.planning.specs.Numbers.{numbers_of}
 use Rattle.planner.specs.Calls.{summing}
-use Rattle.answers.proofs.Beside.{on_giving, off_giving}
+use Rattle.planner.proofs.Planned.{plan_giving, plan_refusing}
 use Rattle.planner.proofs.summarize.Goals as goal
 
-pub returns-in-Accepted : goal.returns-in-Accepted
+pub returns-in_err-plan : goal.returns-in_err-plan
 unfolding summing
-returns-in-Accepted c = on_giving _ (reading _) _ _ c.plan-d.ensures.plots numbers_of _ c.in-Accepted.is c.numbers_of.ensures
+returns-in_err-plan c = plan_refusing _ numbers_of _ c.in_err-plan.ensures _ c.from_residual.ensures.1
 
-pub returns-in-Refused : goal.returns-in-Refused
+pub returns : goal.returns
 unfolding summing
-returns-in-Refused c = off_giving _ (reading _) _ _ c.plan-d.ensures.plots numbers_of _ c.in-Refused.is
+returns c = plan_giving _ numbers_of _ c.in_ok-plan.ensures _ c.numbers_of.ensures

@@ -1,9 +1,10 @@
 -- The switch has a home, and the component there is its own.
+use Rattle.std.proofs.Common.{arith}
 use Rattle.planning.proofs.Charts.{home-place, component-told}
 use Rattle.planning.proofs.component_with.Goals as goal
 
-pub bounds-components-i : goal.bounds-components-i
-bounds-components-i c = home-place _ c.requires.of_plant.charted _ c.requires.switch_lt_switches
+pub bounds-x-i : goal.bounds-x-i
+bounds-x-i c = let x = c.args.x.now in omega (arith, home-place _ x.network.ends.sound _ x.charted.homes c.from.result (omega arith))
 
 pub returns : goal.returns
-returns c = component-told _ c.requires.of_plant.charted c.requires.of_plant.measured _ c.requires.switch_lt_switches
+returns c = rw (c.from-i.ensures, c.from.ensures) (component-told c.args.x.now _ c.requires)

@@ -6,8 +6,7 @@ use Rattle.planning.proofs.links_with.Goals as goal
 
 pub returns-then-switch-x : goal.returns-then-switch-x
 returns-then-switch-x c =
-    let h = c.requires in
-    ap (λ (d : Component). d.round_hops / 2) c.component_with-c.ensures ∙ links-told _ h.charted h.measured _ c.if-switch-x.true
+    ap (λ (d : Component). d.round_hops / 2) c.component_with-c.ensures ∙ links-told c.args.x.now _ c.if-switch-x.true
 
 pub returns : goal.returns
-returns c = none_told _ c.requires.charted _ c.if-switch-x.false
+returns c = none_told c.args.x.now _ c.if-switch-x.false

@@ -4,10 +4,10 @@ use Rattle.planning.proofs.Counted.{bridges-few, rules-few, numbers-are}
 use Rattle.planning.proofs.numbers_of.Goals as goal
 
 pub overflow_cast-result : goal.overflow_cast-result
-overflow_cast-result c = omega (arith, c.count_set-bridges.ensures, bridges-few _ c.requires.charted, c.count_set-rules.ensures, rules-few _ c.requires.charted)
+overflow_cast-result c = omega (arith, c.count_set-bridges.ensures, bridges-few c.args.x.now, c.count_set-rules.ensures, rules-few c.args.x.now)
 
 pub overflow_cast-result-2 : goal.overflow_cast-result-2
-overflow_cast-result-2 c = omega (arith, c.count_set-bridges.ensures, bridges-few _ c.requires.charted, c.count_set-rules.ensures, rules-few _ c.requires.charted)
+overflow_cast-result-2 c = omega (arith, c.count_set-bridges.ensures, bridges-few c.args.x.now, c.count_set-rules.ensures, rules-few c.args.x.now)
 
 pub returns : goal.returns
-returns c = numbers-are _ c.requires _ _ _ c.links_in_service-links.ensures c.count_set-bridges.ensures c.count_set-rules.ensures
+returns c = numbers-are c.args.x.now _ _ _ c.links_in_service-links.ensures c.count_set-bridges.ensures c.count_set-rules.ensures

@@ -4,7 +4,7 @@ use Rattle.planning.proofs.Counted.{places-enough, table_is}
 use Rattle.planning.proofs.table_of.Goals as goal
 
 pub table_of-requires-clause-used_bound : goal.table_of-requires-clause-used_bound
-table_of-requires-clause-used_bound c = (places-enough _ c.requires).1
+table_of-requires-clause-used_bound c = (places-enough c.args.x.now).1
 
 pub returns : goal.returns
-returns c = c.table_of.ensures ∙ table_is _ c.requires
+returns c = c.table_of.ensures ∙ table_is c.args.x.now

@@ -7,12 +7,12 @@ use Rattle.judging.proofs.Lent.{hops_other, hops-same}
 use Rattle.probing.proofs.Rounds.{chosen_at}
 use Rattle.probing.proofs.choose_from.Goals as goal
 
-pub returns-in-Same : goal.returns-in-Same
-returns-in-Same c =
+pub returns : goal.returns
+returns c =
     let d = c.component_with-c.result in
     let chosen : c.fewer.result ≡ choice_of d.begin d.hops d.round_begin d.round_hops = c.fewer.ensures in
-    fails 12 _ _ _ (hops-same _ _ _ c.in-Same.ensures)
-    (ap given (chosen ∙ chosen_at c.args.x.plant c.requires.of_plant.charted.sound c.args.switch c.requires.switch_lt_switches d c.component_with-c.ensures))
+    fails 12 _ _ _ (hops-same _ _ _ c.in-Some.ensures)
+    (ap given (chosen ∙ chosen_at c.args.plan.now.network.ends.plant c.args.plan.now.network.ends.sound c.args.switch c.requires d c.component_with-c.ensures))
 
-pub returns-in-Other : goal.returns-in-Other
-returns-in-Other c = holds 12 _ _ (hops_other _ _ c.in-Other.ensures)
+pub returns-in_default : goal.returns-in_default
+returns-in_default c = holds 12 _ _ (hops_other _ _ c.in_default.ensures)

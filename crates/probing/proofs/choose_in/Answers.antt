@@ -4,10 +4,10 @@ use Rattle.judging.proofs.Lent.{hops_other, hops-same}
 use Rattle.probing.specs.Calls.{choice_in}
 use Rattle.probing.proofs.choose_in.Goals as goal
 
-pub returns-in-Same : goal.returns-in-Same
+pub returns : goal.returns
 unfolding choice_in
-returns-in-Same c = fails 12 _ _ _ (hops-same _ _ _ c.in-Same.ensures) c.choose_from.ensures
+returns c = fails 12 _ _ _ (hops-same _ _ _ c.in-Some.ensures) c.choose_from.ensures
 
-pub returns-in-Other : goal.returns-in-Other
+pub returns-in_default : goal.returns-in_default
 unfolding choice_in
-returns-in-Other c = holds 12 _ _ (hops_other _ _ c.in-Other.ensures)
+returns-in_default c = holds 12 _ _ (hops_other _ _ c.in_default.ensures)

@@ -1,5 +1,6 @@
 -- The link named: refusals 12 and 14, then what the search names.
 use Rattle.std.proofs.Common.{ℕ, sym, ap, ◌∙◌}
+use Rattle.answers.specs.Answers.{given}
 use Rattle.answers.proofs.Checks.{holds, fails}
 use Rattle.judging.specs.Conditions.{search_unsound}
 use Rattle.judging.proofs.Lent.{trail-same}
@@ -24,14 +25,13 @@ own_trail-own-requires-clause-trail_value c = trail-same _ _ (sym c.differs.ensu
 pub name_of-requires-clause-own_value : goal.name_of-requires-clause-own_value
 name_of-requires-clause-own_value c = c.own_trail-own.ensures
 
-pub name_of-requires-clause-over_arcs : goal.name_of-requires-clause-over_arcs
-name_of-requires-clause-over_arcs c =
-    own-arcs c.args.x.plant c.requires.plan.laying.charted.sound c.args.switch c.requires.switch_lt_switches _ c.own_trail-own.ensures
+pub invariant_of-ring : goal.invariant_of-ring
+invariant_of-ring c = record { over_arcs = own-arcs c.args.plan.now.network.ends.plant c.args.plan.now.network.ends.sound c.args.switch c.requires _ c.own_trail-own.ensures }
 
 pub name_of-requires-clause-says_in : goal.name_of-requires-clause-says_in
 name_of-requires-clause-says_in c =
     rw c.says.ensures
-    (says-few c.args.x.plant c.requires.plan.laying.charted.sound c.args.switch c.requires.switch_lt_switches c.args.search
+    (says-few c.args.plan.now.network.ends.plant c.args.plan.now.network.ends.sound c.args.switch c.requires c.args.search
     (ap (λ (e : ℕ). search_unsound e c.args.search) (sym c.links_with-links.ensures) ∙ sym c.unsound.ensures ∙ c.if-unsound.false))
 
 pub returns : goal.returns
@@ -39,4 +39,4 @@ unfolding name_in
 returns c =
     fails 12 _ _ _ (sym c.differs.ensures ∙ c.if-differs.false)
     (fails 14 _ _ _ (ap (λ (e : ℕ). search_unsound e c.args.search) (sym c.links_with-links.ensures) ∙ sym c.unsound.ensures ∙ c.if-unsound.false)
-    (rw c.says.ensures at c.name_of.ensures))
+    (ap given (rw c.says.ensures at c.name_of.ensures)))

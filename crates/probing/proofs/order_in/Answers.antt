@@ -1,7 +1,6 @@
 -- The order of links: refusal 12, then the order.
 use Rattle.std.proofs.Common.{sym, ◌∙◌}
 use Rattle.answers.proofs.Checks.{holds}
-use Rattle.answers.proofs.Beside.{beside_as}
 use Rattle.judging.proofs.Lent.{trail-same}
 use Rattle.probing.specs.Calls.{order_in}
 use Rattle.probing.proofs.Lent.{own-arcs}
@@ -10,14 +9,13 @@ use Rattle.probing.proofs.order_in.Goals as goal
 
 pub returns-then-differs : goal.returns-then-differs
 unfolding order_in
-returns-then-differs c = beside_as _ _ _ _ _ (holds 12 _ _ (sym c.differs.ensures ∙ c.if-differs.true)) c.refused_order.ensures
+returns-then-differs c = holds 12 _ _ (sym c.differs.ensures ∙ c.if-differs.true)
 
 pub own_trail-own-requires-clause-trail_value : goal.own_trail-own-requires-clause-trail_value
 own_trail-own-requires-clause-trail_value c = trail-same _ _ (sym c.differs.ensures ∙ c.if-differs.false)
 
-pub order_of-order-requires-clause-over_arcs : goal.order_of-order-requires-clause-over_arcs
-order_of-order-requires-clause-over_arcs c =
-    own-arcs c.args.x.plant c.requires.plan.laying.charted.sound c.args.switch c.requires.switch_lt_switches _ c.own_trail-own.ensures
+pub invariant_of-ring : goal.invariant_of-ring
+invariant_of-ring c = record { over_arcs = own-arcs c.args.plan.now.network.ends.plant c.args.plan.now.network.ends.sound c.args.switch c.requires _ c.own_trail-own.ensures }
 
 pub returns : goal.returns
-returns c = ordered _ _ _ _ _ (sym c.differs.ensures ∙ c.if-differs.false) c.own_trail-own.ensures c.order_of-order.ensures
+returns c = ordered _ _ _ _ _ (sym c.differs.ensures ∙ c.if-differs.false) c.own_trail-own.ensures c.order_of.ensures

@@ -1,23 +1,24 @@
 -- The round run in a plan: refusals 12 and 13, then the run over the round trail of the component.
-use Rattle.std.proofs.Common.{List, ℕ, sym, ap, ◌∙◌}
+use Rattle.std.proofs.Common.{List, ℕ, refl, sym, ap, ◌∙◌}
 use Rattle.answers.specs.Answers.{given}
-use Rattle.answers.proofs.Checks.{passed, turned_down}
+use Rattle.answers.proofs.Results.{exit, passed, turned_down}
 use Rattle.rings.specs.Round.{round_run}
 use Rattle.probing.specs.Calls.{round_in}
-use Rattle.probing.proofs.Lent.{round-enough, can_round}
+use Rattle.probing.proofs.Lent.{round-enough, round-arcs}
 use Rattle.probing.proofs.round_in.Goals as goal
 
+pub invariant_of-ring : goal.invariant_of-ring
+invariant_of-ring c = record { over_arcs = round-arcs c.args.plan.now.network.ends.plant c.args.plan.now.network.ends.sound c.args.switch c.requires _ c.own_round-own.ensures }
+
 pub round_run-requires : goal.round_run-requires
-round_run-requires c =
-    can_round c.args.x.plant c.requires.of_plant.charted.sound c.args.switch c.requires.switch_lt_switches _ _ c.own_round-own.ensures
-    (round-enough _ _ _ _ c.in-Accepted.is c.judge_round.ensures)
+round_run-requires c = round-enough _ _ _ _ c.in_ok-judge_round.ensures
 
-pub returns-in-Accepted : goal.returns-in-Accepted
+pub returns : goal.returns
 unfolding round_in
-returns-in-Accepted c =
-    ap given (c.round_run.ensures ∙ ap (λ (w : List ℕ). round_run c.args.x.plant w c.args.switch c.args.states.now) c.own_round-own.ensures)
-    ∙ sym (passed _ _ c.judge_round.ensures _ c.in-Accepted.is)
+returns c =
+    ap given (c.round_run.ensures ∙ ap (λ (w : List ℕ). round_run c.args.plan.now.network.ends.plant w c.args.switch c.args.states.now) c.own_round-own.ensures)
+    ∙ sym (passed _ _ c.in_ok-judge_round.ensures _ _ refl)
 
-pub returns-in-Refused : goal.returns-in-Refused
+pub returns-in_err-judge_round : goal.returns-in_err-judge_round
 unfolding round_in
-returns-in-Refused c = sym (turned_down _ _ c.judge_round.ensures _ _ c.in-Refused.is)
+returns-in_err-judge_round c = exit _ _ _ c.from_residual.ensures.1 ∙ sym (turned_down _ _ c.in_err-judge_round.ensures _ _ refl)

@@ -1,13 +1,13 @@
 -- The refusals of the plant, then what is answered in it.
-use Rattle.answers.proofs.Beside.{on_then, off_then}
+use Rattle.answers.proofs.Results.{try_given, try_refused}
 use Rattle.planning.specs.Planning.{planning_at}
 use Rattle.probing.specs.Calls.{run_in, running}
 use Rattle.probing.proofs.run.Goals as goal
 
-pub returns-in-Accepted : goal.returns-in-Accepted
+pub returns : goal.returns
 unfolding running
-returns-in-Accepted c = on_then _ (planning_at _ _) _ _ c.plan_at-d.ensures.plots (run_in _ _ _) _ c.in-Accepted.is c.run_in.ensures
+returns c = try_given (planning_at _ _) (run_in _ _ _) _ _ c.in_ok-plan.ensures c.run_in.ensures
 
-pub returns-in-Refused : goal.returns-in-Refused
+pub returns-in_err-plan : goal.returns-in_err-plan
 unfolding running
-returns-in-Refused c = off_then _ (planning_at _ _) _ _ c.plan_at-d.ensures.plots (run_in _ _ _) _ c.in-Refused.is
+returns-in_err-plan c = try_refused (planning_at _ _) (run_in _ _ _) _ _ _ c.from_residual.ensures.1 c.in_err-plan.ensures

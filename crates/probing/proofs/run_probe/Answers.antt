@@ -1,17 +1,17 @@
 -- The refusals of the plant, then what is answered in it.
-use Rattle.answers.proofs.Beside.{on_then, off_then}
+use Rattle.answers.proofs.Results.{try_given, try_refused}
 use Rattle.planning.specs.Planning.{planning_at}
 use Rattle.probing.specs.Calls.{probe_in, probing}
 use Rattle.probing.proofs.Lent.{planned_in}
 use Rattle.probing.proofs.run_probe.Goals as goal
 
-pub probe_in-requires-clause-switch_lt_switches : goal.probe_in-requires-clause-switch_lt_switches
-probe_in-requires-clause-switch_lt_switches c = planned_in _ _ c.plan_at-d.result c.plan_at-d.ensures.plots c.in-Accepted.is
+pub probe_in-requires : goal.probe_in-requires
+probe_in-requires c = planned_in _ _ _ c.in_ok-plan.ensures
 
-pub returns-in-Accepted : goal.returns-in-Accepted
+pub returns : goal.returns
 unfolding probing
-returns-in-Accepted c = on_then _ (planning_at _ _) _ _ c.plan_at-d.ensures.plots (probe_in _ _ _ _) _ c.in-Accepted.is c.probe_in.ensures
+returns c = try_given (planning_at _ _) (probe_in _ _ _ _) _ _ c.in_ok-plan.ensures c.probe_in.ensures
 
-pub returns-in-Refused : goal.returns-in-Refused
+pub returns-in_err-plan : goal.returns-in_err-plan
 unfolding probing
-returns-in-Refused c = off_then _ (planning_at _ _) _ _ c.plan_at-d.ensures.plots (probe_in _ _ _ _) _ c.in-Refused.is
+returns-in_err-plan c = try_refused (planning_at _ _) (probe_in _ _ _ _) _ _ _ c.from_residual.ensures.1 c.in_err-plan.ensures

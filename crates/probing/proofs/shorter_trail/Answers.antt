@@ -1,5 +1,5 @@
 -- The refusals of the plant, then what is answered in it.
-use Rattle.answers.proofs.Beside.{on_then, off_then}
+use Rattle.answers.proofs.Results.{try_given, try_refused}
 use Rattle.codec.proofs.FieldLaws.{bytes_known}
 use Rattle.planning.specs.Planning.{planning_at}
 use Rattle.probing.specs.Calls.{choice_in, choosing}
@@ -7,17 +7,17 @@ use Rattle.probing.proofs.Lent.{planned_in}
 use Rattle.probing.proofs.Rounds.{chosen-hops}
 use Rattle.probing.proofs.shorter_trail.Goals as goal
 
-pub choose_in-requires-clause-switch_lt_switches : goal.choose_in-requires-clause-switch_lt_switches
-choose_in-requires-clause-switch_lt_switches c = planned_in _ _ c.plan_at-d.result c.plan_at-d.ensures.plots c.in-Accepted.is
+pub choose_in-requires : goal.choose_in-requires
+choose_in-requires c = planned_in _ _ _ c.in_ok-plan.ensures
 
-pub returns-in-Accepted : goal.returns-in-Accepted
+pub returns : goal.returns
 unfolding choosing
-returns-in-Accepted c =
-    let r = on_then _ (planning_at _ _) _ _ c.plan_at-d.ensures.plots (choice_in _ _ _) _ c.in-Accepted.is c.choose_in.ensures in
+returns c =
+    let r = try_given (planning_at _ _) (choice_in _ _ _) _ _ c.in_ok-plan.ensures c.choose_in.ensures in
     record { result_value = r; chosen_hops = chosen-hops _ (bytes_known c.args.listing.now (λ i. (c.type_inv.listing i).fits)) _ _ _ _ r }
 
-pub returns-in-Refused : goal.returns-in-Refused
+pub returns-in_err-plan : goal.returns-in_err-plan
 unfolding choosing
-returns-in-Refused c =
-    let r = off_then _ (planning_at _ _) _ _ c.plan_at-d.ensures.plots (choice_in _ _ _) _ c.in-Refused.is in
+returns-in_err-plan c =
+    let r = try_refused (planning_at _ _) (choice_in _ _ _) _ _ _ c.from_residual.ensures.1 c.in_err-plan.ensures in
     record { result_value = r; chosen_hops = chosen-hops _ (bytes_known c.args.listing.now (λ i. (c.type_inv.listing i).fits)) _ _ _ _ r }

@@ -1,9 +1,11 @@
-use mathlib.Core.Path.{◌≡◌, refl, sym, ap, ◌∙◌, subst}
+-- By the order quantity of the rules of the table.
+use mathlib.Core.Path.{◌≡◌, sym, ap, ◌∙◌, subst}
 use Prim.Native.Nat.{ℕ}
 use Rattle.answers.specs.Answers.{given, refused}
 use Rattle.answers.specs.Checks.{answer}
-use Rattle.answers.proofs.Beside.{beside_given, beside_refused}
 use Rattle.answers.proofs.Checks.{gives_so, refuses_so}
+use Rattle.answers.proofs.Results.{exit}
+use Rattle.sheet.specs.declared.Sheet.{Sheet}
 use Rattle.plant.specs.declared.Plant.{Plant}
 use Rattle.senders.specs.declared.BySwitch.{BySwitch}
 use Rattle.senders.specs.Senders.{by_switch}
@@ -28,14 +30,14 @@ module _ (p : Plant) (b : BySwitch) (f : b ≡ by_switch (table_of p)) (spare : 
       refuses_so (order_quantity (by_switch (table_of p)).total spare) (sheet_with p (by_switch (table_of p))) k (ap (λ (r : BySwitch). answer (order_quantity r.total spare)) (sym f) ∙ e)
 
 pub by_switch-rules-requires : goal.by_switch-rules-requires
-by_switch-rules-requires c = subst Placed (sym c.table_of-table.ensures) (placed _ c.requires.sound)
+by_switch-rules-requires c = subst Placed (sym c.table_of-table.ensures) (placed _ c.args.x.now.network.ends.sound)
 
-pub returns-in-Rules : goal.returns-in-Rules
-returns-in-Rules c =
+pub returns-in_err-n : goal.returns-in_err-n
+returns-in_err-n c =
     let rules-are = c.by_switch-rules.ensures ∙ ap by_switch c.table_of-table.ensures in
-    beside_given _ _ _ _ refl (price_given c.args.x.plant _ rules-are c.args.spare _ (sym c.in-Rules.ensures) ∙ ap given (sym c.sheet_of-sheet.ensures))
+    exit (λ (s : Sheet). s) _ _ c.from_residual.ensures.1 ∙ sym (price_refused c.args.x.now.network.ends.plant _ rules-are c.args.spare _ (sym c.in_err-n.ensures))
 
-pub returns-in-Refused : goal.returns-in-Refused
-returns-in-Refused c =
+pub returns : goal.returns
+returns c =
     let rules-are = c.by_switch-rules.ensures ∙ ap by_switch c.table_of-table.ensures in
-    beside_refused _ _ _ _ _ refl c.none-sheet.ensures (price_refused c.args.x.plant _ rules-are c.args.spare _ (sym c.in-Refused.ensures))
+    ap given c.sheet_of.ensures ∙ sym (price_given c.args.x.now.network.ends.plant _ rules-are c.args.spare _ (sym c.in_ok-n.ensures))

@@ -1,34 +1,36 @@
-use mathlib.Core.Path.{refl, ◌∙◌}
+-- The spare first, then the room, and then the page.
+use Rattle.std.proofs.Common.{sym, ◌∙◌}
+use Rattle.answers.proofs.Results.{exit}
 use Rattle.quoting.proofs.Counts.{priced_shown}
-use Rattle.quoting.proofs.Quotes.{priced, room-enough, quote_given, quote_left, quote_refused, quote_kept}
+use Rattle.quoting.proofs.Quotes.{out-kept, spare_refused, priced, room-enough, quote_given, quote_left, room_refused}
 use Rattle.quoting.proofs.put_page.Goals as goal
 
-pub returns-in-Refused-clause-result_value : goal.returns-in-Refused-clause-result_value
-returns-in-Refused-clause-result_value c =
-    quote_refused c.args.x.plant c.args.spare c.args.buffer.now _ _ _ _ _ c.price-priced.ensures c.page_length-n.ensures c.judge_room-room.ensures c.in-Refused.ensures _ refl
+pub returns-in_err-counts-clause-result_value : goal.returns-in_err-counts-clause-result_value
+returns-in_err-counts-clause-result_value c =
+    exit (λ n. n) _ _ c.from_residual.ensures.1 ∙ sym (spare_refused c.args.x.now.network.ends.plant c.args.spare c.args.buffer.now _ c.price.ensures _ c.in_err-counts.was)
 
-pub put_page-requires-clause-three_digits : goal.put_page-requires-clause-three_digits
-put_page-requires-clause-three_digits c =
-    let e = priced c.args.x.plant c.args.spare c.args.buffer.now _ _ _ _ _ c.price-priced.ensures c.page_length-n.ensures c.judge_room-room.ensures c.in-Accepted.ensures refl in
-    (priced_shown c.args.x.plant c.requires.sound c.args.spare _ e).digits
+pub returns-in_err-counts-clause-buffer_now : goal.returns-in_err-counts-clause-buffer_now
+returns-in_err-counts-clause-buffer_now c =
+    sym (out-kept c.args.x.now.network.ends.plant c.args.spare c.args.buffer.now _ (spare_refused c.args.x.now.network.ends.plant c.args.spare c.args.buffer.now _ c.price.ensures _ c.in_err-counts.was))
 
-pub put_page-requires-clause-switches_le_max_switches : goal.put_page-requires-clause-switches_le_max_switches
-put_page-requires-clause-switches_le_max_switches c =
-    let e = priced c.args.x.plant c.args.spare c.args.buffer.now _ _ _ _ _ c.price-priced.ensures c.page_length-n.ensures c.judge_room-room.ensures c.in-Accepted.ensures refl in
-    (priced_shown c.args.x.plant c.requires.sound c.args.spare _ e).few
+pub returns-in_err-judge_room-clause-result_value : goal.returns-in_err-judge_room-clause-result_value
+returns-in_err-judge_room-clause-result_value c =
+    exit (λ n. n) _ _ c.from_residual-in_err-judge_room.ensures.1 ∙ sym (room_refused c.args.x.now.network.ends.plant c.args.spare c.args.buffer.now _ c.price.ensures _ c.in_ok-counts.was _ c.page_length-n.ensures _ c.judge_room.ensures _ c.in_err-judge_room.was)
 
-pub put_page-requires-clause-s_in_bounds : goal.put_page-requires-clause-s_in_bounds
-put_page-requires-clause-s_in_bounds c =
-    room-enough c.args.x.plant c.args.spare c.args.buffer.now _ _ _ _ _ c.price-priced.ensures c.page_length-n.ensures c.judge_room-room.ensures c.in-Accepted.ensures refl
+pub returns-in_err-judge_room-clause-buffer_now : goal.returns-in_err-judge_room-clause-buffer_now
+returns-in_err-judge_room-clause-buffer_now c =
+    sym (out-kept c.args.x.now.network.ends.plant c.args.spare c.args.buffer.now _ (room_refused c.args.x.now.network.ends.plant c.args.spare c.args.buffer.now _ c.price.ensures _ c.in_ok-counts.was _ c.page_length-n.ensures _ c.judge_room.ensures _ c.in_err-judge_room.was))
 
-pub returns-in-Accepted-clause-result_value : goal.returns-in-Accepted-clause-result_value
-returns-in-Accepted-clause-result_value c =
-    quote_given c.args.x.plant c.args.spare c.args.buffer.now _ _ _ _ _ c.price-priced.ensures c.page_length-n.ensures c.judge_room-room.ensures c.in-Accepted.ensures refl
+pub invariant_of-put_page : goal.invariant_of-put_page
+invariant_of-put_page c =
+    let w = priced_shown c.args.x.now.network.ends.plant c.args.x.now.network.ends.sound c.args.spare _ (priced c.args.x.now.network.ends.plant c.args.spare c.args.buffer.now _ c.price.ensures _ c.in_ok-counts.was) in
+    record { few = w.few; three_digits = w.digits }
 
-pub returns-in-Accepted-clause-buffer_now : goal.returns-in-Accepted-clause-buffer_now
-returns-in-Accepted-clause-buffer_now c =
-    c.put_page.ensures ∙ quote_left c.args.x.plant c.args.spare c.args.buffer.now _ _ _ _ _ c.price-priced.ensures c.page_length-n.ensures c.judge_room-room.ensures c.in-Accepted.ensures refl
+pub put_page-requires : goal.put_page-requires
+put_page-requires c = room-enough c.args.x.now.network.ends.plant c.args.spare c.args.buffer.now _ c.price.ensures _ c.in_ok-counts.was _ c.page_length-n.ensures _ c.judge_room.ensures _ c.in_ok-judge_room.was
 
-pub returns-in-Refused-clause-buffer_now : goal.returns-in-Refused-clause-buffer_now
-returns-in-Refused-clause-buffer_now c =
-    quote_kept c.args.x.plant c.args.spare c.args.buffer.now _ _ _ _ _ c.price-priced.ensures c.page_length-n.ensures c.judge_room-room.ensures c.in-Refused.ensures _ refl
+pub returns-clause-result_value : goal.returns-clause-result_value
+returns-clause-result_value c = sym (quote_given c.args.x.now.network.ends.plant c.args.spare c.args.buffer.now _ c.price.ensures _ c.in_ok-counts.was _ c.page_length-n.ensures _ c.judge_room.ensures _ c.in_ok-judge_room.was)
+
+pub returns-clause-buffer_now : goal.returns-clause-buffer_now
+returns-clause-buffer_now c = c.put_page.ensures ∙ quote_left c.args.x.now.network.ends.plant c.args.spare c.args.buffer.now _ c.price.ensures _ c.in_ok-counts.was _ c.page_length-n.ensures _ c.judge_room.ensures _ c.in_ok-judge_room.was

@@ -5,10 +5,10 @@ use Rattle.sheet.proofs.RoundTrip.{column_are}
 use Rattle.readback.proofs.column.Goals as goal
 
 pub loop-x-init : goal.loop-x-init
-loop-x-init c = (omega arith, laid_none _ _ _)
+loop-x-init c = laid_none _ _ _
 
 pub returns : goal.returns
 returns c =
-    let e : c.loop-x.x ≡ c.args.n = omega (arith, c.loop-x.invariant.0) in
-    let d = rw e at c.loop-x.invariant.1 in
+    let e : c.loop-x.x ≡ c.args.n = omega arith in
+    let d = rw e at c.loop-x.invariant in
     sym (column_are c.args.n _ c.loop-x.numbers d.places d.tells d.clear)

@@ -1,5 +1,4 @@
 -- Before each turn the numbers of the first x lines are at their places.
-use Rattle.std.proofs.Common.{◌-◌, ◌≤◌}
 use Rattle.lists.proofs.Laid.{Laid}
 use Rattle.limits.specs.Limits.{max_switches}
 use Rattle.columns.specs.Fields.{number_in}
@@ -8,7 +7,4 @@ use Rattle.sheet.specs.Form.{line_at}
 use Rattle.readback.proofs.column.Given as goal
 
 abbrev pub invariant-loop-x : goal.invariant-loop-x
-invariant-loop-x l = (l.x ≤ l.n) × Laid 0 max_switches (λ k. number_in (columns_of l.from l.to (line_at l.page k))) l.x l.numbers
-
-abbrev pub decreases-loop-x : goal.decreases-loop-x
-decreases-loop-x l = l.n - l.x
+invariant-loop-x l = Laid 0 max_switches (λ k. number_in (columns_of l.from l.to (line_at l.page k))) l.x l.numbers

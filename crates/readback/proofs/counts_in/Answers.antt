@@ -64,4 +64,4 @@ overflow_cast-result c = omega (arith, (few c.args.page.now c.requires).0)
 
 pub returns : goal.returns
 unfolding counts_in
-returns c = rw (c.column-rules.ensures, c.column-links.ensures, c.number_on-total.ensures.value, c.number_on-quantity.ensures.value) refl
+returns c = rw (c.column-rules.ensures, c.column-links.ensures, c.number_on-total.ensures.value, c.from.ensures, c.number_on-quantity.ensures.value) refl

@@ -1,9 +1,9 @@
 -- Each test in turn.
-use Rattle.std.proofs.Common.{◌≡◌, Bool, true, List, ℕ, ◌+◌, ◌<◌, eqb, length, sym, ap, ap₂, ◌∙◌, arith}
+use Rattle.std.proofs.Common.{◌≡◌, Bool, true, List, ℕ, ◌+◌, ◌<◌, eqb, sym, ap, ap₂, ◌∙◌, arith}
 use Rattle.lists.specs.Sum.{sum}
 use Rattle.lists.proofs.Tests.{not_both}
 use Rattle.sheet.specs.Form.{of_total, lines_in, switches_in, whole_lines, plain_lines, rising, total_last, rules_add_up, line_at, rules_on}
-use Rattle.sheet.proofs.Form.{line-length, whole_is, lines_plain, formed_rest, not_formed}
+use Rattle.sheet.proofs.Form.{whole_is, lines_plain, formed_rest, not_formed}
 use Rattle.readback.specs.Held.{Lines}
 use Rattle.readback.proofs.Lines.{held-rules}
 use Rattle.readback.proofs.is_formed.Goals as goal
@@ -55,15 +55,10 @@ returns-then-not-rising c =
 pub line_at-requires : goal.line_at-requires
 line_at-requires c = all_lines c.args.page.now (sym c.whole_lines.ensures ∙ c.if-not-whole_lines.false)
 
-pub of_total-requires : goal.of_total-requires
-of_total-requires c =
-    let b = c.args.page.now in
-    ap length c.line_at.ensures ∙ line-length b (switches_in b) (all_lines b (sym c.whole_lines.ensures ∙ c.if-not-whole_lines.false))
-
 pub returns-then-not-of_total : goal.returns-then-not-of_total
 returns-then-not-of_total c =
     let b = c.args.page.now in
-    sym (not_formed b (λ p. not_both (total_last b) p.total (total-told b c.line_at.ensures c.of_total.ensures ∙ c.if-not-of_total.true)))
+    sym (not_formed b (λ p. not_both (total_last b) p.total (total-told b c.line_at.ensures.value c.of_total.ensures ∙ c.if-not-of_total.true)))
 
 pub rules_sum-sum-requires-clause-n_le_max_switches : goal.rules_sum-sum-requires-clause-n_le_max_switches
 rules_sum-sum-requires-clause-n_le_max_switches c =
@@ -93,4 +88,4 @@ returns c =
     let b = c.args.page.now in
     adds_up b c.rules_sum-sum.ensures c.number_on-total.ensures.value
     ∙ formed_rest b (sym c.whole_lines.ensures ∙ c.if-not-whole_lines.false) (sym c.plain_lines.ensures ∙ c.if-not-plain_lines.false)
-    (sym c.rising.ensures ∙ c.if-not-rising.false) (total-told b c.line_at.ensures c.of_total.ensures ∙ c.if-not-of_total.false)
+    (sym c.rising.ensures ∙ c.if-not-rising.false) (total-told b c.line_at.ensures.value c.of_total.ensures ∙ c.if-not-of_total.false)

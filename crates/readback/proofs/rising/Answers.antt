@@ -1,18 +1,10 @@
 -- Each line is of its switch, or one is not.
-use Rattle.std.proofs.Common.{List, ℕ, sym, ap, ◌∙◌, arith}
-use Rattle.lists.proofs.Stepwise.{every_true, every_false}
-use Rattle.sheet.specs.Form.{of_switch}
-use Rattle.readback.proofs.Lines.{line-there}
+use Rattle.std.proofs.Common.{rules, tests, ◌∙◌, refl, arith}
+use Rattle.std.proofs.lemmas.Iterator.{YieldsList-from_range}
+use Rattle.std.proofs.lemmas.Iterator.Search.{all_from_yields_List}
+use Rattle.readback.proofs.Lines.{tried_all}
 use Rattle.readback.proofs.rising.Goals as goal
 
-pub of_switch-requires : goal.of_switch-requires
-of_switch-requires c = line-there _ _ c.loop-x.x _ c.requires c.loop-x-test.true c.line_at.ensures
-
-pub returns-then-not-of_switch : goal.returns-then-not-of_switch
-returns-then-not-of_switch c =
-    sym
-    (every_false _ _ c.loop-x.x c.loop-x-test.true
-    (sym (c.of_switch.ensures ∙ ap (λ (l : List ℕ). of_switch l c.loop-x.x) c.line_at.ensures) ∙ c.if-not-of_switch.true))
-
 pub returns : goal.returns
-returns c = sym (every_true _ _ (λ k h. c.loop-x.invariant.1 k (omega (arith, c.loop-x-test.false))))
+returns c =
+    all_from_yields_List _ _ _ _ c.all.ensures.ran (YieldsList-from_range 0 c.args.n c.args.n refl (omega arith)) (λ x b q k. search (rules, tests)) ∙ tried_all _ c.args.n

@@ -7,11 +7,10 @@ use Rattle.readback.proofs.rules_sum.Goals as goal
 
 pub loop-x-init : goal.loop-x-init
 unfolding sum
-loop-x-init c = (omega arith, refl, omega arith)
+loop-x-init c = (refl, omega arith)
 
 pub loop-x-preserved : goal.loop-x-preserved
 loop-x-preserved c = (
-  omega (arith, c.loop-x-test.true),
-  omega (arith, c.loop-x.invariant.1, c.number_on-total.ensures.value, sum-next (rules_on c.args.page.now) c.loop-x.x),
-  omega (arith, c.number_on-total.ensures.upper_bound, c.loop-x.invariant.2),
+  omega (arith, c.loop-x.invariant.0, c.number_on-total.ensures.value, sum-next (rules_on c.args.page.now) c.loop-x.x),
+  omega (arith, c.number_on-total.ensures.upper_bound, c.loop-x.invariant.1),
 )

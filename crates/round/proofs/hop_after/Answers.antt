@@ -6,28 +6,32 @@ use Rattle.round.specs.Inner.{or_back, hop_after}
 use Rattle.round.proofs.Turning.{opposite-below}
 use Rattle.round.proofs.hop_after.Goals as goal
 
-pub bounds-after-back : goal.bounds-after-back
-bounds-after-back c = omega (arith, c.opposite-back.ensures, opposite-below c.args.a max_links c.requires.a_bound)
+pub bounds-t-back : goal.bounds-t-back
+bounds-t-back c = omega (arith, c.opposite-back.ensures, opposite-below c.args.a max_links c.requires.a_bound)
 
-pub returns-then-not-leading-i : goal.returns-then-not-leading-i
+pub returns-then-not-t-i : goal.returns-then-not-t-i
 unfolding hop_after
-returns-then-not-leading-i c =
-    let s = c.args in
-    let e : flag s.leading.now s.a ≡ false = c.if-not-leading-i.true in
-    rw e (c.or_back.ensures ∙ ap (λ (b : ℕ). or_back s.n (at s.after.now b) (at s.up.now (at s.heads.now s.a))) c.opposite-back.ensures)
+returns-then-not-t-i c =
+    let t = c.args.t.now in
+    let up = c.args.up.now in
+    let a = c.args.a in
+    let e : flag t.leading a ≡ false = c.if-not-t-i.true in
+    rw e (c.or_back.ensures ∙ ap (λ (b : ℕ). or_back t.labels (at t.chains.after b) (at up (at t.heads a))) c.opposite-back.ensures)
 
-pub returns-then-entered-i : goal.returns-then-entered-i
+pub returns-then-t-i : goal.returns-then-t-i
 unfolding hop_after
-returns-then-entered-i c =
-    let s = c.args in
-    let e : flag s.leading.now s.a ≡ true = c.if-not-leading-i.false in
-    let f : flag s.entered.now (s.a / 2) ≡ true = c.if-entered-i.true in
-    rw (e, f) c.or_back-then-entered-i.ensures
+returns-then-t-i c =
+    let t = c.args.t.now in
+    let a = c.args.a in
+    let e : flag t.leading a ≡ true = c.if-not-t-i.false in
+    let f : flag t.entered (a / 2) ≡ true = c.if-t-i.true in
+    rw (e, f) c.or_back-then-t-i.ensures
 
 pub returns : goal.returns
 unfolding hop_after
 returns c =
-    let s = c.args in
-    let e : flag s.leading.now s.a ≡ true = c.if-not-leading-i.false in
-    let f : flag s.entered.now (s.a / 2) ≡ false = c.if-entered-i.false in
+    let t = c.args.t.now in
+    let a = c.args.a in
+    let e : flag t.leading a ≡ true = c.if-not-t-i.false in
+    let f : flag t.entered (a / 2) ≡ false = c.if-t-i.false in
     rw (e, f) c.opposite-back.ensures

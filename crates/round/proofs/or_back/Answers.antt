@@ -8,6 +8,6 @@ pub returns-then-next-n : goal.returns-then-next-n
 unfolding or_back
 returns-then-next-n c = rw (lt-ltb _ _ c.if-next-n.true) refl
 
-pub returns : goal.returns
+pub returns-else-next-n : goal.returns-else-next-n
 unfolding or_back
-returns c = rw (le-ltb _ _ c.if-next-n.false) refl
+returns-else-next-n c = rw (le-ltb _ _ c.if-next-n.false) refl

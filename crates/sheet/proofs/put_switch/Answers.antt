@@ -6,16 +6,16 @@ use Rattle.sheet.proofs.put_switch.Goals as goal
 
 pub put_right-next-requires-clause-room : goal.put_right-next-requires-clause-room
 put_right-next-requires-clause-room c =
-    let h = c.requires.x_lt_switches in
-    omega (arith, switch_field_lem c.args.s c.requires.three_digits h.1 c.args.x h.0)
+    let q = c.args.quote.now in
+    omega (arith, switch_field_lem q.sheet q.three_digits q.few c.args.x c.requires.x_lt_switches)
 
 pub put_numbers-requires-clause-room : goal.put_numbers-requires-clause-room
 put_numbers-requires-clause-room c =
     let h = c.requires.x_lt_switches in
-    let d = c.requires.three_digits in
-    omega (arith, switch_field_lem c.args.s d h.1 c.args.x h.0, numbers-size _ _ (d.rules c.args.x h.0) (d.links c.args.x h.0))
+    let q = c.args.quote.now in
+    omega (arith, switch_field_lem q.sheet q.three_digits q.few c.args.x h, numbers-size _ _ (q.three_digits.rules c.args.x h) (q.three_digits.links c.args.x h))
 
 pub returns : goal.returns
 returns c =
-    let h = c.requires.x_lt_switches in
-    rw (switch_is c.args.s c.requires.three_digits h.1 c.args.x h.0) (laid_then c.put_right-next.ensures c.put_numbers.ensures)
+    let q = c.args.quote.now in
+    rw (switch_is q.sheet q.three_digits q.few c.args.x c.requires.x_lt_switches) (laid_then c.put_right-next.ensures c.put_numbers.ensures)

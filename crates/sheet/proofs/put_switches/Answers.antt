@@ -7,8 +7,7 @@ use Rattle.sheet.proofs.put_switches.Goals as goal
 
 pub put_switch-next-requires-clause-line_columns_in_bounds : goal.put_switch-next-requires-clause-line_columns_in_bounds
 put_switch-next-requires-clause-line_columns_in_bounds c =
-    omega (arith, switches-size c.args.s c.requires.three_digits c.requires.switches_le_max_switches c.loop-x.x c.loop-x.invariant.0, c.loop-x.invariant.1.place)
+    omega (arith, switches-size c.args.quote.now.sheet c.args.quote.now.three_digits c.args.quote.now.few c.loop-x.x (omega arith), c.loop-x.invariant.place)
 
 pub loop-x-preserved : goal.loop-x-preserved
-loop-x-preserved c =
-    (omega (arith, c.loop-x-test.true), rw (lines_after (switch_line c.args.s) c.loop-x.x) (laid_then c.loop-x.invariant.1 c.put_switch-next.ensures))
+loop-x-preserved c = rw (lines_after (switch_line c.args.quote.now.sheet) c.loop-x.x) (laid_then c.loop-x.invariant c.put_switch-next.ensures)

@@ -1,5 +1,4 @@
 -- Before each turn the lines of the switches before x are laid.
-use Rattle.std.proofs.Common.{◌-◌, ◌≤◌}
 use Rattle.lists.specs.Numbers.{range}
 use Rattle.text.specs.Lines.{each}
 use Rattle.text.specs.Laid.{Laid}
@@ -7,7 +6,4 @@ use Rattle.sheet.specs.Page.{switch_line}
 use Rattle.sheet.proofs.put_switches.Given as goal
 
 abbrev pub invariant-loop-x : goal.invariant-loop-x
-invariant-loop-x l = (l.x ≤ l.s.switches) × Laid l.fn.buf 0 (each (switch_line l.s) (range 0 l.x)) l.buf l.next
-
-abbrev pub decreases-loop-x : goal.decreases-loop-x
-decreases-loop-x l = l.s.switches - l.x
+invariant-loop-x l = Laid l.fn.buf 0 (each (switch_line l.fn.quote.sheet) (range 0 l.x)) l.buf l.next

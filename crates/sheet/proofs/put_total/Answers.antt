@@ -5,7 +5,8 @@ use Rattle.sheet.proofs.Page.{total-is, numbers-size}
 use Rattle.sheet.proofs.put_total.Goals as goal
 
 pub put_numbers-requires-clause-room : goal.put_numbers-requires-clause-room
-put_numbers-requires-clause-room c = omega (arith, numbers-size _ _ c.requires.three_digits.total c.requires.three_digits.quantity)
+put_numbers-requires-clause-room c =
+    omega (arith, numbers-size _ _ c.args.quote.now.three_digits.total c.args.quote.now.three_digits.quantity)
 
 pub returns : goal.returns
-returns c = rw (total-is c.args.s c.requires.three_digits) (laid_then c.put_left-next.ensures c.put_numbers.ensures)
+returns c = rw (total-is c.args.quote.now.sheet c.args.quote.now.three_digits) (laid_then c.put_left-next.ensures c.put_numbers.ensures)

@@ -1,45 +1,32 @@
 -- A flagged label adds its rule, for which there is a place; any other adds none.
-use Rattle.std.proofs.Common.{◌≡◌, ℕ, ◌<◌, ap, ◌∙◌, arith}
-use Rattle.lists.specs.Arrays.{flag, at}
+use Rattle.std.proofs.Common.{◌<◌, ◌∙◌, arith}
 use Rattle.limits.specs.Limits.{max_rules}
-use Rattle.table.specs.Rules.{table_in}
 use Rattle.table.proofs.Rules.{table_none, table-place, table_rule, table-skip}
 use Rattle.table.proofs.table_of.Goals as goal
-use Rattle.table.proofs.table_of.Goals.{then-in_use, else-in_use}
+use Rattle.table.proofs.table_of.Goals.{After-from, then-used-a, else-used-a}
 
-pub loop-a-init : goal.loop-a-init
-loop-a-init c = (omega arith, c.empty-t.ensures ∙ table_none _ _ _)
+pub loop-label-init : goal.loop-label-init
+loop-label-init c = c.empty-t.ensures ∙ table_none _ _ _
 
-pub loop-a-preserved : goal.loop-a-preserved
-loop-a-preserved c =
-    let k = c.loop-a in (
-      omega arith,
-      elim c.if-in_use.branch [
-        | then-in_use w ↦ w.t-is ∙ table_rule _ _ _ _ c.requires.used_bound k.a c.loop-a-test.true w.if-in_use.true k.t k.invariant.1
-        | else-in_use w ↦ w.t-is ∙ table-skip _ _ _ k.a k.t w.if-in_use.false k.invariant.1
-      ],
-    )
+pub loop-label-preserved : goal.loop-label-preserved
+loop-label-preserved c =
+    let k = c.loop-label in
+    elim c.if-used-a.branch [
+      | then-used-a w ↦ w.t-is ∙ rw (w.from.ensures, c.from-a.ensures) (table_rule _ _ _ _ c.requires.used_bound k.label c.loop-label-test.true (rw c.from-a.ensures at w.if-used-a.true) k.t k.invariant)
+      | else-used-a w ↦ w.t-is ∙ table-skip _ _ _ k.label k.t (rw c.from-a.ensures at w.if-used-a.false) k.invariant
+    ]
 
-pub overflow_cast-k : goal.overflow_cast-k
-overflow_cast-k c =
-    let fits : c.loop-a.t.count < max_rules = table-place _ _ _ _ c.requires.used_bound c.loop-a.a c.loop-a-test.true c.if-in_use.true c.loop-a.t c.loop-a.invariant.1 in
-    omega arith
+-- there is a place for the rule
+fits : (c : After-from) → c.loop-label.t.count < max_rules
+fits c =
+    let k = c.loop-label in
+    table-place _ _ _ _ c.requires.used_bound k.label c.loop-label-test.true (rw c.from-a.ensures at c.if-used-a.true) k.t k.invariant
 
-pub offset_bounds-t-k : goal.offset_bounds-t-k
-offset_bounds-t-k c =
-    let fits : c.loop-a.t.count < max_rules = table-place _ _ _ _ c.requires.used_bound c.loop-a.a c.loop-a-test.true c.if-in_use.true c.loop-a.t c.loop-a.invariant.1 in
-    omega arith
+pub offset_bounds-t-from : goal.offset_bounds-t-from
+offset_bounds-t-from c = let h = fits (goal.at.offset_bounds-t-from c).After-from in omega (arith, h, c.from.ensures)
 
-pub bounds-t-k : goal.bounds-t-k
-bounds-t-k c = table-place _ _ _ _ c.requires.used_bound c.loop-a.a c.loop-a-test.true c.if-in_use.true c.loop-a.t c.loop-a.invariant.1
+pub bounds-t-from : goal.bounds-t-from
+bounds-t-from c = let h = fits (goal.at.bounds-t-from c).After-from in omega (arith, h, c.from.ensures)
 
 pub overflow_add-t : goal.overflow_add-t
-overflow_add-t c =
-    let fits : c.loop-a.t.count < max_rules = table-place _ _ _ _ c.requires.used_bound c.loop-a.a c.loop-a-test.true c.if-in_use.true c.loop-a.t c.loop-a.invariant.1 in
-    omega arith
-
-pub returns : goal.returns
-returns c =
-    let k = c.loop-a in
-    let e : k.a ≡ c.args.n = omega (arith, c.loop-a-test.false, k.invariant.0) in
-    k.invariant.1 ∙ ap (λ (n : ℕ). table_in n (at c.args.tails.now) (at c.args.heads.now) (flag c.args.used.now)) e
+overflow_add-t c = let h = fits (goal.at.overflow_add-t c).After-from in omega (arith, h)

@@ -5,7 +5,7 @@ use Rattle.text.proofs.PutLaws.{turns-room, turns_next}
 use Rattle.text.proofs.put_numbers.Goals as goal
 
 pub put_number-next-requires : goal.put_number-next-requires
-put_number-next-requires c = turns-room c.loop-i.invariant 0 (omega arith) c.loop-i-test.true (rw (take-length c.args.ns.now) c.requires)
+put_number-next-requires c = rw c.from.ensures (turns-room c.loop-n.invariant 0 (omega arith) c.loop-n-test.true (rw (take-length c.args.ns.now) c.requires))
 
-pub loop-i-preserved : goal.loop-i-preserved
-loop-i-preserved c = turns_next c.loop-i.invariant 0 (omega arith) c.loop-i-test.true c.put_number-next.ensures
+pub loop-n-preserved : goal.loop-n-preserved
+loop-n-preserved c = turns_next c.loop-n.invariant 0 (omega arith) c.loop-n-test.true (rw c.from.ensures at c.put_number-next.ensures)

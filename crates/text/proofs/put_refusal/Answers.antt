@@ -6,4 +6,4 @@ use Rattle.text.proofs.SizeLaws.{line-most}
 use Rattle.text.proofs.put_refusal.Goals as goal
 
 pub put_line-requires : goal.put_line-requires
-put_line-requires c = omega (arith, line-most digits_short (omega arith) refused_word (c.args.n ∷ []) (omega arith, tt))
+put_line-requires c = rw c.from.ensures (omega (arith, line-most digits_short (omega arith) refused_word (c.args.n ∷ []) (omega arith, tt)))

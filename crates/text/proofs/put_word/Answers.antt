@@ -1,7 +1,7 @@
--- What is laid before a turn and the byte that the turn lays are what is laid after it.
+-- The word stands where it was copied to.
 use Rattle.std.proofs.Common.{arith}
-use Rattle.text.proofs.PutLaws.{word_next}
+use Rattle.text.proofs.LaidLaws.{laid-put}
 use Rattle.text.proofs.put_word.Goals as goal
 
-pub loop-i-preserved : goal.loop-i-preserved
-loop-i-preserved c = (omega arith, word_next c.args.word.now c.loop-i.i c.loop-i-test.true c.loop-i.invariant.1 c.requires)
+pub returns : goal.returns
+returns c = laid-put c.args.buf.now c.args.at _ c.args.word.now _ (omega arith) c.copy_from_slice.ensures.after c.requires

@@ -1,65 +1,47 @@
 -- A lent trail compared, leg by leg.
-use Rattle.std.proofs.Common.{refl, arith}
-use Rattle.trail.specs.declared.Compared.TheVariants.{Same, Other}
+use Rattle.std.proofs.Common.{refl, sym, ◌∙◌, arith}
+use Rattle.std.specs.Prelude.{Some, None}
 use Rattle.trail.proofs.Filled.{met-short, met_differs, met-one, met_other, met_list, met-last}
 use Rattle.trail.proofs.Along.{leg, back}
 use Rattle.trail.proofs.Ways.{way_of}
 use Rattle.trail.proofs.compare.Goals as goal
 
-pub bounds-tails-x : goal.bounds-tails-x
-bounds-tails-x c =
-    let k = c.loop-k in
-    let w = c.requires in
-    let l = leg w.parts w.legs_are k.u k.k (k.invariant w).0 c.loop-k-test.true in
-    omega (arith, l.label_low)
+pub bounds-network-x : goal.bounds-network-x
+bounds-network-x c = let w = c.requires in omega (arith, (leg w _ _ (c.loop-aim.invariant w).0 c.loop-aim-test.true).label_low)
 
 pub compare_way-requires : goal.compare_way-requires
-compare_way-requires c =
-    let k = c.loop-k in
-    let w = c.requires in
-    let l = leg w.parts w.legs_are k.u k.k (k.invariant w).0 c.loop-k-test.true in
-    way_of w.parts l.joined
+compare_way-requires c = let w = c.requires in way_of w (leg w _ _ (c.loop-aim.invariant w).0 c.loop-aim-test.true).joined
 
-pub returns-then-lent-j : goal.returns-then-lent-j
-returns-then-lent-j c w =
-    let k = c.loop-k in
-    let l = leg w.parts w.legs_are k.u k.k (k.invariant w).0 c.loop-k-test.true in
-    met-short (met_list (k.invariant w).1 l.goes (Same c.in-Same.j) (c.in-Same.ensures (way_of w.parts l.joined)) refl) refl c.if-lent-j.true
+pub returns-in_err-i : goal.returns-in_err-i
+returns-in_err-i c w =
+    let l = leg w _ _ (c.loop-aim.invariant w).0 c.loop-aim-test.true in
+    rw c.from_residual.ensures (met_other (c.loop-aim.invariant w).1 l.goes None (c.in_err-i.ensures (way_of w l.joined)) refl)
 
-pub returns-then-lent-j-2 : goal.returns-then-lent-j-2
-returns-then-lent-j-2 c w =
-    let k = c.loop-k in
-    let l = leg w.parts w.legs_are k.u k.k (k.invariant w).0 c.loop-k-test.true in
-    met_differs (met_list (k.invariant w).1 l.goes (Same c.in-Same.j) (c.in-Same.ensures (way_of w.parts l.joined)) refl) refl c.if-lent-j.false c.if-lent-j-2.true
+pub returns-in_err-label : goal.returns-in_err-label
+returns-in_err-label c w =
+    let l = leg w _ _ (c.loop-aim.invariant w).0 c.loop-aim-test.true in
+    let none = c.in_err-label.ensures.lookup in
+    rw c.from_residual-in_err-label.ensures (met-short (met_list (c.loop-aim.invariant w).1 l.goes (Some c.in_ok-i.i) (c.in_ok-i.ensures (way_of w l.joined)) refl) refl (omega (arith, none)))
 
-pub returns-in-Other : goal.returns-in-Other
-returns-in-Other c w =
-    let k = c.loop-k in
-    let l = leg w.parts w.legs_are k.u k.k (k.invariant w).0 c.loop-k-test.true in
-    met_other (k.invariant w).1 l.goes Other (c.in-Other.ensures (way_of w.parts l.joined)) refl
+pub returns-then-label-aim : goal.returns-then-label-aim
+returns-then-label-aim c w =
+    let l = leg w _ _ (c.loop-aim.invariant w).0 c.loop-aim-test.true in
+    let got = c.in_ok-label.ensures.lookup.3 in
+    met_differs (met_list (c.loop-aim.invariant w).1 l.goes (Some c.in_ok-i.i) (c.in_ok-i.ensures (way_of w l.joined)) refl) refl got.0 (λ e. c.if-label-aim.true (got.1 0 ∙ e))
 
-pub bounds-heads-x : goal.bounds-heads-x
-bounds-heads-x c =
-    let k = c.loop-k in
-    let w = c.requires in
-    let l = leg w.parts w.legs_are k.u k.k (k.invariant w).0 c.loop-k-test.true in
-    omega (arith, l.label_low)
+pub bounds-network-x-in-loop-aim : goal.bounds-network-x-in-loop-aim
+bounds-network-x-in-loop-aim c = let w = c.requires in omega (arith, (leg w _ _ (c.loop-aim.invariant w).0 c.loop-aim-test.true).label_low)
 
-pub loop-k-preserved : goal.loop-k-preserved
-loop-k-preserved c w =
-    let k = c.loop-k in
-    let l = leg w.parts w.legs_are k.u k.k (k.invariant w).0 c.loop-k-test.true in
-    (l.head_inside, met-one (met_list (k.invariant w).1 l.goes (Same c.in-Same.j) (c.in-Same.ensures (way_of w.parts l.joined)) refl) refl c.if-lent-j.false c.if-lent-j-2.false)
+pub loop-aim-preserved : goal.loop-aim-preserved
+loop-aim-preserved c w =
+    let l = leg w _ _ (c.loop-aim.invariant w).0 c.loop-aim-test.true in
+    let got = c.in_ok-label.ensures.lookup.3 in
+    (l.head_inside, met-one (met_list (c.loop-aim.invariant w).1 l.goes (Some c.in_ok-i.i) (c.in_ok-i.ensures (way_of w l.joined)) refl) refl got.0 (sym (got.1 0) ∙ c.if-label-aim.false))
 
 pub compare_way-requires-2 : goal.compare_way-requires-2
-compare_way-requires-2 c =
-    let k = c.loop-k in
-    let w = c.requires in
-    let b = back w.parts w.legs_are k.u k.k (k.invariant w).0 c.loop-k-test.false in
-    way_of w.parts b.joined
+compare_way-requires-2 c = let w = c.requires in way_of w (back w _ _ (c.loop-aim.invariant w).0 c.loop-aim-test.false).joined
 
 pub returns : goal.returns
 returns c w =
-    let k = c.loop-k in
-    let b = back w.parts w.legs_are k.u k.k (k.invariant w).0 c.loop-k-test.false in
-    met-last (k.invariant w).1 b.goes c.compare_way-2.result (c.compare_way-2.ensures (way_of w.parts b.joined))
+    let b = back w _ _ (c.loop-aim.invariant w).0 c.loop-aim-test.false in
+    met-last (c.loop-aim.invariant w).1 b.goes c.compare_way-2.result (c.compare_way-2.ensures (way_of w b.joined))

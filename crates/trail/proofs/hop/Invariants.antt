@@ -5,7 +5,7 @@ use Rattle.trail.proofs.Tried.{Tried}
 use Rattle.trail.proofs.hop.Given as goal
 
 abbrev pub invariant-loop-a : goal.invariant-loop-a
-invariant-loop-a l = (w : Way l.net l.heads l.first l.after l.t l.u l.to) → Tried l.net.labels w.tails l.heads w.used l.t l.u l.to l.a
+invariant-loop-a l = (w : Way l.network l.u l.to) → Tried l.network.net.labels l.network.ends.tails l.network.ends.heads w.used l.network.hops l.u l.to l.a
 
 abbrev pub decreases-loop-a : goal.decreases-loop-a
-decreases-loop-a l = l.net.labels - l.a
+decreases-loop-a l = l.network.net.labels - l.a

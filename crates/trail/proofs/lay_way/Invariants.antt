@@ -1,14 +1,15 @@
 -- What is left to store makes what the whole way makes. The measure is the hops left, by the table.
+use Rattle.arcs.specs.Net.{rooted}
 use Rattle.arcs.specs.Table.{cell}
 use Rattle.arcs.specs.Legs.{route_in, Joined}
 use Rattle.trail.specs.Ways.{Way, route_by}
 use Rattle.trail.proofs.Filled.{Stored}
 use Rattle.trail.proofs.lay_way.Given as goal
 
-abbrev pub invariant-loop-x : goal.invariant-loop-x
-invariant-loop-x l =
-    (w : Way l.net l.heads l.first l.after l.t l.u l.to)
-    → Joined l.net w.tails l.heads w.used w.parts.part l.x l.to × Stored l.initial.buf l.from (route_by w) l.buf l.at (route_in l.net w.tails l.heads w.used l.x l.to)
+abbrev pub invariant-loop-a : goal.invariant-loop-a
+invariant-loop-a l =
+    (w : Way l.network l.u l.to)
+    → Joined (rooted l.network.net w.root) l.network.ends.tails l.network.ends.heads w.used w.parts.part l.x l.to × Stored l.initial.buf l.from (route_by w) l.buf l.at (route_in (rooted l.network.net w.root) l.network.ends.tails l.network.ends.heads w.used l.x l.to)
 
-abbrev pub decreases-loop-x : goal.decreases-loop-x
-decreases-loop-x l = cell l.t l.x l.to
+abbrev pub decreases-loop-a : goal.decreases-loop-a
+decreases-loop-a l = cell l.network.hops l.x l.to

@@ -1,11 +1,8 @@
--- n flags are set below i.
-use Rattle.std.proofs.Common.{◌≡◌, ◌-◌, ◌≤◌, length}
+-- n flags are set below the place reached.
+use Rattle.std.proofs.Common.{◌≡◌}
 use Rattle.lists.specs.Arrays.{flag}
 use Rattle.lists.specs.Count.{count}
 use Rattle.uses.proofs.count_set.Given as goal
 
-abbrev pub invariant-loop-i : goal.invariant-loop-i
-invariant-loop-i l = (l.i ≤ length l.flags) × (l.n ≡ count l.i (flag l.flags))
-
-abbrev pub decreases-loop-i : goal.decreases-loop-i
-decreases-loop-i l = length l.flags - l.i
+abbrev pub invariant-loop-f : goal.invariant-loop-f
+invariant-loop-f l = l.n ≡ count l.f-index (flag l.flags)

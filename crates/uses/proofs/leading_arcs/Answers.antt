@@ -6,4 +6,4 @@ use Rattle.uses.proofs.Uses.{leading}
 use Rattle.uses.proofs.leading_arcs.Goals as goal
 
 pub returns : goal.returns
-returns c = leading c.requires.sound c.requires.visits (replicate max_links false) (λ l. get_d_same max_links l false) c.arcs_taken.ensures
+returns c = leading c.args.ends.now.sound c.requires.visits (replicate max_links false) (λ l. get_d_same max_links l false) c.arcs_taken.ensures

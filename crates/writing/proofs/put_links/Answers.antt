@@ -1,32 +1,34 @@
 use Rattle.std.proofs.Common.{◌+◌, drop, arith}
-use Rattle.plant.specs.Links.{link_at}
+use Rattle.plant.specs.Links.{zero_link}
 use Rattle.encoder.proofs.PutLaws.{laid-room, laid_one}
-use Rattle.listing.specs.Listing.{links_of, link_bytes, links_bytes}
+use Rattle.listing.specs.Listing.{link_bytes, links_bytes}
+use lib.ListN.{get_or}
 use Rattle.listing.proofs.WriteLaws.{link_by, left-next}
 use Rattle.writing.proofs.put_links.Goals as goal
 
 pub put_part-at-requires : goal.put_part-at-requires
 put_part-at-requires c =
-    let p = c.args.p in
-    let i = c.loop-i.i in
-    let before = c.loop-i.before in
-    let l = link_at p i in
-    let next = left-next p i before (omega (arith, c.loop-i-test.true, c.links_held-n.ensures.0)) in (
-      c.link_layout.ensures.proper,
-      rw (link_by before l c.link_layout.ensures c.link_values.ensures)
-          (laid-room _ _ _ _ (link_bytes before l) (links_bytes l (drop (i + 1) (links_of p))) _ _ c.loop-i.invariant.laid next c.requires),
+    let before = c.loop-l.before in
+    let i = c.loop-l.l-index in
+    let ls = c.links_held-l-items.result.now in
+    let l = get_or ls i zero_link in
+    let next = left-next ls i c.loop-l-test.true before in (
+      omega arith,
+      (
+        omega arith,
+        rw (link_by before l c.link_fields.ensures c.link_values.ensures)
+            (laid-room _ _ _ _ (link_bytes before l) (links_bytes l (drop (i + 1) ls)) _ _ c.loop-l.invariant next
+            (rw c.links_held-l-items.ensures.links_are c.requires)),
+      ),
     )
 
-pub loop-i-preserved : goal.loop-i-preserved
-loop-i-preserved c =
-    let p = c.args.p in
-    let i = c.loop-i.i in
-    let before = c.loop-i.before in
-    let l = link_at p i in
-    let next = left-next p i before (omega (arith, c.loop-i-test.true, c.links_held-n.ensures.0)) in
-    let e = link_by before l c.link_layout.ensures c.link_values.ensures in
-    record {
-      within = omega arith;
-      laid = laid_one _ _ _ _ (link_bytes before l) (links_bytes l (drop (i + 1) (links_of p))) _ _ c.loop-i.invariant.laid next
-          _ _ (rw e at c.put_part-at.ensures.value) (rw e at c.put_part-at.ensures.buf_after);
-    }
+pub loop-l-preserved : goal.loop-l-preserved
+loop-l-preserved c =
+    let before = c.loop-l.before in
+    let i = c.loop-l.l-index in
+    let ls = c.links_held-l-items.result.now in
+    let l = get_or ls i zero_link in
+    let next = left-next ls i c.loop-l-test.true before in
+    let e = link_by before l c.link_fields.ensures c.link_values.ensures in
+    laid_one _ _ _ _ (link_bytes before l) (links_bytes l (drop (i + 1) ls)) _ _ c.loop-l.invariant next
+    _ _ (rw e at c.put_part-at.ensures.value) (rw e at c.put_part-at.ensures.buf_after)

@@ -1,24 +1,23 @@
 use Rattle.std.proofs.Common.{sym, ap, ◌∙◌}
 use Rattle.answers.specs.Answers.{given}
-use Rattle.listing.proofs.WriteLaws.{judged_both, kept, write-refused, write-length, left-written}
+use Rattle.answers.specs.Results.{Judges}
+use Rattle.answers.proofs.Results.{exit}
+use Rattle.listing.proofs.WriteLaws.{write_checks, judged_both, kept, write-refused, write-length, left-written}
 use Rattle.writing.proofs.write.Goals as goal
+use Rattle.writing.proofs.write.Goals.{After-and}
 
-pub returns-in-Refused-clause-result_value : goal.returns-in-Refused-clause-result_value
-returns-in-Refused-clause-result_value c =
-    let j = judged_both c.args.p c.args.buffer.now _ _ _ _ c.judge_plant-sound.ensures c.listing_size-n.ensures c.judge_room-room.ensures c.first_of.ensures in
-    c.refused_writing.ensures.result_value ∙ sym (write-refused _ _ _ j _ c.in-Refused.is)
+judged : (c : After-and) → Judges (write_checks c.args.p c.args.buffer.now) c.and.result
+judged c = judged_both c.args.p c.args.buffer.now _ _ _ _ c.judge_plant-sound.ensures c.listing_size-n.ensures c.judge_room-room.ensures c.and.ensures
 
-pub returns-in-Accepted-clause-result_value : goal.returns-in-Accepted-clause-result_value
-returns-in-Accepted-clause-result_value c =
-    let j = judged_both c.args.p c.args.buffer.now _ _ _ _ c.judge_plant-sound.ensures c.listing_size-n.ensures c.judge_room-room.ensures c.first_of.ensures in
-    ap given c.listing_size-n.ensures ∙ sym (write-length _ _ _ j c.in-Accepted.is)
+pub returns-in_err-and : goal.returns-in_err-and
+returns-in_err-and c =
+    let e = write-refused _ _ _ (rw c.in_err-and.was at (judged (goal.at.returns-in_err-and c).After-and)) in
+    record { result_value = exit _ _ _ c.from_residual.ensures.1 ∙ sym e; buffer_now = sym (kept _ _ _ e) }
 
-pub returns-in-Accepted-clause-buffer_now : goal.returns-in-Accepted-clause-buffer_now
-returns-in-Accepted-clause-buffer_now c =
-    let j = judged_both c.args.p c.args.buffer.now _ _ _ _ c.judge_plant-sound.ensures c.listing_size-n.ensures c.judge_room-room.ensures c.first_of.ensures in
-    c.put_listing.ensures ∙ left-written _ _ _ j c.in-Accepted.is
-
-pub returns-in-Refused-clause-buffer_now : goal.returns-in-Refused-clause-buffer_now
-returns-in-Refused-clause-buffer_now c =
-    let j = judged_both c.args.p c.args.buffer.now _ _ _ _ c.judge_plant-sound.ensures c.listing_size-n.ensures c.judge_room-room.ensures c.first_of.ensures in
-    c.refused_writing.ensures.buffer_unchanged ∙ sym (kept _ _ _ (write-refused _ _ _ j _ c.in-Refused.is))
+pub returns : goal.returns
+returns c =
+    let j = rw c.in_ok-and.was at (judged (goal.at.returns c).After-and) in
+    record {
+      result_value = ap given c.listing_size-n.ensures ∙ sym (write-length _ _ _ j);
+      buffer_now = c.put_listing.ensures ∙ left-written _ _ _ j;
+    }

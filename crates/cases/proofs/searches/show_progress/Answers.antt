@@ -2,8 +2,5 @@ use Rattle.std.proofs.Common.{rules}
 use Rattle.streams.proofs.Growing.{grows_twice}
 use Rattle.cases.proofs.searches.show_progress.Goals as goal
 
-pub returns-in_err-next : goal.returns-in_err-next
-returns-in_err-next g c = search (rules, grows_twice)
-
 pub returns : goal.returns
 returns g c = search (rules, grows_twice)

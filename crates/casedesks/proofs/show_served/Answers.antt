@@ -1,9 +1,0 @@
-use Rattle.std.proofs.Common.{rules}
-use Rattle.streams.proofs.Growing.{grows_twice}
-use Rattle.casedesks.proofs.show_served.Goals as goal
-
-pub returns-in_err-word : goal.returns-in_err-word
-returns-in_err-word g c = search (rules, grows_twice)
-
-pub returns : goal.returns
-returns g c = search (rules, grows_twice)

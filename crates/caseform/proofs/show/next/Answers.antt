@@ -1,6 +1,0 @@
-use Rattle.std.proofs.Common.{rules}
-use Rattle.streams.proofs.Growing.{grows_twice}
-use Rattle.caseform.proofs.show.next.Goals as goal
-
-pub returns : goal.returns
-returns g c = search (rules, grows_twice)

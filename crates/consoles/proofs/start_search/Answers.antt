@@ -1,0 +1,22 @@
+-- A start: the refusals of its listing, or what the console does.
+use Rattle.consoles.specs.Calls.{start}
+use Rattle.consoles.proofs.Serving.{refused_value, refused_desk, served_value, served_desk}
+use Rattle.consoles.proofs.start_search.Goals as goal
+
+pub returns-in_err-size : goal.returns-in_err-size
+returns-in_err-size c =
+    let r = start c.args.switch in
+    let q = c.size_of.ensures in
+    record {
+      result_value = refused_value _ _ _ r _ c.console_of-c.ensures _ q _ c.in_err-size.was _ c.from_residual.ensures.1;
+      desk_after = refused_desk _ _ _ r _ c.console_of-c.ensures _ q _ c.in_err-size.was;
+    }
+
+pub returns : goal.returns
+returns c =
+    let r = start c.args.switch in
+    let q = c.size_of.ensures in
+    record {
+      result_value = served_value _ _ _ r _ c.console_of-c.ensures _ q _ c.in_ok-size.was _ c.started.ensures _ c.kept.ensures.result_value;
+      desk_after = served_desk _ _ _ r _ c.console_of-c.ensures _ q _ c.in_ok-size.was _ c.started.ensures _ c.kept.ensures.desk_after;
+    }

@@ -1,0 +1,21 @@
+-- What a call on a listing answers, by the plant that is read. Assumes nothing.
+use mathlib.Core.Path.{◌≡◌, sym, ap, ◌∙◌}
+use mathlib.Core.List.{List}
+use Prim.Native.Nat.{ℕ}
+use Rattle.std.specs.Prelude.{Result, IsErrAnd}
+use Rattle.plant.specs.declared.Plant.{Plant}
+use Rattle.answers.specs.declared.Refusal.{Refusal}
+use Rattle.answers.specs.Answers.{given, refused, number_of}
+use Rattle.answers.specs.Checks.{answer, ◌giving◌}
+use Rattle.answers.specs.Results.{answer_of}
+use Rattle.answers.proofs.Checks.{gives_so, refuses_so}
+use Rattle.answers.proofs.Results.{exit}
+use Rattle.listing.specs.Listing.{reading}
+
+-- a call that gives g of the plant of the listing s
+module _ {B : Type 0} (s : List ℕ) (g : Plant → B) where
+  pub plan_giving : (p : Plant) → given p ≡ answer (reading s) → (b : B) → b ≡ g p → given b ≡ answer (reading s giving g)
+  plan_giving p e b d = ap given d ∙ sym (gives_so (reading s) g p (sym e))
+
+  pub plan_refusing : (k : Refusal) → refused (number_of k) ≡ answer (reading s) → (u : Result B Refusal) → IsErrAnd u (λ e. e ≡ k) → answer_of u ≡ answer (reading s giving g)
+  plan_refusing k e u d = exit (λ b. b) u k d ∙ sym (refuses_so (reading s) g (number_of k) (sym e))
