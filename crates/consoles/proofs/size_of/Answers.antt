@@ -1,5 +1,5 @@
 -- Refusal 19, then those of the listing, or the switches of its plant and the links in service of the component of the switch. Assumes nothing.
-use Rattle.std.proofs.Common.{sym, ◌∙◌, [], ◌∷◌}
+use Rattle.std.proofs.Common.{ℕ, leb, sym, subst, ◌∙◌, [], ◌∷◌}
 use Rattle.answers.specs.Results.{Judges}
 use Rattle.answers.proofs.Results.{exit}
 use Rattle.consoles.specs.Answers.{sized}
@@ -10,17 +10,17 @@ use Rattle.consoles.proofs.size_of.Goals as goal
 pub returns-in_err-judge : goal.returns-in_err-judge
 unfolding console_out_of_range
 returns-in_err-judge c =
-    let known : Judges ((19, console_out_of_range c.args.console) ∷ []) c.judge.result = rw c.from-past.ensures at c.judge.ensures in
+    let known : Judges ((19, console_out_of_range c.args.console) ∷ []) c.judge.result = subst (λ (n : ℕ). Judges ((19, leb 4 n) ∷ []) c.judge.result) c.from-past.ensures c.judge.ensures in
     exit sized _ _ c.from_residual.ensures.1 ∙ sym (no_console c.args.console _ _ _ known _ c.in_err-judge.was)
 
 pub returns-in_err-plan : goal.returns-in_err-plan
 unfolding console_out_of_range
 returns-in_err-plan c =
-    let known : Judges ((19, console_out_of_range c.args.console) ∷ []) c.judge.result = rw c.from-past.ensures at c.judge.ensures in
+    let known : Judges ((19, console_out_of_range c.args.console) ∷ []) c.judge.result = subst (λ (n : ℕ). Judges ((19, leb 4 n) ∷ []) c.judge.result) c.from-past.ensures c.judge.ensures in
     exit sized _ _ c.from_residual-in_err-plan.ensures.1 ∙ sym (sized_off c.args.console _ _ _ known _ c.in_ok-judge.was _ c.plan_of.ensures _ c.in_err-plan.was)
 
 pub returns : goal.returns
 unfolding console_out_of_range
 returns c =
-    let known : Judges ((19, console_out_of_range c.args.console) ∷ []) c.judge.result = rw c.from-past.ensures at c.judge.ensures in
+    let known : Judges ((19, console_out_of_range c.args.console) ∷ []) c.judge.result = subst (λ (n : ℕ). Judges ((19, leb 4 n) ∷ []) c.judge.result) c.from-past.ensures c.judge.ensures in
     sized_on c.args.console _ _ _ known _ c.in_ok-judge.was _ c.plan_of.ensures _ c.in_ok-plan.was _ c.links_with-links.ensures
