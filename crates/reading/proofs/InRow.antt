@@ -45,9 +45,13 @@ module _ (s : Bor (List ℕ)) (r : Reading) (r_is : r ≡ reading_at s 0) where
         ∙ sym (goes_on (header s.now then λ x. linked x.0 x.1) (λ x. ended x.0 x.1) (linked_of s.now l) (to_links ∙ sym f ∙ ap (λ (x : Reading). given (linked_of (bytes x) l)) q_at))
 
 -- the three steps, of which each may be refused: h is what the header comes to, l the links after it, and d the end after them
-pub in_row : (s : Bor (List ℕ)) (r : Reading) → r ≡ reading_at s 0 → (h : Result Header Refusal) → answer_as (header_of (bytes r)) h ≡ answer (header (left r))
-    → (q : Reading) → IfOk h (λ x. q ≡ reading_at r.listing x.next) → (l : Result Linked Refusal) → answer_as (linked_of (bytes q)) l ≡ (answer_of h >>= λ x. answer (linked (plant_of x) (left q)))
-    → (p : Reading) → IfOk l (λ x. p ≡ reading_at q.listing x.next) → (d : Result Plant Refusal) → answer_of d ≡ (answer_of l >>= λ x. answer (ended x.plant (left p))) → answer_of d ≡ answer (reading s.now)
+pub in_row : (s : Bor (List ℕ)) (r : Reading) → r ≡ reading_at s 0
+    → (h : Result Header Refusal) → answer_as (header_of (bytes r)) h ≡ answer (header (left r))
+    → (q : Reading) → IfOk h (λ x. q ≡ reading_at r.listing x.next)
+    → (l : Result Linked Refusal) → answer_as (linked_of (bytes q)) l ≡ (answer_of h >>= λ x. answer (linked (plant_of x) (left q)))
+    → (p : Reading) → IfOk l (λ x. p ≡ reading_at q.listing x.next)
+    → (d : Result Plant Refusal) → answer_of d ≡ (answer_of l >>= λ x. answer (ended x.plant (left p)))
+    → answer_of d ≡ answer (reading s.now)
 in_row s r r_is (Ok x) e q q_is (Ok y) f p p_is d g = all_given s r r_is x e q q_is y f p p_is (answer_of d) g
 in_row s r r_is (Ok x) e q q_is (Err k) f p p_is d g = g ∙ links_refused s r r_is x e q q_is (number_of k) f
 in_row s r r_is (Err k) e q q_is (Ok y) f p p_is d g = absurd (given-refused _ _ f)

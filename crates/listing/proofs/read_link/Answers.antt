@@ -34,5 +34,6 @@ overflow_cast-l-3 c =
 pub returns : goal.returns
 returns c =
     let vs = c.in_ok-part.part.values in
-    let e = link-given c.args.switches c.args.before _ _ (rw c.link_fields.ensures at c.in_ok-part.ensures) (c.in_ok-judge_ends.ensures (get_or vs 2 0) (eqb (get_or vs 3 0) 0)) in
+    let sound = c.in_ok-judge_ends.ensures (get_or vs 2 0) (eqb (get_or vs 3 0) 0) in
+    let e = link-given c.args.switches c.args.before _ _ (rw c.link_fields.ensures at c.in_ok-part.ensures) sound in
     grind (arith, e)

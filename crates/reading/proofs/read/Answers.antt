@@ -9,7 +9,8 @@ returns-in_err-h c =
 
 pub returns-in_err-l : goal.returns-in_err-l
 returns-in_err-l c =
-    in_row c.args.listing _ c.begin-r.ensures (Ok c.in_ok-h.h) c.in_ok-h.ensures _ c.moved-q.ensures (Err _) c.in_err-l.ensures c.begin-r.result tt _ (exit _ _ _ c.from_residual-in_err-l.ensures.1)
+    in_row c.args.listing _ c.begin-r.ensures (Ok c.in_ok-h.h) c.in_ok-h.ensures _ c.moved-q.ensures (Err _) c.in_err-l.ensures c.begin-r.result tt _
+    (exit _ _ _ c.from_residual-in_err-l.ensures.1)
 
 pub returns : goal.returns
 returns c =
