@@ -24,6 +24,31 @@ pub const LINKS_END: usize = RULES_END + LINKS;
 
 pub const LAST: usize = LINE - 1;
 
+// The columns of the fields and of a line as functions: each gives its constant.
+pub fn switch_columns() -> usize
+    ensures { result ≡ SWITCH }
+{
+    SWITCH
+}
+
+pub fn rules_columns() -> usize
+    ensures { result ≡ RULES }
+{
+    RULES
+}
+
+pub fn links_columns() -> usize
+    ensures { result ≡ LINKS }
+{
+    LINKS
+}
+
+pub fn line_columns() -> usize
+    ensures { result ≡ LINE }
+{
+    LINE
+}
+
 // So many spaces.
 pub fn put_spaces(buf: &mut [u8], at: usize, n: usize) -> usize
     requires { Room buf.old at (spaces n) }
@@ -102,7 +127,7 @@ fn leads(bytes: &[u8]) -> bool
 pub fn is_short(bytes: &[u8]) -> bool
     ensures { result ≡ is_short bytes.now }
 {
-    all_digits(bytes) && leads(bytes) && bytes.len() <= text::DIGITS_SHORT
+    bytes.len() <= text::DIGITS_SHORT && leads(bytes) && all_digits(bytes)
 }
 
 // The number that such bytes are.

@@ -12,6 +12,7 @@ use answers::Refusal;
 pub const MAX_SPARE: u8 = 100;
 
 // So many rules: refusal 17.
+#[tactic(auto, unfolding(crate::specs::Quantity::order_quantity, crate::specs::Quantity::spare_above))]
 pub fn order_quantity(rules: u16, spare: u8) -> Result<u32, Refusal>
     ensures { answer_of result ≡ answer (order_quantity rules spare) }
 {

@@ -123,7 +123,7 @@ module _ (t : Table) (f : Placed t) where
     holds : rs ≡ rules_held t
     holds = ap (λ (i : ℕ). take i t.rules) all
 
-    few_held : length rs ≤ max_rules
+    pub few_held : length rs ≤ max_rules
     few_held = omega (arith, f.few, ap length holds, length-take-le t.count t.rules (omega (arith, f.few, f.places)))
 
     -- the rule at place k
@@ -131,16 +131,15 @@ module _ (t : Table) (f : Placed t) where
       pub sender_in : (x : ℕ) → x ≡ (get_or rs k zero_rule).from → x < max_switches
       sender_in x e = omega (arith, e, sender_before rs k zero_rule h, ap past_senders holds, f.senders)
 
-      module _ (l : List ℕ) (c : CountsOf (take k rs) l) (x : ℕ) (e : x ≡ (get_or rs k zero_rule).from) where
-        pub counts-after : CountsOf (take (k + 1) rs) (set l x (at l x + 1))
-        counts-after =
+      module _ (l : List ℕ) (c : CountsOf (take k rs) l) where
+        pub counts-after : (x : ℕ) → x ≡ (get_or rs k zero_rule).from → CountsOf (take (k + 1) rs) (set l x (at l x + 1))
+        counts-after x e =
             rw (take_next zero_rule rs k h, e)
             (counts-next (take k rs) (get_or rs k zero_rule) l (sender_in (get_or rs k zero_rule).from refl) c)
 
         -- a count stays small
-        pub count_most : at l x < max_rules
-        count_most =
-            omega (arith, h, few_held, c.tells x (sender_in x e), sent-most (take k rs) x, length-take-le k rs (omega arith))
+        pub count_most : (x : ℕ) → x < max_switches → at l x ≤ k
+        count_most x i = omega (arith, c.tells x i, sent-most (take k rs) x, length-take-le k rs (omega arith))
 
     -- with all of them
     pub counts_all : (k : ℕ) (l : List ℕ) → length rs ≤ k → CountsOf (take k rs) l → l ≡ (by_switch t).counts
@@ -157,5 +156,5 @@ module _ (t : Table) (f : Placed t) where
       ∙ omega (arith, sent-all (rules_held t) max_switches f.senders, over_switches_is (rules_held t))
       )
 
-  pub total-most : over_switches (rules_held t) ≤ max_rules
-  total-most = omega (arith, over_switches_is (rules_held t), few_held {n = t.count} refl)
+  pub total-most : over_switches (rules_held t) ≤ t.count
+  total-most = omega (arith, over_switches_is (rules_held t), length-take-le t.count t.rules (omega (arith, f.few, f.places)))

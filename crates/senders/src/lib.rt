@@ -36,6 +36,7 @@ pub fn by_switch(t: Table) -> BySwitch
     for rule in &t.rules[..usize::from(t.count)] {
         b.counts[sender_of(*rule)] += 1;
     }
-    b.total = b.counts.iter().sum();
+    // over switches, onto the total of `none`
+    b.total += b.counts.iter().sum::<u16>();
     b
 }

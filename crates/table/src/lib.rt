@@ -51,7 +51,8 @@ pub fn table_of(
     let mut t = Table::empty();
     for label in 0..n {
         let a = usize::from(label);
-        if used[a] {
+        let in_use = used[a];
+        if in_use {
             t.rules[usize::from(t.count)] = Rule {
                 from: tails[a],
                 label,

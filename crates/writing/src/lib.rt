@@ -125,7 +125,8 @@ pub fn write(p: Plant, buffer: &mut [u8]) -> Result<usize, Refusal>
     let sound = judge_plant(&p);
     let n = listing_size(&p);
     let room = judge_room(n, buffer.len(), Refusal::ListingBufferShort);
-    sound.and(room)?;
+    let fit = sound.and(room);
+    fit?;
     put_listing(&p, buffer);
     Ok(n)
 }

@@ -1,4 +1,5 @@
-use Rattle.std.proofs.Common.{arith, sym, ◌∙◌}
+use Rattle.std.proofs.Common.{arith, sym, ◌∙◌, eqb}
+use lib.ListN.{get_or}
 use Rattle.answers.proofs.Results.{exit}
 use Rattle.codec.proofs.FieldLaws.{bytes_known}
 use Rattle.codec.proofs.PartRoundTrip.{bytes_drop}
@@ -31,4 +32,8 @@ overflow_cast-l-3 c =
     omega arith
 
 pub returns : goal.returns
-returns c = link-given _ _ _ _ (rw c.link_fields.ensures at c.in_ok-part.ensures) (c.in_ok-judge_ends.ensures _ _)
+returns c =
+    let vs = c.in_ok-part.part.values in
+    let sound = c.in_ok-judge_ends.ensures (get_or vs 2 0) (eqb (get_or vs 3 0) 0) in
+    let e = link-given c.args.switches c.args.before _ _ (rw c.link_fields.ensures at c.in_ok-part.ensures) sound in
+    grind (arith, e)

@@ -1,14 +1,14 @@
 -- The sending switch of the next rule has a place, and its count stays small; the sum of the places is the total over switches.
-use Rattle.std.proofs.Common.{rules, ◌≡◌, ℕ, List, ◌<◌, ◌^◌, ap₂, ◌∙◌, arith}
+use Rattle.std.proofs.Common.{rules, refl, ◌≡◌, ℕ, List, ◌<◌, ◌^◌, ap₂, arith}
 use Rattle.std.proofs.iter.runs.Sources.{sums}
 use Rattle.limits.specs.Limits.{max_switches}
 use Rattle.senders.specs.Senders.{by_switch}
-use Rattle.senders.proofs.Senders.{total, counts_none, counts-after, counts_all, count_most, sender_in, places-total, total-most}
+use Rattle.senders.proofs.Senders.{total, counts_none, counts-after, counts_all, count_most, few_held, sender_in, places-total, total-most}
 use Rattle.senders.proofs.by_switch.Goals as goal
 use Rattle.senders.proofs.by_switch.Goals.{After-sender_of}
 
 pub loop-rule-init : goal.loop-rule-init
-loop-rule-init c = rw c.none-b.ensures counts_none
+loop-rule-init c = rw c.none-b.ensures (record { counts = counts_none; total = refl })
 
 place : (c : After-sender_of) → c.sender_of.result < max_switches
 place c = sender_in c.args.t c.requires c.from.ensures c.loop-rule.rule-index c.loop-rule-test.true _ c.sender_of.ensures
@@ -25,25 +25,28 @@ bounds-b-sender_of-in-loop-rule c = place (goal.at.bounds-b-sender_of-in-loop-ru
 pub overflow_add-b : goal.overflow_add-b
 overflow_add-b c =
     let k = c.loop-rule in
-    let small = count_most c.args.t c.requires c.from.ensures k.rule-index c.loop-rule-test.true k.b.counts k.invariant _ c.sender_of.ensures in
-    omega (arith, small)
+    let small = count_most c.args.t c.requires c.from.ensures k.rule-index c.loop-rule-test.true k.b.counts k.invariant.counts _ (place (goal.at.overflow_add-b c).After-sender_of) in
+    omega (arith, small, c.loop-rule-test.true, few_held c.args.t c.requires c.from.ensures)
 
 pub loop-rule-preserved : goal.loop-rule-preserved
 loop-rule-preserved c =
     let k = c.loop-rule in
-    counts-after c.args.t c.requires c.from.ensures k.rule-index c.loop-rule-test.true k.b.counts k.invariant _ c.sender_of.ensures
+    record {
+      counts = counts-after c.args.t c.requires c.from.ensures k.rule-index c.loop-rule-test.true k.b.counts k.invariant.counts _ c.sender_of.ensures;
+      total = k.invariant.total;
+    }
 
 pub sum-requires-clause-fits : goal.sum-requires-clause-fits
 sum-requires-clause-fits c =
     let k = c.loop-rule in
-    let counts = counts_all c.args.t c.requires c.from.ensures k.rule-index k.b.counts c.loop-rule-test.false k.invariant in
-    let few : total k.b.counts < 2 ^ 16 = omega (arith, places-total c.args.t c.requires _ counts, total-most c.args.t c.requires) in
+    let counts = counts_all c.args.t c.requires c.from.ensures k.rule-index k.b.counts c.loop-rule-test.false k.invariant.counts in
+    let few : total k.b.counts < 2 ^ 16 = omega (arith, places-total c.args.t c.requires _ counts, total-most c.args.t c.requires, c.requires.few) in
     search (rules, sums)
 
 pub returns : goal.returns
 unfolding by_switch
 returns c =
     let k = c.loop-rule in
-    let counts = counts_all c.args.t c.requires c.from.ensures k.rule-index k.b.counts c.loop-rule-test.false k.invariant in
+    let counts = counts_all c.args.t c.requires c.from.ensures k.rule-index k.b.counts c.loop-rule-test.false k.invariant.counts in
     let adds : c.sum.result ≡ total k.b.counts = search (rules, sums) in
-    ap₂ (λ (l : List ℕ) (n : ℕ). record { counts = l; total = n }) counts (adds ∙ places-total c.args.t c.requires _ counts)
+    ap₂ (λ (l : List ℕ) (n : ℕ). record { counts = l; total = n }) counts (omega (arith, k.invariant.total, adds, places-total c.args.t c.requires _ counts))
