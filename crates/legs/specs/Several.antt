@@ -34,8 +34,8 @@ pub record Added (net : Net) (tails heads : List ℕ) (used : List Bool) (a : Li
 abbrev pub SomePartsOf : Network → ℕ → Type 0
 SomePartsOf x from = SomeParts x.net x.tails.now x.heads.now x.chains.now.first x.chains.now.after x.hops.now from
 
-abbrev pub AddedTo : Network → List Bool → List ℕ → ℕ → Legs → List ℕ → Type 0
-AddedTo x used a from legs b = Added x.net x.tails.now x.heads.now used a from legs b
+abbrev pub AddedOf : Network → List Bool → List ℕ → ℕ → Legs → List ℕ → Type 0
+AddedOf x used a from legs b = Added x.net x.tails.now x.heads.now used a from legs b
 
 -- the arrays are those of a plan from each of several roots, and there is a place for each arc in use of all
 pub record Several (net : Net) (tails heads first after : List ℕ) (t : List (List ℕ)) (roots : List ℕ) : Type 0 where

@@ -6,7 +6,7 @@ ghost use Rattle.std.specs.Prelude.{◌≡◌, ◌<◌, length};
 ghost use Rattle.limits.specs.Limits.{max_switches, max_rules};
 ghost use Rattle.legs.specs.Firsts.{Firsts};
 ghost use Rattle.legs.specs.Nearest.{Tabled, NearestBy};
-ghost use Rattle.legs.specs.Several.{SomePartsOf, AddedTo, Several, LegsOfAll};
+ghost use Rattle.legs.specs.Several.{SomePartsOf, AddedOf, Several, LegsOfAll};
 
 use arcs::{AllLegs, Chains, Legs, Net, Network};
 use plant::Plant;
@@ -62,7 +62,7 @@ fn firsts_reached(network: &Network) -> [u16; Plant::PLACES]
 fn legs_from(network: &Network, aims: &mut [u16; Plant::MAX_RULES], from: u16) -> Legs
     requires some_parts { SomePartsOf network.now from }
     requires aims_len { length aims.old ≡ max_rules }
-    ensures { (w : SomePartsOf network.now from) → AddedTo network.now w.used aims.old from result aims.new }
+    ensures { (w : SomePartsOf network.now from) → AddedOf network.now w.used aims.old from result aims.new }
 {
     let root = network.net.root as usize;
     let alone = network.net.labels <= network.chains.first[root];
