@@ -8,20 +8,20 @@ use Rattle.distance.proofs.adjacent.Goals as goal
 use Rattle.distance.proofs.adjacent.Goals.{then-used-a, else-used-a}
 
 pub loop-a-init : goal.loop-a-init
-loop-a-init c = near_none _ _ _ _ _
+loop-a-init c = rw c.requires.flat (near_none _ _ _ _ _)
 
 pub loop-a-preserved : goal.loop-a-preserved
 loop-a-preserved c =
     let k = c.loop-a in
     let s = c.args in
-    let w = c.requires in
+    let w = c.requires.within in
     let a_in : k.a < s.net.labels = omega arith in
     elim c.if-used-a.branch [
       | then-used-a b ↦
           let t = true_T _ b.if-used-a.true in
-          subst (Near s.net.switches s.net.labels (at s.ends.now.tails) (at s.ends.now.heads) (flag s.used.now) (k.a + 1)) (sym b.t-is)
+          subst (Near s.net.switches s.net.labels (at s.tails.now) (at s.heads.now) (flag s.used.now) (k.a + 1)) (sym b.t-is)
           (near_put _ _ _ _ _ k.a k.t k.invariant (omega (arith, w.root_in)) a_in t (omega (arith, w.few_switches, w.tail_in _ a_in t)) (omega (arith, w.few_switches, w.head_in _ a_in t)))
-      | else-used-a b ↦ subst (Near s.net.switches s.net.labels (at s.ends.now.tails) (at s.ends.now.heads) (flag s.used.now) (k.a + 1)) (sym b.t-is) (near_pass _ _ _ _ _ k.a k.t k.invariant b.if-used-a.false)
+      | else-used-a b ↦ subst (Near s.net.switches s.net.labels (at s.tails.now) (at s.heads.now) (flag s.used.now) (k.a + 1)) (sym b.t-is) (near_pass _ _ _ _ _ k.a k.t k.invariant b.if-used-a.false)
     ]
 
 pub returns : goal.returns

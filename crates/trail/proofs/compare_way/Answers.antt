@@ -1,11 +1,11 @@
 -- A way compared, hop by hop.
 use Rattle.std.proofs.Common.{sym, ◌∙◌, arith}
 use Rattle.trail.proofs.Filled.{met-short, met_differs, met-one, met_all}
-use Rattle.trail.proofs.Ways.{way_on, next, at_end}
+use Rattle.trail.proofs.Ways.{way_of, next, at_end}
 use Rattle.trail.proofs.compare_way.Goals as goal
 
 pub hop-requires : goal.hop-requires
-hop-requires c = let w = c.requires in way_on w (c.loop-a.invariant w).0
+hop-requires c = let w = c.requires in way_of w.parts (c.loop-a.invariant w).0
 
 pub returns-in_err-label : goal.returns-in_err-label
 returns-in_err-label c w =
@@ -17,7 +17,7 @@ pub returns-then-other : goal.returns-then-other
 returns-then-other c w =
     let k = c.loop-a in
     let got = c.in_ok-label.ensures.lookup.3 in
-    met_differs (k.invariant w).1 (next w (k.invariant w).0 c.in-Some.a c.in-Some.ensures).goes got.0 (λ e. c.if-other.true (got.1 0 ∙ e))
+    met_differs (k.invariant w).1 (next w (k.invariant w).0 c.in-Some.a c.in-Some.ensures).goes got.0 (λ e. omega (arith, e, got.1 0, c.if-other.true))
 
 pub bounds-network-a : goal.bounds-network-a
 bounds-network-a c =
