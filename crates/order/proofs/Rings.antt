@@ -27,7 +27,7 @@ use Rattle.order.specs.declared.Ring.{Ring}
 
 -- the links of the labels have places
 pub links_in : (r : Ring) (a : ℕ) → In a r.trail.now → a / 2 < max_links
-links_in r a h = omega (arith, r.ends.now.sound.few_links, live_below r.ends.now.plant (a / 2) (r.over_arcs a h))
+links_in r a h = omega (arith, r.sound.few_links, live_below r.plant.now (a / 2) (r.over_arcs a h))
 
 pub place_in : (p : Plant) (w : List ℕ) (s k : ℕ) → k ≡ place_of p w s → k ≤ length w
 place_in p w s k e = omega (arith, place-most (tail p) s w)

@@ -3,6 +3,7 @@
 
 ghost use Rattle.std.specs.Prelude.{◌≡◌, ◌==◌, ◌+◌, ◌/◌, ◌≤◌, ◌++◌, length, take, drop, position};
 ghost use Rattle.limits.specs.Limits.{max_links};
+ghost use Rattle.limits.specs.Sound.{Sound};
 ghost use Rattle.rings.specs.Ring.{read_from};
 ghost use Rattle.rings.specs.Order.{order};
 ghost use Rattle.rings.specs.Probe.{up_to};
@@ -11,16 +12,16 @@ ghost use Rattle.order.specs.Labels.{OverArcs};
 ghost use Rattle.order.specs.Order.{listed};
 ghost use Rattle.order.specs.Span.{ring_span, span_of, shifted_by, stretch_of, front_of};
 
-use arcs::ArcEnds;
 use plant::{Plant, tail_of};
 
-// The trail that an injection at a switch goes over, in a lent trail over arcs of a plant: its ring is the trail from the place of the switch on, and then its front.
+// The trail that an injection at a switch goes over, in a lent trail over arcs of a sound plant: its ring is the trail from the place of the switch on, and then its front.
 #[derive(Clone, Copy)]
 pub struct Ring<'a> {
-    pub ends: &'a ArcEnds,
+    pub plant: &'a Plant,
     pub switch: u8,
     pub trail: &'a [u16],
-    pub ghost over_arcs: { OverArcs ends.now.plant trail.now },
+    pub ghost sound: { Sound plant.now },
+    pub ghost over_arcs: { OverArcs plant.now trail.now },
 }
 
 // Links by first crossing, `count` of them; the places past them are zero. The array has a place for each link of any plant, since nothing is kept on a heap.
@@ -41,12 +42,12 @@ pub struct Span {
 
 // The place of the switch: the first hop of the trail that leaves it. As many as there are hops if none does, so 0 if the trail is empty.
 pub fn place_of(ring: &Ring) -> usize
-    ensures place { result ≡ place_of ring.now.ends.now.plant ring.now.trail.now ring.now.switch }
+    ensures place { result ≡ place_of ring.now.plant.now ring.now.trail.now ring.now.switch }
     ensures in_trail { result ≤ length ring.now.trail.now }
 {
     for (i, a) in ring.trail.iter().enumerate() {
         let a = usize::from(*a);
-        if tail_of(ring.ends.plant.links[a / 2], a) == ring.switch {
+        if tail_of(ring.plant.links[a / 2], a) == ring.switch {
             return i;
         }
     }
@@ -75,7 +76,7 @@ fn order_from(ring: &Ring, k: usize) -> Order
 
 // The order of links by first crossing from the place of the switch.
 pub fn order_of(ring: &Ring) -> Order
-    ensures { result ≡ listed (order_of ring.now.ends.now.plant ring.now.trail.now ring.now.switch) }
+    ensures { result ≡ listed (order_of ring.now.plant.now ring.now.trail.now ring.now.switch) }
 {
     let k = place_of(ring);
     order_from(ring, k)
@@ -102,7 +103,7 @@ fn out_to(trail: &[u16], k: usize, l: u16) -> usize
 
 // Where the labels of the full check stand: the whole ring.
 pub fn ring_span(ring: &Ring) -> Span
-    ensures { result ≡ ring_span ring.now.ends.now.plant ring.now.trail.now ring.now.switch }
+    ensures { result ≡ ring_span ring.now.plant.now ring.now.trail.now ring.now.switch }
 {
     let k = place_of(ring);
     Span {
@@ -117,7 +118,7 @@ pub fn ring_span(ring: &Ring) -> Span
 pub fn span_of(ring: &Ring, m: u16) -> Span
     requires le_m { 1 ≤ m }
     requires m_le_max_links { m ≤ max_links }
-    ensures { result ≡ span_of ring.now.ends.now.plant ring.now.trail.now ring.now.switch m }
+    ensures { result ≡ span_of ring.now.plant.now ring.now.trail.now ring.now.switch m }
 {
     let k = place_of(ring);
     let o = order_from(ring, k);

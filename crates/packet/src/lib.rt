@@ -5,6 +5,7 @@
 ghost use Rattle.std.specs.Prelude.{◌≡◌, true, not, ◌&&◌, [], ◌∷◌, ◌+◌, ◌*◌, ◌%◌, ◌≤◌, eqb, length};
 ghost use Rattle.lists.specs.Arrays.{flag};
 ghost use Rattle.limits.specs.Limits.{max_links};
+ghost use Rattle.limits.specs.Sound.{Sound};
 ghost use Rattle.plant.specs.Links.{side};
 ghost use Rattle.walks.specs.Arcs.{tail, head};
 ghost use Rattle.rings.specs.Packet.{run, rules_for};
@@ -17,7 +18,7 @@ ghost use Rattle.packet.specs.Runs.{end_of, injected_at, after_label, goes_by, g
 ghost use Rattle.packet.specs.Outcome.{outcome_of};
 ghost use Rattle.packet.specs.Asked.{CanRunBy, CanRun, out_and_back};
 
-use arcs::{ArcEnds, opposite};
+use arcs::opposite;
 use order::{Ring, front, place_of, span_of, stretch};
 use plant::{Link, Plant, head_of, tail_of};
 use search::Outcome;
@@ -57,15 +58,16 @@ const OF_LINK: usize = 2;
 
 const OF_LABEL: usize = 1;
 
-// What packets run under: a plant with the ends of its arcs, rules as flags of its labels, and a state byte for each N labels. The rules are for arcs of the plant, and its labels have
-// their bytes. The functions below take a ring with rules and states, and no course beside it: each would have the ends of the arcs.
+// What packets run under: a sound plant, rules as flags of its labels, and a state byte for each N labels. The rules are for arcs of the plant, and its labels have
+// their bytes. The public functions below take a ring with rules and states, and no course beside it: each would have the plant.
 #[derive(Clone, Copy)]
 struct Course<'a, const N: usize> {
-    ends: &'a ArcEnds,
+    plant: &'a Plant,
     rules: &'a [bool; Plant::LABELS],
     states: &'a [u8],
     ghost some: { 1 ≤ N },
-    ghost can_run: { CanRunBy N ends.now.plant rules.now states.now },
+    ghost sound: { Sound plant.now },
+    ghost can_run: { CanRunBy N plant.now rules.now states.now },
 }
 
 // Does a packet at switch s cross link l by label a? There is a rule for the label at the switch that its arc leaves, and the label is up.
@@ -97,9 +99,9 @@ impl<'a, const N: usize> Course<'a, N> {
     fn hop(&self, e: End, a: u16) -> End
         requires going { e.ended ≡ true }
         requires hops_bound { e.hops + 1 ≤ usize.MAX }
-        ensures { end_of result ≡ goes_by N self.now.ends.now.plant self.now.rules.now self.now.states.now (end_of e) (a ∷ []) }
+        ensures { end_of result ≡ goes_by N self.now.plant.now self.now.rules.now self.now.states.now (end_of e) (a ∷ []) }
     {
-        let p = &self.ends.plant;
+        let p = self.plant;
         let a = usize::from(a);
         if 2 * usize::from(p.count) <= a {
             return after_label(e, false, e.last);
@@ -112,7 +114,7 @@ impl<'a, const N: usize> Course<'a, N> {
     // A packet that came so far goes on over these labels, unless it is lost.
     fn run_out(&self, e: End, labels: &[u16]) -> End
         requires { e.hops + length labels.now ≤ usize.MAX }
-        ensures { end_of result ≡ goes_by N self.now.ends.now.plant self.now.rules.now self.now.states.now (end_of e) labels.now }
+        ensures { end_of result ≡ goes_by N self.now.plant.now self.now.rules.now self.now.states.now (end_of e) labels.now }
     {
         if !e.ended {
             return e;
@@ -130,7 +132,7 @@ impl<'a, const N: usize> Course<'a, N> {
     // A packet that came so far goes back over these labels, unless it is lost: over the opposite arcs, from the last.
     fn run_back(&self, e: End, labels: &[u16]) -> End
         requires { e.hops + length labels.now ≤ usize.MAX }
-        ensures { end_of result ≡ goes_by N self.now.ends.now.plant self.now.rules.now self.now.states.now (end_of e) (back labels.now) }
+        ensures { end_of result ≡ goes_by N self.now.plant.now self.now.rules.now self.now.states.now (end_of e) (back labels.now) }
     {
         if !e.ended {
             return e;
@@ -147,11 +149,11 @@ impl<'a, const N: usize> Course<'a, N> {
 
     // A packet runs over the ring of switch s, which is the trail from the place of s on and then its front.
     fn run_ring(&self, s: u8, trail: &[u16]) -> End
-        requires { OverArcs self.now.ends.now.plant trail.now }
-        ensures { end_of result ≡ goes_by N self.now.ends.now.plant self.now.rules.now self.now.states.now (injected_at s) (ring_of self.now.ends.now.plant trail.now s) }
+        requires { OverArcs self.now.plant.now trail.now }
+        ensures { end_of result ≡ goes_by N self.now.plant.now self.now.rules.now self.now.states.now (injected_at s) (ring_of self.now.plant.now trail.now s) }
     {
         let k = place_of(&Ring {
-            ends: self.ends,
+            plant: self.plant,
             switch: s,
             trail,
         });
@@ -159,46 +161,47 @@ impl<'a, const N: usize> Course<'a, N> {
         let e = self.run_out(injected(s), rest);
         self.run_out(e, front)
     }
-
-    // From switch s out over x and then y, and back over the opposite arcs.
-    fn there_and_back(&self, s: u8, x: &[u16], y: &[u16]) -> End
-        requires { 2 * (length x.now + length y.now) ≤ usize.MAX }
-        ensures { end_of result ≡ goes_by N self.now.ends.now.plant self.now.rules.now self.now.states.now (injected_at s) (out_and_back x.now y.now) }
-    {
-        let e = self.run_out(injected(s), x);
-        let f = self.run_out(e, y);
-        let g = self.run_back(f, y);
-        self.run_back(g, x)
-    }
 }
 
 // A packet that came so far goes on with these labels, unless it is lost.
 pub fn run_on(
-    ends: &ArcEnds,
+    plant: &Plant,
     rules: &[bool; Plant::LABELS],
     states: &[u8],
     e: End,
     labels: &[u16],
 ) -> End
-    requires can_run { CanRun ends.now.plant rules.now states.now }
+    requires sound { Sound plant.now }
+    requires can_run { CanRun plant.now rules.now states.now }
     requires labels_bound { e.hops + length labels.now ≤ usize.MAX }
-    ensures { end_of result ≡ goes_on ends.now.plant rules.now states.now (end_of e) labels.now }
+    ensures { end_of result ≡ goes_on plant.now rules.now states.now (end_of e) labels.now }
 {
     let course = Course::<OF_LINK> {
-        ends,
+        plant,
         rules,
         states,
     };
     course.run_out(e, labels)
 }
 
+// From switch s out over x and then y, and back over the opposite arcs.
+fn there_and_back(course: &Course<OF_LINK>, s: u8, x: &[u16], y: &[u16]) -> End
+    requires { 2 * (length x.now + length y.now) ≤ usize.MAX }
+    ensures { end_of result ≡ goes_on course.now.plant.now course.now.rules.now course.now.states.now (injected_at s) (out_and_back x.now y.now) }
+{
+    let e = run_on(course.plant, course.rules, course.states, injected(s), x);
+    let f = run_on(course.plant, course.rules, course.states, e, y);
+    let g = course.run_back(f, y);
+    course.run_back(g, x)
+}
+
 // The full check: the packet runs under the forwarding table over the ring of the switch, by a state byte for each link.
 pub fn full_check(ring: &Ring, table: &[bool; Plant::LABELS], states: &[u8]) -> End
-    requires { CanRun ring.now.ends.now.plant table.now states.now }
-    ensures { end_of result ≡ run (rules_for (flag table.now) (tail ring.now.ends.now.plant)) (up_by_link states.now) (head ring.now.ends.now.plant) ring.now.switch 0 (ring_of ring.now.ends.now.plant ring.now.trail.now ring.now.switch) }
+    requires { CanRun ring.now.plant.now table.now states.now }
+    ensures { end_of result ≡ run (rules_for (flag table.now) (tail ring.now.plant.now)) (up_by_link states.now) (head ring.now.plant.now) ring.now.switch 0 (ring_of ring.now.plant.now ring.now.trail.now ring.now.switch) }
 {
     let course = Course::<OF_LINK> {
-        ends: ring.ends,
+        plant: ring.plant,
         rules: table,
         states,
     };
@@ -207,16 +210,16 @@ pub fn full_check(ring: &Ring, table: &[bool; Plant::LABELS], states: &[u8]) -> 
 
 // The round run: the packet runs under all rules over the ring of the switch on the round trail, by a state byte for each label.
 pub fn round_run(ring: &Ring, states: &[u8]) -> End
-    requires { 2 * ring.now.ends.now.plant.count ≤ length states.now }
-    ensures { end_of result ≡ round_run ring.now.ends.now.plant ring.now.trail.now ring.now.switch states.now }
+    requires { 2 * ring.now.plant.now.count ≤ length states.now }
+    ensures { end_of result ≡ round_run ring.now.plant.now ring.now.trail.now ring.now.switch states.now }
 {
-    let all = arcs::all_arcs(ring.ends);
-    let course = Course::<OF_LABEL> {
-        ends: ring.ends,
+    let all = arcs::all_arcs(ring.plant);
+    let by_label = Course::<OF_LABEL> {
+        plant: ring.plant,
         rules: &all,
         states,
     };
-    course.run_ring(ring.switch, ring.trail)
+    by_label.run_ring(ring.switch, ring.trail)
 }
 
 // The run of probe m of the switch over so many links: the full check if m is their number; else out up to the first crossing of the m-th link of the order, and back,
@@ -228,22 +231,23 @@ pub fn probe_run(
     links: u16,
     m: u16,
 ) -> End
-    requires can_run { CanRun ring.now.ends.now.plant table.now states.now }
+    requires can_run { CanRun ring.now.plant.now table.now states.now }
     requires le_m { 1 ≤ m }
     requires m_le_max_links { m ≤ max_links }
-    ensures { end_of result ≡ probe_run ring.now.ends.now.plant (flag table.now) ring.now.trail.now ring.now.switch links (up_by_link states.now) m }
+    ensures { end_of result ≡ probe_run ring.now.plant.now (flag table.now) ring.now.trail.now ring.now.switch links (up_by_link states.now) m }
 {
     if m == links {
         return full_check(ring, table, states);
     }
     let span = span_of(ring, m);
-    let all_rules = arcs::all_arcs(ring.ends);
+    let all_rules = arcs::all_arcs(ring.plant);
     let course = Course::<OF_LINK> {
-        ends: ring.ends,
+        plant: ring.plant,
         rules: &all_rules,
         states,
     };
-    course.there_and_back(
+    there_and_back(
+        &course,
         ring.switch,
         stretch(ring.trail, span),
         front(ring.trail, span),

@@ -17,7 +17,7 @@ unfolding tail
 returns-then-tail_of-ring-clause-place c =
     let r = c.args.ring.now in
     sym
-    (place_is (tail r.ends.now.plant) r.switch r.trail.now c.loop-i.i (record {
+    (place_is (tail r.plant.now) r.switch r.trail.now c.loop-i.i (record {
       inside = c.loop-i-test.true;
       leaves = sym (rw c.from-a.ensures at c.tail_of.ensures) ∙ c.if-tail_of-ring.true;
       before = c.loop-i.invariant;
@@ -28,4 +28,4 @@ unfolding tail
 loop-i-preserved c = below_more _ _ c.loop-i.invariant (λ e. c.if-tail_of-ring.false (rw c.from-a.ensures at c.tail_of.ensures ∙ e))
 
 pub returns-clause-place : goal.returns-clause-place
-returns-clause-place c = let r = c.args.ring.now in sym (place_none (tail r.ends.now.plant) r.switch r.trail.now (λ j h. c.loop-i.invariant j (omega arith)))
+returns-clause-place c = let r = c.args.ring.now in sym (place_none (tail r.plant.now) r.switch r.trail.now (λ j h. c.loop-i.invariant j (omega arith)))

@@ -4,4 +4,4 @@ use Rattle.walks.specs.Arcs.{tail}
 use Rattle.order.proofs.place_of.Given as goal
 
 abbrev pub invariant-loop-i : goal.invariant-loop-i
-invariant-loop-i l = (j : ℕ) → j < l.i → tail l.ring.ends.now.plant (get_or l.ring.trail.now j 0) ≡ l.ring.switch → ⊥
+invariant-loop-i l = (j : ℕ) → j < l.i → tail l.ring.plant.now (get_or l.ring.trail.now j 0) ≡ l.ring.switch → ⊥

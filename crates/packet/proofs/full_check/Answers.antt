@@ -6,4 +6,4 @@ use Rattle.packet.proofs.Probes.{from_switch}
 use Rattle.packet.proofs.full_check.Goals as goal
 
 pub returns : goal.returns
-returns c = from_switch c.args.ring.now.ends.now.plant c.args.table.now c.args.states.now c.args.ring.now.switch (injected_at c.args.ring.now.switch) _ (ring_of c.args.ring.now.ends.now.plant c.args.ring.now.trail.now c.args.ring.now.switch) refl c.run_ring.ensures
+returns c = from_switch c.args.ring.now.plant.now c.args.table.now c.args.states.now c.args.ring.now.switch (injected_at c.args.ring.now.switch) _ (ring_of c.args.ring.now.plant.now c.args.ring.now.trail.now c.args.ring.now.switch) refl c.run_ring.ensures

@@ -10,20 +10,20 @@ use Rattle.packet.proofs.Course.run_back.Goals as goal
 use Rattle.packet.proofs.Course.run_back.Goals.{After-hop-at}
 
 pub returns-then-not-e : goal.returns-then-not-e
-returns-then-not-e g c = goes-lost g.row.N c.args.self.now.ends.now.plant c.args.self.now.rules.now c.args.self.now.states.now (end_of c.args.e) _ (not-true _ c.if-not-e.true)
+returns-then-not-e g c = goes-lost g.row.N c.args.self.now.plant.now c.args.self.now.rules.now c.args.self.now.states.now (end_of c.args.e) _ (not-true _ c.if-not-e.true)
 
 pub loop-a-init : goal.loop-a-init
 loop-a-init g c = record {
   going = not-false _ c.if-not-e.false;
   passed = [];
   parts = rw (c.into_iter-a-iterator.ensures.into_iter_gives, c.rev-a-items.ensures.source, c.iter.ensures.rest) (append-nil c.args.labels.now);
-  came = goes_none g.row.N c.args.self.now.ends.now.plant c.args.self.now.rules.now c.args.self.now.states.now (end_of c.args.e);
+  came = goes_none g.row.N c.args.self.now.plant.now c.args.self.now.rules.now c.args.self.now.states.now (end_of c.args.e);
 }
 
 pub hop-at-requires : goal.hop-at-requires
 hop-at-requires g c =
     let k = c.loop-a in
-    let made = after-hops g.row.N c.args.self.now.ends.now.plant c.args.self.now.rules.now c.args.self.now.states.now (end_of c.args.e) (end_of k.at) (back k.invariant.passed) k.invariant.came in
+    let made = after-hops g.row.N c.args.self.now.plant.now c.args.self.now.rules.now c.args.self.now.states.now (end_of c.args.e) (end_of k.at) (back k.invariant.passed) k.invariant.came in
     let left = length-append c.next.new.self.iter.rest.now (c.in-Some.a.now ∷ []) in
     let parts = length-append k.a-iterator.iter.rest.now k.invariant.passed in (
       omega arith,
@@ -36,18 +36,18 @@ parts c =
     let passed = c.loop-a.invariant.passed in
     sym (append_assoc c.next.new.self.iter.rest.now (c.in-Some.a.now ∷ []) passed) ∙ ap (λ (v : List ℕ). v ++ passed) (sym c.in-Some.ensures.steps) ∙ c.loop-a.invariant.parts
 
-came : {g : _} (c : After-hop-at g) → end_of c.hop-at.result ≡ goes_by g.row.N c.args.self.now.ends.now.plant c.args.self.now.rules.now c.args.self.now.states.now (end_of c.args.e) (back (c.in-Some.a.now ∷ c.loop-a.invariant.passed))
+came : {g : _} (c : After-hop-at g) → end_of c.hop-at.result ≡ goes_by g.row.N c.args.self.now.plant.now c.args.self.now.rules.now c.args.self.now.states.now (end_of c.args.e) (back (c.in-Some.a.now ∷ c.loop-a.invariant.passed))
 came {g} c =
     let k = c.loop-a in
-    on_two g.row.N c.args.self.now.ends.now.plant c.args.self.now.rules.now c.args.self.now.states.now (end_of c.args.e) (end_of k.at) (end_of c.hop-at.result) (back k.invariant.passed) _ k.invariant.came (rw c.opposite.ensures at c.hop-at.ensures)
+    on_two g.row.N c.args.self.now.plant.now c.args.self.now.rules.now c.args.self.now.states.now (end_of c.args.e) (end_of k.at) (end_of c.hop-at.result) (back k.invariant.passed) _ k.invariant.came (rw c.opposite.ensures at c.hop-at.ensures)
 
 pub returns-then-not-at : goal.returns-then-not-at
 returns-then-not-at g c =
     let h = (goal.at.returns-then-not-at g c).After-hop-at in
     let rest = c.next.new.self.iter.rest.now in
     let passed : List ℕ = c.in-Some.a.now ∷ c.loop-a.invariant.passed in
-    stays g.row.N c.args.self.now.ends.now.plant c.args.self.now.rules.now c.args.self.now.states.now (end_of c.args.e) (end_of c.hop-at.result) (back passed) (back rest) (came h) (not-true _ c.if-not-at.true)
-    ∙ ap (goes_by g.row.N c.args.self.now.ends.now.plant c.args.self.now.rules.now c.args.self.now.states.now (end_of c.args.e)) (sym (back-append rest passed) ∙ ap back (parts h))
+    stays g.row.N c.args.self.now.plant.now c.args.self.now.rules.now c.args.self.now.states.now (end_of c.args.e) (end_of c.hop-at.result) (back passed) (back rest) (came h) (not-true _ c.if-not-at.true)
+    ∙ ap (goes_by g.row.N c.args.self.now.plant.now c.args.self.now.rules.now c.args.self.now.states.now (end_of c.args.e)) (sym (back-append rest passed) ∙ ap back (parts h))
 
 pub loop-a-preserved : goal.loop-a-preserved
 loop-a-preserved g c =

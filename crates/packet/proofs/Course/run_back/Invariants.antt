@@ -9,5 +9,5 @@ invariant-loop-a g l = record {
   going : l.at.ended ≡ true;
   passed : List ℕ;
   parts : l.a-iterator.iter.rest.now ++ passed ≡ l.labels;
-  came : end_of l.at ≡ goes_by g.row.N l.self.ends.now.plant l.self.rules.now l.self.states.now (end_of l.initial.at) (back passed);
+  came : end_of l.at ≡ goes_by g.row.N l.self.plant.now l.self.rules.now l.self.states.now (end_of l.initial.at) (back passed);
 }

@@ -6,5 +6,5 @@ use Rattle.packet.proofs.Course.run_out.Given as goal
 abbrev pub invariant-loop-a : goal.invariant-loop-a
 invariant-loop-a g l = record {
   going : l.at.ended ≡ true;
-  came : end_of l.at ≡ goes_by g.row.N l.self.ends.now.plant l.self.rules.now l.self.states.now (end_of l.initial.at) (take l.a-index l.labels);
+  came : end_of l.at ≡ goes_by g.row.N l.self.plant.now l.self.rules.now l.self.states.now (end_of l.initial.at) (take l.a-index l.labels);
 }

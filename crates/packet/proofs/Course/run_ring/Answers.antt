@@ -22,5 +22,5 @@ run_out-requires g c =
 pub returns : goal.returns
 returns g c =
     let s = c.args.self.now in
-    ring-is g.row.N s.ends.now.plant s.rules.now s.states.now c.args.trail.now c.args.s c.place_of-k.result
+    ring-is g.row.N s.plant.now s.rules.now s.states.now c.args.trail.now c.args.s c.place_of-k.result
     (end_of c.injected.result) (end_of c.run_out-e.result) _ c.place_of-k.ensures.place c.injected.ensures (rw c.split_at.ensures.back at c.run_out-e.ensures) (rw c.split_at.ensures.front at c.run_out.ensures)
