@@ -18,7 +18,7 @@ pub returns-then-label-a : goal.returns-then-label-a
 returns-then-label-a c =
     let k = c.loop in
     let got = c.in_ok-label.ensures.lookup.3 in
-    met_differs k.invariant.1 (left_is _ k.counter k.a k.invariant.0 c.loop-test.true) got.0 (λ e. c.if-label-a.true (got.1 0 ∙ e))
+    met_differs k.invariant.1 (left_is _ k.counter k.a k.invariant.0 c.loop-test.true) got.0 (λ e. omega (arith, e, got.1 0, c.if-label-a.true))
 
 pub bounds-x-a : goal.bounds-x-a
 bounds-x-a c = let k = c.loop in left_label _ k.counter k.a k.invariant.0 c.loop-test.true
