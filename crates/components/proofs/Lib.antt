@@ -1,2 +1,3 @@
+pub mod Overlaid
 pub mod Adding
 pub mod Scanning

@@ -2,7 +2,7 @@
 // the visits together. Inner: the calls are those of docs/CALLS.md.
 #![tactic(auto)]
 
-ghost use Rattle.std.specs.Prelude.{◌≡◌, ◌||◌, List, [], ◌∷◌, ◌++◌, ℕ, ◌<◌};
+ghost use Rattle.std.specs.Prelude.{◌≡◌, ◌||◌, List, [], ◌∷◌, ◌++◌, ℕ, ◌<◌, get_or, Some, None};
 ghost use Rattle.lists.specs.Arrays.{flag, at};
 ghost use Rattle.lists.specs.Tests.{choose};
 ghost use Rattle.limits.specs.Limits.{max_switches, max_links};
@@ -61,35 +61,56 @@ fn pick<T: Copy>(seen: bool, new: T, old: T) -> T
     if seen { new } else { old }
 }
 
+// The switches that are seen are of component k, and the others stay where they were.
+fn settle(home: &mut [Option<u8>; Plant::PLACES], seen: &[bool; Plant::PLACES], k: u8)
+    ensures { (x : ℕ) → x < max_switches → get_or home.new x None ≡ choose (flag seen.now x) (Some k) (get_or home.old x None) }
+{
+    for x in 0..Plant::PLACES {
+        home[x] = pick(seen[x], Some(k), home[x]);
+    }
+}
+
+// The switches that are seen get their new numbers, and the others keep the old.
+fn renumber(rank: &mut [u8; Plant::PLACES], seen: &[bool; Plant::PLACES], new: &[u8; Plant::PLACES])
+    ensures { (x : ℕ) → x < max_switches → at rank.new x ≡ choose (flag seen.now x) (at new.now x) (at rank.old x) }
+{
+    for x in 0..Plant::PLACES {
+        rank[x] = pick(seen[x], new[x], rank[x]);
+    }
+}
+
+// The flags that are set in `more` are set too.
+fn join(into: &mut [bool; Plant::MAX_LINKS], more: &[bool; Plant::MAX_LINKS])
+    ensures { (l : ℕ) → flag into.new l ≡ flag into.old l || flag more.now l }
+{
+    for l in 0..Plant::MAX_LINKS {
+        into[l] |= more[l];
+    }
+}
+
 // With the component of one root more, which none of those found before reaches.
-fn with_component(all: &AllChains, f: Forest, root: u8) -> Forest
+fn with_component(all: &AllChains, f: &mut Forest, root: u8)
     requires root_lt_switches { root < all.now.plant.now.switches }
-    requires count_lt_max_switches { f.count < max_switches }
-    ensures { (rs : List ℕ) → Covers all.now.plant.now rs f → Apart all.now.plant.now rs root → Covers all.now.plant.now (rs ++ (root ∷ [])) result }
+    requires count_lt_max_switches { f.old.count < max_switches }
+    ensures { (rs : List ℕ) → Covers all.now.plant.now rs f.old → Apart all.now.plant.now rs root → Covers all.now.plant.now (rs ++ (root ∷ [])) f.new }
 {
     let v = visit::visit_by(all, root);
-    let mut roots = f.roots;
-    roots[f.count as usize] = root;
-    let home = array::from_fn(|x| pick(v.seen[x], Some(f.count), f.home[x]));
-    let rank = array::from_fn(|x| pick(v.seen[x], v.rank[x], f.rank[x]));
-    let entered = array::from_fn(|l| f.entered[l] | v.entered[l]);
-    Forest {
-        count: f.count + 1,
-        roots,
-        home,
-        rank,
-        entered,
-    }
+    f.roots[f.count as usize] = root;
+    settle(&mut f.home, &v.seen, f.count);
+    renumber(&mut f.rank, &v.seen, &v.rank);
+    join(&mut f.entered, &v.entered);
+    f.count += 1;
 }
 
 // The visits of all components: of the start's, and then of that of each switch which is in none before it.
 fn visit_all(all: &AllChains) -> Forest
     ensures { Covers all.now.plant.now (roots all.now.plant.now) result }
 {
-    let mut f = with_component(all, nothing(), all.plant.start);
+    let mut f = nothing();
+    with_component(all, &mut f, all.plant.start);
     for x in 0..all.plant.switches {
         if f.home[x as usize].is_none() {
-            f = with_component(all, f, x);
+            with_component(all, &mut f, x);
         }
     }
     f

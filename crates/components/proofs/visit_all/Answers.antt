@@ -5,14 +5,14 @@ use Rattle.components.proofs.Scanning.{roots_to, roots_to_lem, to_begun, to_othe
 use Rattle.components.proofs.visit_all.Goals as goal
 use Rattle.components.proofs.visit_all.Goals.{then-is_none, else-is_none}
 
-pub with_component-f-requires-clause-count_lt_max_switches : goal.with_component-f-requires-clause-count_lt_max_switches
-with_component-f-requires-clause-count_lt_max_switches c = omega (arith, (c.nothing.ensures c.args.all.now.plant.now).count_is)
+pub with_component-requires-clause-count_lt_max_switches : goal.with_component-requires-clause-count_lt_max_switches
+with_component-requires-clause-count_lt_max_switches c = omega (arith, (c.nothing-f.ensures c.args.all.now.plant.now).count_is)
 
 pub loop-x-init : goal.loop-x-init
-loop-x-init c = c.with_component-f.ensures [] (c.nothing.ensures c.args.all.now.plant.now) (λ s x z. absurd z)
+loop-x-init c = c.with_component.ensures [] (c.nothing-f.ensures c.args.all.now.plant.now) (λ s x z. absurd z)
 
-pub with_component-f-requires-then-is_none-clause-count_lt_max_switches : goal.with_component-f-requires-then-is_none-clause-count_lt_max_switches
-with_component-f-requires-then-is_none-clause-count_lt_max_switches c =
+pub with_component-requires-then-is_none-clause-count_lt_max_switches : goal.with_component-requires-then-is_none-clause-count_lt_max_switches
+with_component-requires-then-is_none-clause-count_lt_max_switches c =
     let sound = c.args.all.now.sound in
     let k = c.loop-x in
     let t = begins _ sound _ c.loop-x-test.true _ k.invariant (is_free _ _ c.is_none.ensures c.if-is_none.true) in
@@ -27,8 +27,8 @@ loop-x-preserved c =
     elim c.if-is_none.branch [
       | then-is_none w ↦
           let t = begins _ sound _ x_in _ k.invariant (is_free _ _ c.is_none.ensures w.if-is_none.true) in
-          let r = w.with_component-f-then-is_none in
-          rw w.f-is (subst (λ (rs : List ℕ). Covers p rs r.result) (sym (to_begun _ sound _ t)) (r.ensures _ k.invariant (apart _ sound _ x_in t)))
+          let r = w.with_component-then-is_none in
+          rw w.f-is (subst (λ (rs : List ℕ). Covers p rs r.new.f) (sym (to_begun _ sound _ t)) (r.ensures _ k.invariant (apart _ sound _ x_in t)))
       | else-is_none w ↦
           rw w.f-is
           (subst (λ (rs : List ℕ). Covers p rs k.f) (sym (to_other _ sound _ (begins-not _ sound _ x_in _ k.invariant (not_free _ _ c.is_none.ensures w.if-is_none.false)))) k.invariant)
