@@ -2,17 +2,59 @@
 // file has the table of cases.
 #![tactic(auto)]
 
+ghost use Rattle.std.specs.Prelude.{◌≡◌};
+ghost use Rattle.answers.specs.Checks.{answer};
+ghost use Rattle.answers.specs.Results.{answer_of};
+ghost use Rattle.desk.specs.Desk.{desk_after};
+ghost use Rattle.consoles.specs.Calls.{new_set, start, outcome, serving};
 ghost use Rattle.streams.specs.Streams.{Grows};
 
+use answers::Refusal;
 use caseform::input::Input;
 use caseform::{checksum, show};
 use desk::{Console, Desk, Held};
-use search::Search;
+use search::{Outcome, Search};
 use std::io;
 use std::io::Write;
 
 // The numbers that a console is printed as.
 const NUMBERS: u64 = 14;
+
+// ---- the calls, each lent the caller's desk
+
+#[tactic(auto, unfolding(consoles::specs::Calls::served))]
+fn replace_set(desk: &mut Desk, listing: &[u8], console: u8, set: u64) -> Result<Console, Refusal>
+    ensures result_value { answer_of result ≡ answer (serving desk.old console listing.now (new_set set)) }
+    ensures desk_after { desk.new ≡ desk_after desk.old console (answer (serving desk.old console listing.now (new_set set))) }
+{
+    consoles::replace_set(desk, listing, console, set)
+}
+
+#[tactic(auto, unfolding(consoles::specs::Calls::served))]
+fn start_search(
+    desk: &mut Desk,
+    listing: &[u8],
+    console: u8,
+    switch: u8,
+) -> Result<Console, Refusal>
+    ensures result_value { answer_of result ≡ answer (serving desk.old console listing.now (start switch)) }
+    ensures desk_after { desk.new ≡ desk_after desk.old console (answer (serving desk.old console listing.now (start switch))) }
+{
+    consoles::start_search(desk, listing, console, switch)
+}
+
+#[tactic(auto, unfolding(consoles::specs::Calls::served))]
+fn give_outcome(
+    desk: &mut Desk,
+    listing: &[u8],
+    console: u8,
+    o: Outcome,
+) -> Result<Console, Refusal>
+    ensures result_value { answer_of result ≡ answer (serving desk.old console listing.now (outcome o)) }
+    ensures desk_after { desk.new ≡ desk_after desk.old console (answer (serving desk.old console listing.now (outcome o))) }
+{
+    consoles::give_outcome(desk, listing, console, o)
+}
 
 // ---- a desk in the input
 
@@ -94,9 +136,9 @@ pub fn answer<W: Write>(out: &mut W, call: u8, input: &mut Input) -> io::Result<
     let mut desk = desk(input);
     let console = input.byte();
     let answer = match call {
-        30 => consoles::replace_set(&mut desk, listing, console, input.set()),
-        31 => consoles::start_search(&mut desk, listing, console, input.byte()),
-        32 => consoles::give_outcome(&mut desk, listing, console, input.outcome()),
+        30 => replace_set(&mut desk, listing, console, input.set()),
+        31 => start_search(&mut desk, listing, console, input.byte()),
+        32 => give_outcome(&mut desk, listing, console, input.outcome()),
         _ => {
             input.end();
             return Ok(());

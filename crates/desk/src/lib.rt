@@ -58,7 +58,8 @@ fn has(set: u64, x: u8) -> bool
 fn out_of_range(set: u64, switches: u8) -> bool
     ensures { result ≡ set_out_of_range switches set }
 {
-    switches < Plant::MAX_SWITCHES && (set >> switches) != 0
+    let all = Plant::MAX_SWITCHES <= switches;
+    !all && (set >> switches) != 0
 }
 
 // Refusal 20 of a set.
@@ -191,7 +192,7 @@ pub fn console_of(d: &Desk, k: u8) -> Console
 }
 
 // What a call of console k came to, once its console is laid down on the desk, beside the other three as they are. A refusal leaves the desk as it is.
-#[tactic(auto, using(crate::proofs::Consoles::put_is))]
+#[tactic(auto, using(crate::proofs::Consoles::put_set), unfolding(crate::specs::Desk::with_console, crate::specs::Desk::console_of))]
 pub fn kept(d: &mut Desk, k: u8, c: Result<Console, Refusal>) -> Result<Console, Refusal>
     ensures result_value { result ≡ c }
     ensures desk_after { d.new ≡ desk_after d.old k (answer_of c) }
