@@ -40,13 +40,15 @@ pub struct Chains {
     pub after: [u16; Plant::LABELS],
 }
 
-// A network as the functions of the trail take it: its sizes, the ends of its arcs, the chains of its arcs in use, and the fewest hops over these from each switch to each.
+// A network as the functions of the trail are lent it: its sizes, the tails and the heads of its arcs, the chains of its arcs in use, and the fewest hops over these from each switch
+// to each. It need be that of no plant.
 #[derive(Clone, Copy)]
-pub struct Network {
+pub struct Network<'a> {
     pub net: Net,
-    pub ends: ArcEnds,
-    pub chains: Chains,
-    pub hops: [[u8; Plant::PLACES]; Plant::PLACES],
+    pub tails: &'a [u8; Plant::LABELS],
+    pub heads: &'a [u8; Plant::LABELS],
+    pub chains: &'a Chains,
+    pub hops: &'a [[u8; Plant::PLACES]; Plant::PLACES],
 }
 
 // How far a visit from `root` has come: `next` switches are visited, `seen` tells which, `rank` numbers them from 0 in the order of the visit, and `entered` tells
@@ -125,12 +127,13 @@ pub fn links_in_service(p: Plant) -> u16
 }
 
 // A flag for each label: is its link in service?
-pub fn all_arcs(ends: &ArcEnds) -> [bool; Plant::LABELS]
-    ensures { AllArcs ends.now.plant result }
+pub fn all_arcs(p: &Plant) -> [bool; Plant::LABELS]
+    requires { Sound p.now }
+    ensures { AllArcs p.now result }
 {
     let mut r = [false; Plant::LABELS];
-    for a in 0..2 * usize::from(ends.plant.count) {
-        r[a] = in_service(ends.plant.links[a / 2]);
+    for a in 0..2 * usize::from(p.count) {
+        r[a] = in_service(p.links[a / 2]);
     }
     r
 }

@@ -16,7 +16,7 @@ use plant::Plant;
 use std::array;
 use visit::AllChains;
 
-// The components: `count` of them with their roots, for each switch the number of its component, the bridges and the arcs in use. A place of no switch has 0.
+// The components: `count` of them with their roots, for each switch the number of its component, the bridges and the arcs in use. A place past the switches has the number that stands for none.
 #[derive(Clone, Copy)]
 pub struct Found {
     pub count: u8,
@@ -36,6 +36,9 @@ pub struct Forest {
     pub rank: [u8; Plant::PLACES],
     pub entered: [bool; Plant::MAX_LINKS],
 }
+
+// The number that stands for no component.
+const NONE: u8 = Plant::PLACES as u8;
 
 // Nothing is found yet.
 fn nothing() -> Forest
@@ -59,9 +62,9 @@ fn pick<T: Copy>(seen: bool, new: T, old: T) -> T
 
 // With the component of one root more, which none of those found before reaches.
 fn with_component(all: &AllChains, f: Forest, root: u8) -> Forest
-    requires root_lt_switches { root < all.now.ends.now.plant.switches }
+    requires root_lt_switches { root < all.now.plant.now.switches }
     requires count_lt_max_switches { f.count < max_switches }
-    ensures { (rs : List ℕ) → Covers all.now.ends.now.plant rs f → Apart all.now.ends.now.plant rs root → Covers all.now.ends.now.plant (rs ++ (root ∷ [])) result }
+    ensures { (rs : List ℕ) → Covers all.now.plant.now rs f → Apart all.now.plant.now rs root → Covers all.now.plant.now (rs ++ (root ∷ [])) result }
 {
     let v = visit::visit_by(all, root);
     let mut roots = f.roots;
@@ -80,10 +83,10 @@ fn with_component(all: &AllChains, f: Forest, root: u8) -> Forest
 
 // The visits of all components: of the start's, and then of that of each switch which is in none before it.
 fn visit_all(all: &AllChains) -> Forest
-    ensures { Covers all.now.ends.now.plant (roots all.now.ends.now.plant) result }
+    ensures { Covers all.now.plant.now (roots all.now.plant.now) result }
 {
-    let mut f = with_component(all, nothing(), all.ends.plant.start);
-    for x in 0..all.ends.plant.switches {
+    let mut f = with_component(all, nothing(), all.plant.start);
+    for x in 0..all.plant.switches {
         if f.home[x as usize].is_none() {
             f = with_component(all, f, x);
         }
@@ -95,8 +98,13 @@ fn visit_all(all: &AllChains) -> Forest
 pub fn find(ends: &ArcEnds) -> Found
     ensures { Finds ends.now.plant result }
 {
-    let chains = visit::all_chains(ends);
-    let f = visit_all(&chains);
+    let chains = visit::all_chains(&ends.plant, &ends.tails);
+    let by = AllChains {
+        plant: &ends.plant,
+        heads: &ends.heads,
+        chains,
+    };
+    let f = visit_all(&by);
     let rank = f.rank;
     let entered = f.entered;
     let visited = Visited {
@@ -110,7 +118,7 @@ pub fn find(ends: &ArcEnds) -> Found
     let bridges = bridges::bridges_of(&all);
     let used = uses::arcs_in_use(&all, &bridges);
     let roots = f.roots;
-    let home = array::from_fn(|x| f.home[x].unwrap_or(0));
+    let home = array::from_fn(|x| f.home[x].unwrap_or(NONE));
     Found {
         count: f.count,
         roots,

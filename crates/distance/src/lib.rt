@@ -1,29 +1,30 @@
 // The fewest hops over arcs in use between every two switches, as a table by value. Inner: no call of document 01 is here.
 #![tactic(auto)]
 
-ghost use Rattle.std.specs.Prelude.{◌≡◌, ◌≤◌, ◌<◌};
+ghost use Rattle.std.specs.Prelude.{◌≡◌, List, ℕ, ◌≤◌, ◌<◌};
 ghost use Rattle.lists.specs.Arrays.{flag, at};
 ghost use Rattle.limits.specs.Limits.{max_switches};
 ghost use Rattle.arcs.specs.Net.{Within};
 ghost use Rattle.arcs.specs.Table.{distances_in};
 ghost use Rattle.distance.specs.Ways.{Near, Left, Zeroed, FewInRow, FewHops, ByWay, Through};
 
-use arcs::{ArcEnds, Net};
+use arcs::Net;
 use plant::Plant;
 
 // A table with 1 from the tail of each flagged arc to its head, and the number of switches elsewhere.
 fn adjacent(
     net: Net,
-    ends: &ArcEnds,
+    tails: &[u8; Plant::LABELS],
+    heads: &[u8; Plant::LABELS],
     used: &[bool; Plant::LABELS],
 ) -> [[u8; Plant::PLACES]; Plant::PLACES]
-    requires { Within net ends.now.tails ends.now.heads used.now }
-    ensures { Near net.switches net.labels (at ends.now.tails) (at ends.now.heads) (flag used.now) net.labels result }
+    requires { Within net tails.now heads.now used.now }
+    ensures { Near net.switches net.labels (at tails.now) (at heads.now) (flag used.now) net.labels result }
 {
     let mut t = [[net.switches; Plant::PLACES]; Plant::PLACES];
     for a in 0..net.labels as usize {
         if used[a] {
-            t[ends.tails[a] as usize][ends.heads[a] as usize] = 1;
+            t[tails[a] as usize][heads[a] as usize] = 1;
         }
     }
     t
@@ -41,14 +42,18 @@ fn diagonal(t0: [[u8; Plant::PLACES]; Plant::PLACES]) -> [[u8; Plant::PLACES]; P
 }
 
 // A flag for each switch that a flagged arc leaves.
-fn left_by(net: Net, ends: &ArcEnds, used: &[bool; Plant::LABELS]) -> [bool; Plant::PLACES]
-    requires { Within net ends.now.tails ends.now.heads used.now }
-    ensures { Left (at ends.now.tails) (flag used.now) net.labels result }
+fn left_by(
+    net: Net,
+    tails: &[u8; Plant::LABELS],
+    used: &[bool; Plant::LABELS],
+) -> [bool; Plant::PLACES]
+    requires { (heads : List ℕ) × Within net tails.now heads used.now }
+    ensures { Left (at tails.now) (flag used.now) net.labels result }
 {
     let mut r = [false; Plant::PLACES];
     for a in 0..net.labels as usize {
         if used[a] {
-            r[ends.tails[a] as usize] = true;
+            r[tails[a] as usize] = true;
         }
     }
     r
@@ -88,14 +93,15 @@ fn through(t: &mut [[u8; Plant::PLACES]; Plant::PLACES], s: u8, k: usize)
 // way.
 pub fn distances(
     net: Net,
-    ends: &ArcEnds,
+    tails: &[u8; Plant::LABELS],
+    heads: &[u8; Plant::LABELS],
     used: &[bool; Plant::LABELS],
 ) -> [[u8; Plant::PLACES]; Plant::PLACES]
-    requires { Within net ends.now.tails ends.now.heads used.now }
-    ensures { result ≡ distances_in net ends.now.tails ends.now.heads used.now }
+    requires { Within net tails.now heads.now used.now }
+    ensures { result ≡ distances_in net tails.now heads.now used.now }
 {
-    let mut t = diagonal(adjacent(net, ends, used));
-    let left = left_by(net, ends, used);
+    let mut t = diagonal(adjacent(net, tails, heads, used));
+    let left = left_by(net, tails, used);
     for k in 0..net.switches as usize {
         let way = left[k];
         if way {

@@ -25,41 +25,22 @@ use Rattle.routes.proofs.Marks.{remaining, marks_less}
 use Rattle.routes.proofs.Nearest.{Nearest, nearest_none, nearest?}
 use Rattle.routes.proofs.Legs.{one-leg, last-leg, leg-leaves}
 use Rattle.arcs.specs.declared.Net.{Net}
-use Rattle.arcs.specs.declared.Network.{Network}
-use Rattle.arcs.specs.Net.{rooted}
 use Rattle.arcs.specs.Table.{cell, trail_in}
+use Rattle.arcs.specs.Parts.{Parts}
 use Rattle.arcs.proofs.Following.{follows_first, follows_after}
 use Rattle.arcs.specs.Legs.{route_in, Joined, along}
 use Rattle.arcs.proofs.Ways.{parts-hops, part-joined, way_size}
 use Rattle.legs.specs.Firsts.{Firsts}
 use Rattle.legs.specs.Nearest.{Lows, Tabled, NearestBy}
-use Rattle.legs.specs.Several.{PartsFrom, SomeParts, Added}
+use Rattle.legs.specs.Several.{SomeParts, Added}
 use Rattle.legs.proofs.Lows.{lows_first, lows_next, nearest_low}
 
 -- into the array `lent`, from place `from` on
-module _ {x : Network} {root from : ℕ} (some : SomeParts x root from) (lent : List ℕ) where
-  abbrev net : Net
-  net = rooted x.net root
-
-  abbrev tails : List ℕ
-  tails = x.ends.tails
-
-  abbrev heads : List ℕ
-  heads = x.ends.heads
-
-  abbrev first : List ℕ
-  first = x.chains.first
-
-  abbrev after : List ℕ
-  after = x.chains.after
-
-  abbrev t : List (List ℕ)
-  t = x.hops
-
+module _ {net : Net} {tails heads first after : List ℕ} {t : List (List ℕ)} {from : ℕ} (some : SomeParts net tails heads first after t from) (lent : List ℕ) where
   abbrev used : List Bool
   used = some.used
 
-  abbrev p : PartsFrom x root used
+  abbrev p : Parts net tails heads used first after t
   p = some.parts
 
   abbrev S : ℕ
@@ -135,7 +116,7 @@ module _ {x : Network} {root from : ℕ} (some : SomeParts x root from) (lent : 
   nothing = slice_empty from lent
 
   -- so that the trail has no hop
-  pub no_legs_is : length lent ≡ max_rules → n ≤ at first net.root → Added x root used lent from (record { from = from; to = from; hops = 0 }) lent
+  pub no_legs_is : length lent ≡ max_rules → n ≤ at first net.root → Added net tails heads used lent from (record { from = from; to = from; hops = 0 }) lent
   unfolding trail
   no_legs_is long h = record {
     begin = refl;
@@ -274,7 +255,7 @@ module _ {x : Network} {root from : ℕ} (some : SomeParts x root from) (lent : 
       pub root_low : net.root < max_switches
       pub room : k ≤ max_rules
       pub short : hops + cell t u net.root ≤ max_hops
-      pub added : Added x root used lent from (record { from = from; to = k; hops = hops + cell t u net.root }) aims
+      pub added : Added net tails heads used lent from (record { from = from; to = k; hops = hops + cell t u net.root }) aims
 
     pub ends : NearestBy S n t low u None → End
     ends told = record {

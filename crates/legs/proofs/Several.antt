@@ -10,13 +10,14 @@ use lib.Seq.{slice, take-take}
 use Rattle.lists.specs.Arrays.{at}
 use Rattle.lists.specs.Sum.{sum}
 use Rattle.lists.proofs.Sum.{sum-next, sum_more}
-use Rattle.limits.specs.Limits.{max_switches}
+use Rattle.limits.specs.Limits.{max_switches, max_rules}
 use Rattle.arcs.specs.declared.Net.{Net}
 use Rattle.arcs.specs.declared.Legs.{Legs}
-use Rattle.arcs.specs.declared.Network.{Network}
+use Rattle.arcs.specs.Net.{rooted}
+use Rattle.arcs.specs.Parts.{Parts}
 use Rattle.arcs.specs.Legs.{no_legs, LegsOf, LegsIn}
 use Rattle.arcs.proofs.Tables.{set_cases}
-use Rattle.legs.specs.Several.{in_use, LegsFrom, SomeParts, Added, Several, LegsOfAll}
+use Rattle.legs.specs.Several.{in_use, SomeParts, Added, Several, LegsOfAll}
 
 legs-kept : {net : Net} {tails heads : List ℕ} {used : List Bool} {a b : List ℕ} {legs : Legs} {from : ℕ} → take from b ≡ take from a → legs.to ≤ from → LegsIn net tails heads used a legs
     → LegsIn net tails heads used b legs
@@ -30,42 +31,44 @@ legs-kept {net} {tails} {heads} {used} {a} {b} {legs} {from} e h l = record {
     same : slice legs.from legs.to a ≡ slice legs.from legs.to b
     same = ap (drop legs.from) (sym (take-take legs.to from a h) ∙ ap (take legs.to) (sym e) ∙ take-take legs.to from b h)
 
-module _ {x : Network} {roots : List ℕ} (w : Several x roots) where
+module _ {net : Net} {tails heads first after : List ℕ} {t : List (List ℕ)} {roots : List ℕ} (w : Several net tails heads first after t roots) where
   -- the arcs in use from root i
   abbrev size : ℕ → ℕ
-  size i = in_use x.net (w.used i)
+  size i = in_use net (w.used i)
 
   -- the legs of the first i trails are found, and the next are to stand from place `from` on
   pub record Listed (i : ℕ) (aims : List ℕ) (list : List Legs) (from : ℕ) : Type 0 where
     pub room : from ≤ sum i size
-    pub done : (j : ℕ) → j < i → LegsFrom x (at roots j) (w.used j) aims (get_or list j no_legs) × ((get_or list j no_legs).to ≤ from)
+    pub done : (j : ℕ) → j < i → LegsIn (rooted net (at roots j)) tails heads (w.used j) aims (get_or list j no_legs) × ((get_or list j no_legs).to ≤ from)
 
-  listed_none : (aims : List ℕ) (list : List Legs) → Listed 0 aims list 0
+  pub listed_none : (aims : List ℕ) (list : List Legs) → Listed 0 aims list 0
   listed_none aims list = record { room = omega arith; done = λ j h. absurd (omega arith) }
 
-  module _ {i : ℕ} (i_in : i < length roots) {aims : List ℕ} {list : List Legs} {from : ℕ} (so_far : Listed i aims list from) where
+  module _ {i : ℕ} (i_in : i < length roots) {aims : List ℕ} {list : List Legs} {from : ℕ} (so_far : Listed i aims list from) {one : Net} (is : one ≡ rooted net (at roots i)) where
+    pub own : Parts one tails heads (w.used i) first after t
+    own = subst (λ (m : Net). Parts m tails heads (w.used i) first after t) (sym is) (w.parts i i_in)
+
+    pub enough : from + size i ≤ max_rules
+    enough = omega (arith, so_far.room, sum-next size i, sum_more size (i + 1) (length roots) (omega arith), w.room)
+
     -- what the search for the legs of the next asks
-    abbrev pub asked : SomeParts x (at roots i) from
-    asked = record {
-      used = w.used i;
-      parts = w.parts i i_in;
-      room = omega (arith, so_far.room, sum-next size i, sum_more size (i + 1) (length roots) (omega arith), w.room);
-    }
+    abbrev pub asked : SomeParts one tails heads first after t from
+    asked = record { used = w.used i; parts = own; room = subst (λ (m : Net). from + in_use m (w.used i) ≤ max_rules) (sym is) enough }
 
     -- and what it makes
-    pub listed_next : length list ≡ max_switches → {legs : Legs} {b : List ℕ} → ((v : SomeParts x (at roots i) from) → Added x (at roots i) v.used aims from legs b)
+    pub listed_next : length list ≡ max_switches → {legs : Legs} {b : List ℕ} → ((v : SomeParts one tails heads first after t from) → Added one tails heads v.used aims from legs b)
         → Listed (i + 1) b (set list i legs) legs.to
     listed_next long {legs} {b} adds = record {
-      room = omega (arith, added.few, so_far.room, sum-next size i);
+      room = omega (arith, added.few, so_far.room, sum-next size i, ap (λ (m : Net). in_use m (w.used i)) is);
       done = set_cases list i legs no_legs (omega (arith, long, w.few))
-          (λ j l. j < i + 1 → LegsFrom x (at roots j) (w.used j) b l × (l.to ≤ legs.to))
-          (λ _. (added.legs_are, omega arith))
+          (λ j l. j < i + 1 → LegsIn (rooted net (at roots j)) tails heads (w.used j) b l × (l.to ≤ legs.to))
+          (λ _. (subst (λ (m : Net). LegsIn m tails heads (w.used i) b legs) is added.legs_are, omega arith))
           (λ j ne h. let q = so_far.done j (omega (arith, ne)) in (legs-kept added.kept q.1 q.0, omega (arith, q.1, added.begin, added.legs_are.order)));
     }
       where
-        added : Added x (at roots i) (w.used i) aims from legs b
+        added : Added one tails heads (w.used i) aims from legs b
         added = adds asked
 
   -- those of all
-  pub listed_all : (i : ℕ) → length roots ≤ i → (aims : List ℕ) (list : List Legs) (from : ℕ) → Listed i aims list from → LegsOfAll x roots w.used aims list
+  pub listed_all : (i : ℕ) → length roots ≤ i → (aims : List ℕ) (list : List Legs) (from : ℕ) → Listed i aims list from → LegsOfAll net tails heads roots w.used aims list
   listed_all i h aims list from l j k = (l.done j (omega arith)).0

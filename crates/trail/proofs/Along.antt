@@ -13,32 +13,22 @@ use Rattle.lists.proofs.Members.{get_d_in}
 use Rattle.limits.specs.Limits.{max_links}
 use Rattle.routes.specs.Meaning.{InUse}
 use Rattle.arcs.specs.declared.Net.{Net}
-use Rattle.arcs.specs.declared.Network.{Network}
-use Rattle.arcs.specs.Net.{rooted}
+use Rattle.arcs.specs.Parts.{Parts}
 use Rattle.arcs.specs.Legs.{route_in, Joined, along}
 use Rattle.arcs.proofs.Ways.{part-joined}
-use Rattle.trail.specs.Ways.{PartsFrom, Trailing}
+use Rattle.trail.specs.Ways.{Trailing}
 use Rattle.trail.proofs.Filled.{Splits}
 
 -- what is left of the trail at u, after k legs
-abbrev pub left_of : {x : Network} {root : ℕ} {legs : List ℕ} → Trailing x root legs → ℕ → ℕ → List ℕ
-left_of {x} {root} {legs} w k u = along (rooted x.net root) x.ends.tails x.ends.heads w.used (drop k legs) u
+abbrev pub left_of : {net : Net} {tails heads first after : List ℕ} {t : List (List ℕ)} {legs : List ℕ} → Trailing net tails heads first after t legs → ℕ → ℕ → List ℕ
+left_of {net} {tails} {heads} {legs = legs} w k u = along net tails heads w.used (drop k legs) u
 
-module _ {x : Network} {root : ℕ} {legs : List ℕ} (w : Trailing x root legs) (u k : ℕ) (inside : T (w.parts.part u))
+module _ {net : Net} {tails heads first after : List ℕ} {t : List (List ℕ)} {legs : List ℕ} (w : Trailing net tails heads first after t legs) (u k : ℕ) (inside : T (w.parts.part u))
   where
-    abbrev net : Net
-    net = rooted x.net root
-
-    abbrev tails : List ℕ
-    tails = x.ends.tails
-
-    abbrev heads : List ℕ
-    heads = x.ends.heads
-
     abbrev used : List Bool
     used = w.used
 
-    abbrev p : PartsFrom x root used
+    abbrev p : Parts net tails heads used first after t
     p = w.parts
 
     abbrev left : ℕ → ℕ → List ℕ

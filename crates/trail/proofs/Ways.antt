@@ -10,23 +10,17 @@ use Rattle.lists.specs.Arrays.{flag, at}
 use Rattle.limits.specs.Limits.{max_links}
 use Rattle.routes.proofs.Distances.{route_hop, route_none}
 use Rattle.arcs.specs.declared.Net.{Net}
-use Rattle.arcs.specs.declared.Network.{Network}
-use Rattle.arcs.specs.Net.{rooted}
 use Rattle.arcs.specs.Table.{cell}
 use Rattle.arcs.specs.Parts.{Parts}
 use Rattle.arcs.specs.Legs.{route_in, hop_in, Joined}
 use Rattle.arcs.proofs.Ways.{way_size}
-use Rattle.trail.specs.Ways.{Way, NextHop, Trailing}
-
--- a way of a plan: on from another switch of it, or along its trail
-abbrev pub way_on : {x : Network} {u v : ℕ} (w : Way x u v) {a b : ℕ} → Joined (rooted x.net w.root) x.ends.tails x.ends.heads w.used w.parts.part a b → Way x a b
-way_on w j = record { root = w.root; used = w.used; parts = w.parts; joined = j }
-
-abbrev pub way_of : {x : Network} {root : ℕ} {legs : List ℕ} (w : Trailing x root legs) {a b : ℕ} → Joined (rooted x.net root) x.ends.tails x.ends.heads w.used w.parts.part a b → Way x a b
-way_of {root = root} w j = record { root = root; used = w.used; parts = w.parts; joined = j }
+use Rattle.trail.specs.Ways.{Way, NextHop}
 
 module _ {net : Net} {heads first after : List ℕ} {t : List (List ℕ)} where
   module _ {tails : List ℕ} {used : List Bool} (p : Parts net tails heads used first after t) where
+    abbrev pub way_of : {u v : ℕ} → Joined net tails heads used p.part u v → Way net heads first after t u v
+    way_of j = record { tails = tails; used = used; parts = p; joined = j }
+
     abbrev way : ℕ → ℕ → List ℕ
     way u v = route_in net tails heads used u v
 
@@ -54,10 +48,10 @@ module _ {net : Net} {heads first after : List ℕ} {t : List (List ℕ)} where
     pub way_none : (u v : ℕ) → u ≡ v → way u v ≡ []
     way_none u v e = route_none net.switches net.labels (at tails) (at heads) (flag used) u v e
 
--- as the next hop is told, from a switch on the way to its end
-module _ {x : Network} {u v : ℕ} (w : Way x u v) {y : ℕ} (j : Joined (rooted x.net w.root) x.ends.tails x.ends.heads w.used w.parts.part y v) where
-  pub next : (a : ℕ) → ((o : Way x y v) → NextHop o (Some a)) → Over w.parts y v a
-  next a told = let q = told (way_on w j) in over w.parts y v a j q.0 q.1
+  -- as the next hop is told, from a switch on the way to its end
+  module _ {u v : ℕ} (w : Way net heads first after t u v) {y : ℕ} (j : Joined net w.tails heads w.used w.parts.part y v) where
+    pub next : (a : ℕ) → ((o : Way net heads first after t y v) → NextHop o (Some a)) → Over w.parts y v a
+    next a told = let q = told (way_of w.parts j) in over w.parts y v a j q.0 q.1
 
-  pub at_end : ((o : Way x y v) → NextHop o None) → route_in (rooted x.net w.root) x.ends.tails x.ends.heads w.used y v ≡ []
-  at_end told = way_none w.parts y v (told (way_on w j))
+    pub at_end : ((o : Way net heads first after t y v) → NextHop o None) → route_in net w.tails heads w.used y v ≡ []
+    at_end told = way_none w.parts y v (told (way_of w.parts j))

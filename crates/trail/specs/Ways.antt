@@ -1,52 +1,58 @@
--- Inner: ways and the trail as inner functions go them. What no code along them reads, the flags of the arcs in use and along a way the root, is no parameter: a promise holds for
--- any such arcs whose plan the network is. No promise of a call needs it. Assumes nothing.
+-- Inner: ways and the trail as inner functions go them. What no code along them reads, the flags of the arcs in use and along a way the tails of the arcs, is no parameter: a
+-- promise holds for any such arcs whose plan the arrays are. No promise of a call needs it. Assumes nothing.
 use Rattle.std.specs.Prelude.{◌≡◌, Bool, true, false, List, ℕ, ◌+◌, ◌≤◌, length, drop, Option, Some, None}
 use Rattle.std.proofs.lemmas.List.Edits.{sets}
+use Rattle.arcs.specs.declared.Net.{Net}
 use Rattle.arcs.specs.declared.Network.{Network}
-use Rattle.arcs.specs.Net.{rooted}
 use Rattle.arcs.specs.Table.{trail_in}
 use Rattle.arcs.specs.Parts.{Parts}
 use Rattle.arcs.specs.Legs.{route_in, hop_in, Joined, LegsOf}
 use Rattle.trail.specs.Filled.{begins_with}
 
--- the network is the parts of a plan from a root, with these arcs in use
-abbrev pub PartsFrom : Network → ℕ → List Bool → Type 0
-PartsFrom x root used = Parts (rooted x.net root) x.ends.tails x.ends.heads used x.chains.first x.chains.after x.hops
-
--- the network is a plan, and over its arcs in use a way leads from u to v, switches of its part
-pub record Way (x : Network) (u v : ℕ) : Type 0 where
-  pub root : ℕ
+-- the arrays are those of a plan, and over its arcs in use a way leads from u to v, switches of its part
+pub record Way (net : Net) (heads first after : List ℕ) (t : List (List ℕ)) (u v : ℕ) : Type 0 where
+  pub tails : List ℕ
   pub used : List Bool
-  pub parts : PartsFrom x root used
-  pub joined : Joined (rooted x.net root) x.ends.tails x.ends.heads used parts.part u v
+  pub parts : Parts net tails heads used first after t
+  pub joined : Joined net tails heads used parts.part u v
 
-module _ {x : Network} {u v : ℕ} (w : Way x u v) where
+module _ {net : Net} {heads first after : List ℕ} {t : List (List ℕ)} {u v : ℕ} (w : Way net heads first after t u v) where
   -- the first hop of that way, and the whole
   abbrev pub hop_by : ℕ
-  hop_by = hop_in (rooted x.net w.root) x.ends.tails x.ends.heads w.used u v
+  hop_by = hop_in net w.tails heads w.used u v
 
   abbrev pub route_by : List ℕ
-  route_by = route_in (rooted x.net w.root) x.ends.tails x.ends.heads w.used u v
+  route_by = route_in net w.tails heads w.used u v
 
 -- what is told of its next hop: which it is, or that the way is at its end
-abbrev pub NextHop : {x : Network} {u v : ℕ} → Way x u v → Option ℕ → Type 0
+abbrev pub NextHop : {net : Net} {heads first after : List ℕ} {t : List (List ℕ)} {u v : ℕ} → Way net heads first after t u v → Option ℕ → Type 0
 NextHop {u = u} {v = v} w (Some a) = (u ≡ v → ⊥) × (a ≡ hop_by w)
 NextHop {u = u} {v = v} w None = u ≡ v
 
--- the network is a plan from a root, and the legs are those of its trail
-pub record Trailing (x : Network) (root : ℕ) (legs : List ℕ) : Type 0 where
+-- the arrays are those of a plan, and the legs are those of its trail
+pub record Trailing (net : Net) (tails heads first after : List ℕ) (t : List (List ℕ)) (legs : List ℕ) : Type 0 where
   pub used : List Bool
-  pub parts : PartsFrom x root used
-  pub legs_are : LegsOf (rooted x.net root) x.ends.tails x.ends.heads used legs
+  pub parts : Parts net tails heads used first after t
+  pub legs_are : LegsOf net tails heads used legs
 
 -- that trail
-abbrev pub trail_by : {x : Network} {root : ℕ} {legs : List ℕ} → Trailing x root legs → List ℕ
-trail_by {x} {root} w = trail_in (rooted x.net root) x.ends.tails x.ends.heads w.used
+abbrev pub trail_by : {net : Net} {tails heads first after : List ℕ} {t : List (List ℕ)} {legs : List ℕ} → Trailing net tails heads first after t legs → List ℕ
+trail_by {net} {tails} {heads} w = trail_in net tails heads w.used
 
 -- and from place `from` on, of `room` places, there is one for each of its hops
-pub record Fitting (x : Network) (root : ℕ) (legs : List ℕ) (from room : ℕ) : Type 0 where
-  pub trailing : Trailing x root legs
+pub record Fitting (net : Net) (tails heads first after : List ℕ) (t : List (List ℕ)) (legs : List ℕ) (from room : ℕ) : Type 0 where
+  pub trailing : Trailing net tails heads first after t legs
   pub fits : from + length (trail_by trailing) ≤ room
+
+-- the same of the arrays that a network lends
+abbrev pub WayOf : Network → ℕ → ℕ → Type 0
+WayOf x u v = Way x.net x.heads.now x.chains.now.first x.chains.now.after x.hops.now u v
+
+abbrev pub TrailingOf : Network → List ℕ → Type 0
+TrailingOf x legs = Trailing x.net x.tails.now x.heads.now x.chains.now.first x.chains.now.after x.hops.now legs
+
+abbrev pub FittingOf : Network → List ℕ → ℕ → ℕ → Type 0
+FittingOf x legs from room = Fitting x.net x.tails.now x.heads.now x.chains.now.first x.chains.now.after x.hops.now legs from room
 
 -- the list w is laid into the list b from place i on, which makes b', and j is the place after it
 pub record Laid (w b : List ℕ) (i : ℕ) (b' : List ℕ) (j : ℕ) : Type 0 where

@@ -4,18 +4,23 @@
 ghost use Rattle.std.specs.Prelude.{◌≡◌, ◌*◌, ◌≤◌, ◌<◌};
 ghost use Rattle.lists.specs.Arrays.{at};
 ghost use Rattle.limits.specs.Limits.{max_switches, max_links};
+ghost use Rattle.limits.specs.Sound.{Sound};
+ghost use Rattle.walks.specs.Arcs.{tail, head};
 ghost use Rattle.arcs.specs.Shows.{Visits};
 ghost use Rattle.visit.specs.Inner.{SomeArcs, AllChained, enter_of, begin_of, At, Went};
 
 use arcs::{ArcEnds, Chains, Visited};
 use plant::Plant;
 
-// The chains of all arcs of a plant, which each visit of it goes by, beside the ends of the arcs.
+// A sound plant, the heads of its arcs and the chains of all of them, which each visit of it goes by.
 #[derive(Clone, Copy)]
 pub struct AllChains<'a> {
-    pub ends: &'a ArcEnds,
+    pub plant: &'a Plant,
+    pub heads: &'a [u8; Plant::LABELS],
     pub chains: Chains,
-    pub ghost all_chained: { AllChained ends.now.plant chains.first chains.after },
+    pub ghost sound: { Sound plant.now },
+    pub ghost heads_are: { at heads.now ≡ head plant.now },
+    pub ghost all_chained: { AllChained plant.now chains.first chains.after },
 }
 
 // Link l is entered, and the switch `to` is visited.
@@ -36,19 +41,25 @@ fn enter(v: Visited, to: u8, l: usize) -> Visited
 
 // The visit goes on from the switch `from`, which is visited. It follows the chain of the arcs that leave it, by rising label, and calls itself for each switch that it enters. The
 // number of unvisited switches falls with each call, so it calls itself no deeper than there are switches.
-fn visit_from(ends: &ArcEnds, chains: &Chains, n: u16, v0: Visited, from: u8) -> Visited
+fn visit_from(
+    heads: &[u8; Plant::LABELS],
+    chains: &Chains,
+    n: u16,
+    v0: Visited,
+    from: u8,
+) -> Visited
     requires n_bound { n ≤ 2 * max_links }
-    requires some_arcs { SomeArcs n ends.now.heads chains.now.first chains.now.after }
+    requires some_arcs { SomeArcs n heads.now chains.now.first chains.now.after }
     requires at { At v0 from }
-    ensures { (w : SomeArcs n ends.now.heads chains.now.first chains.now.after) → Went n w.tl (at ends.now.heads) w.ok v0 from result }
+    ensures { (w : SomeArcs n heads.now chains.now.first chains.now.after) → Went n w.tl (at heads.now) w.ok v0 from result }
 {
     let mut v = v0;
     let mut a = chains.first[from as usize];
     while a < n {
         let i = a as usize;
-        let to = ends.heads[i];
+        let to = heads[i];
         if !v.seen[to as usize] {
-            v = visit_from(ends, chains, n, enter(v, to, i / 2), to);
+            v = visit_from(heads, chains, n, enter(v, to, i / 2), to);
         }
         a = chains.after[i];
     }
@@ -73,20 +84,21 @@ fn begin(root: u8) -> Visited
 }
 
 // The chains of all arcs of a plant.
-pub fn all_chains(ends: &ArcEnds) -> AllChains<'_>
-    ensures { result.ends.now ≡ ends.now }
+pub fn all_chains(p: &Plant, tails: &[u8; Plant::LABELS]) -> Chains
+    requires sound { Sound p.now }
+    requires tails_value { at tails.now ≡ tail p.now }
+    ensures { AllChained p.now result.first result.after }
 {
-    let chains = arcs::chains_of(&ends.tails, &arcs::all_arcs(ends), 2 * ends.plant.count);
-    AllChains { ends, chains }
+    arcs::chains_of(tails, &arcs::all_arcs(p), 2 * p.count)
 }
 
 // The depth-first visit from a root by the chains of all arcs.
 pub fn visit_by(all: &AllChains, root: u8) -> Visited
-    requires { root < all.now.ends.now.plant.switches }
-    ensures { Visits all.now.ends.now.plant root result }
+    requires { root < all.now.plant.now.switches }
+    ensures { Visits all.now.plant.now root result }
 {
-    let n = 2 * all.ends.plant.count;
-    visit_from(all.ends, &all.chains, n, begin(root), root)
+    let n = 2 * all.plant.count;
+    visit_from(all.heads, &all.chains, n, begin(root), root)
 }
 
 // The depth-first visit from a root.
@@ -94,6 +106,11 @@ pub fn visit(ends: &ArcEnds, root: u8) -> Visited
     requires { root < ends.now.plant.switches }
     ensures { Visits ends.now.plant root result }
 {
-    let all = all_chains(ends);
+    let chains = all_chains(&ends.plant, &ends.tails);
+    let all = AllChains {
+        plant: &ends.plant,
+        heads: &ends.heads,
+        chains,
+    };
     visit_by(&all, root)
 }

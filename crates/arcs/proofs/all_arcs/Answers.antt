@@ -12,19 +12,19 @@ abbrev part : Plant → ℕ → Bool
 part p a = live p (a / 2)
 
 pub loop-a-init : goal.loop-a-init
-loop-a-init c = laid_none false (2 * max_links) (part c.args.ends.now.plant)
+loop-a-init c = laid_none false (2 * max_links) (part c.args.p.now)
 
 pub loop-a-preserved : goal.loop-a-preserved
 loop-a-preserved c =
     let k = c.loop-a in
-    let few : k.a < 2 * max_links = omega (arith, c.loop-a-test.true, c.from-a-end.ensures, c.args.ends.now.sound.few_links) in
-    let told = c.in_service.ensures ∙ sym (live-listed c.args.ends.now.plant (k.a / 2) (omega (arith, c.loop-a-test.true, c.from-a-end.ensures))) in
-    laid_put false (2 * max_links) (part c.args.ends.now.plant) k.a k.r k.invariant _ few told
+    let few : k.a < 2 * max_links = omega (arith, c.loop-a-test.true, c.from-a-end.ensures, c.requires.few_links) in
+    let told = c.in_service.ensures ∙ sym (live-listed c.args.p.now (k.a / 2) (omega (arith, c.loop-a-test.true, c.from-a-end.ensures))) in
+    laid_put false (2 * max_links) (part c.args.p.now) k.a k.r k.invariant _ few told
 
 pub returns : goal.returns
 returns c =
     let k = c.loop-a in
     record {
       places = k.invariant.places;
-      tells = laid_all false (2 * max_links) (part c.args.ends.now.plant) k.a k.r k.invariant (λ b h. dead_past c.args.ends.now.plant b (omega (arith, c.loop-a-test.false, c.from-a-end.ensures)));
+      tells = laid_all false (2 * max_links) (part c.args.p.now) k.a k.r k.invariant (λ b h. dead_past c.args.p.now b (omega (arith, c.loop-a-test.false, c.from-a-end.ensures)));
     }

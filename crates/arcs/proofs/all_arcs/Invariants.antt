@@ -6,4 +6,4 @@ use Rattle.limits.specs.Limits.{max_links}
 use Rattle.arcs.proofs.all_arcs.Given as goal
 
 abbrev pub invariant-loop-a : goal.invariant-loop-a
-invariant-loop-a l = Laid false (2 * max_links) (λ a. live l.ends.plant (a / 2)) l.a l.r
+invariant-loop-a l = Laid false (2 * max_links) (λ a. live l.p (a / 2)) l.a l.r

@@ -6,23 +6,23 @@ use Rattle.components.proofs.visit_all.Goals as goal
 use Rattle.components.proofs.visit_all.Goals.{then-is_none, else-is_none}
 
 pub with_component-f-requires-clause-count_lt_max_switches : goal.with_component-f-requires-clause-count_lt_max_switches
-with_component-f-requires-clause-count_lt_max_switches c = omega (arith, (c.nothing.ensures c.args.all.now.ends.now.plant).count_is)
+with_component-f-requires-clause-count_lt_max_switches c = omega (arith, (c.nothing.ensures c.args.all.now.plant.now).count_is)
 
 pub loop-x-init : goal.loop-x-init
-loop-x-init c = c.with_component-f.ensures [] (c.nothing.ensures c.args.all.now.ends.now.plant) (λ s x z. absurd z)
+loop-x-init c = c.with_component-f.ensures [] (c.nothing.ensures c.args.all.now.plant.now) (λ s x z. absurd z)
 
 pub with_component-f-requires-then-is_none-clause-count_lt_max_switches : goal.with_component-f-requires-then-is_none-clause-count_lt_max_switches
 with_component-f-requires-then-is_none-clause-count_lt_max_switches c =
-    let sound = c.args.all.now.ends.now.sound in
+    let sound = c.args.all.now.sound in
     let k = c.loop-x in
     let t = begins _ sound _ c.loop-x-test.true _ k.invariant (is_free _ _ c.is_none.ensures c.if-is_none.true) in
     omega (arith, k.invariant.count_is, room _ sound _ c.loop-x-test.true t)
 
 pub loop-x-preserved : goal.loop-x-preserved
 loop-x-preserved c =
-    let sound = c.args.all.now.ends.now.sound in
+    let sound = c.args.all.now.sound in
     let k = c.loop-x in
-    let p = c.args.all.now.ends.now.plant in
+    let p = c.args.all.now.plant.now in
     let x_in = c.loop-x-test.true in
     elim c.if-is_none.branch [
       | then-is_none w ↦
@@ -37,7 +37,7 @@ loop-x-preserved c =
 pub returns : goal.returns
 returns c =
     let k = c.loop-x in
-    let p = c.args.all.now.ends.now.plant in
-    let sound = c.args.all.now.ends.now.sound in
+    let p = c.args.all.now.plant.now in
+    let sound = c.args.all.now.sound in
     let e : k.x ≡ p.switches = omega (arith, c.loop-x-test.false, k.auto.x-end) in
     subst (λ (rs : List ℕ). Covers p rs k.f) (roots_to_lem p sound) (subst (λ (n : ℕ). Covers p (roots_to p sound n) k.f) e k.invariant)

@@ -6,4 +6,4 @@ use Rattle.components.specs.Inner.{Covers}
 use Rattle.components.proofs.visit_all.Given as goal
 
 abbrev pub invariant-loop-x : goal.invariant-loop-x
-invariant-loop-x l = Covers l.all.ends.now.plant (l.all.ends.now.plant.start ∷ keep (begun_at l.all.ends.now.plant) (range 0 l.x)) l.f
+invariant-loop-x l = Covers l.all.plant.now (l.all.plant.now.start ∷ keep (begun_at l.all.plant.now) (range 0 l.x)) l.f

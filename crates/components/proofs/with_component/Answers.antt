@@ -28,4 +28,4 @@ joined c l =
 
 pub returns : goal.returns
 returns c rs covers apart =
-    covers_more _ c.args.all.now.ends.now.sound rs _ _ covers apart _ c.visit_by-v.ensures c.requires.count_lt_max_switches _ (settled c) _ (ranked c) _ (joined c)
+    covers_more _ c.args.all.now.sound rs _ _ covers apart _ c.visit_by-v.ensures c.requires.count_lt_max_switches _ (settled c) _ (ranked c) _ (joined c)

@@ -19,9 +19,9 @@ loop-a-preserved c =
     elim c.if-used-a.branch [
       | then-used-a b ↦
           let t = true_T _ b.if-used-a.true in
-          subst (Near s.net.switches s.net.labels (at s.ends.now.tails) (at s.ends.now.heads) (flag s.used.now) (k.a + 1)) (sym b.t-is)
+          subst (Near s.net.switches s.net.labels (at s.tails.now) (at s.heads.now) (flag s.used.now) (k.a + 1)) (sym b.t-is)
           (near_put _ _ _ _ _ k.a k.t k.invariant (omega (arith, w.root_in)) a_in t (omega (arith, w.few_switches, w.tail_in _ a_in t)) (omega (arith, w.few_switches, w.head_in _ a_in t)))
-      | else-used-a b ↦ subst (Near s.net.switches s.net.labels (at s.ends.now.tails) (at s.ends.now.heads) (flag s.used.now) (k.a + 1)) (sym b.t-is) (near_pass _ _ _ _ _ k.a k.t k.invariant b.if-used-a.false)
+      | else-used-a b ↦ subst (Near s.net.switches s.net.labels (at s.tails.now) (at s.heads.now) (flag s.used.now) (k.a + 1)) (sym b.t-is) (near_pass _ _ _ _ _ k.a k.t k.invariant b.if-used-a.false)
     ]
 
 pub returns : goal.returns

@@ -4,4 +4,4 @@ use Rattle.distance.specs.Ways.{Near}
 use Rattle.distance.proofs.adjacent.Given as goal
 
 abbrev pub invariant-loop-a : goal.invariant-loop-a
-invariant-loop-a l = Near l.fn.net.switches l.fn.net.labels (at l.ends.tails) (at l.ends.heads) (flag l.used) l.a l.t
+invariant-loop-a l = Near l.fn.net.switches l.fn.net.labels (at l.tails) (at l.heads) (flag l.used) l.a l.t

@@ -17,9 +17,9 @@ loop-k-preserved c =
     let w = c.requires in
     let h : k.k < s.net.switches = omega arith in
     elim c.if-way.branch [
-      | then-way z ↦ subst (Between s.net.switches s.net.labels (at s.ends.now.tails) (at s.ends.now.heads) (flag s.used.now) (k.k + 1)) (sym z.t-is)
+      | then-way z ↦ subst (Between s.net.switches s.net.labels (at s.tails.now) (at s.heads.now) (flag s.used.now) (k.k + 1)) (sym z.t-is)
           (between_by _ _ _ _ _ w.few_switches w.tail_in w.head_in k.k k.t k.invariant h _ z.through.ensures)
-      | else-way z ↦ subst (Between s.net.switches s.net.labels (at s.ends.now.tails) (at s.ends.now.heads) (flag s.used.now) (k.k + 1)) (sym z.t-is)
+      | else-way z ↦ subst (Between s.net.switches s.net.labels (at s.tails.now) (at s.heads.now) (flag s.used.now) (k.k + 1)) (sym z.t-is)
           (between_pass _ _ _ _ _ w.few_switches w.tail_in w.head_in k.k k.t k.invariant h _ c.left_by-left.ensures z.if-way.false)
     ]
 

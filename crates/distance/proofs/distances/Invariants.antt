@@ -4,4 +4,4 @@ use Rattle.distance.proofs.Between.{Between}
 use Rattle.distance.proofs.distances.Given as goal
 
 abbrev pub invariant-loop-k : goal.invariant-loop-k
-invariant-loop-k l = Between l.net.switches l.net.labels (at l.ends.tails) (at l.ends.heads) (flag l.used) l.k l.t
+invariant-loop-k l = Between l.net.switches l.net.labels (at l.tails) (at l.heads) (flag l.used) l.k l.t

@@ -10,24 +10,24 @@ loop-link-init c = counts_none _
 pub overflow_add-counts : goal.overflow_add-counts
 overflow_add-counts c =
     let k = c.loop-link in
-    let n = first_small c.args.ends.now.plant c.args.ends.now.sound c.from.ensures k.link-index c.loop-link-test.true k.counts k.invariant _ _ c.from-then-in_service.ensures refl in
+    let n = first_small c.args.p.now c.requires c.from.ensures k.link-index c.loop-link-test.true k.counts k.invariant _ _ c.from-then-in_service.ensures refl in
     omega (arith, n)
 
 pub overflow_add-counts-then-in_service : goal.overflow_add-counts-then-in_service
 overflow_add-counts-then-in_service c =
     let k = c.loop-link in
-    let n = second_small c.args.ends.now.plant c.args.ends.now.sound c.from.ensures k.link-index c.loop-link-test.true k.counts k.invariant _ _ c.from-then-in_service.ensures c.from-then-in_service-2.ensures in
+    let n = second_small c.args.p.now c.requires c.from.ensures k.link-index c.loop-link-test.true k.counts k.invariant _ _ c.from-then-in_service.ensures c.from-then-in_service-2.ensures in
     omega (arith, n)
 
 pub loop-link-preserved : goal.loop-link-preserved
 loop-link-preserved c =
     let k = c.loop-link in
     elim c.if-in_service.branch [
-      | then-in_service w ↦ rw w.counts-is (counts_live c.args.ends.now.plant c.args.ends.now.sound c.from.ensures k.link-index c.loop-link-test.true k.counts k.invariant _ _ w.from-then-in_service.ensures w.from-then-in_service-2.ensures (sym c.in_service.ensures ∙ w.if-in_service.true))
-      | else-in_service w ↦ rw w.counts-is (counts_dead c.args.ends.now.plant c.args.ends.now.sound c.from.ensures k.link-index c.loop-link-test.true k.counts k.invariant (sym c.in_service.ensures ∙ w.if-in_service.false))
+      | then-in_service w ↦ rw w.counts-is (counts_live c.args.p.now c.requires c.from.ensures k.link-index c.loop-link-test.true k.counts k.invariant _ _ w.from-then-in_service.ensures w.from-then-in_service-2.ensures (sym c.in_service.ensures ∙ w.if-in_service.true))
+      | else-in_service w ↦ rw w.counts-is (counts_dead c.args.p.now c.requires c.from.ensures k.link-index c.loop-link-test.true k.counts k.invariant (sym c.in_service.ensures ∙ w.if-in_service.false))
     ]
 
 pub returns : goal.returns
 returns c =
     let k = c.loop-link in
-    counts_are c.args.ends.now.plant c.args.ends.now.sound c.from.ensures k.link-index k.counts k.auto.link-index-end c.loop-link-test.false k.invariant
+    counts_are c.args.p.now c.requires c.from.ensures k.link-index k.counts k.auto.link-index-end c.loop-link-test.false k.invariant

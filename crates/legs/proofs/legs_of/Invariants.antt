@@ -6,4 +6,4 @@ use Rattle.legs.proofs.Several.{Listed}
 use Rattle.legs.proofs.legs_of.Given as goal
 
 abbrev pub invariant-loop-i : goal.invariant-loop-i
-invariant-loop-i l = (length l.aims ≡ max_rules) × (length l.list ≡ max_switches) × ((w : Several l.network l.roots) → Listed w l.i l.aims l.list l.from)
+invariant-loop-i l = (length l.aims ≡ max_rules) × (length l.list ≡ max_switches) × ((w : Several l.net l.tails l.heads l.chains.first l.chains.after l.t l.roots) → Listed w l.i l.aims l.list l.from)

@@ -1,11 +1,11 @@
 -- A way compared, hop by hop.
 use Rattle.std.proofs.Common.{sym, ◌∙◌, arith}
 use Rattle.trail.proofs.Filled.{met-short, met_differs, met-one, met_all}
-use Rattle.trail.proofs.Ways.{way_on, next, at_end}
+use Rattle.trail.proofs.Ways.{way_of, next, at_end}
 use Rattle.trail.proofs.compare_way.Goals as goal
 
 pub hop-requires : goal.hop-requires
-hop-requires c = let w = c.requires in way_on w (c.loop-a.invariant w).0
+hop-requires c = let w = c.requires in way_of w.parts (c.loop-a.invariant w).0
 
 pub returns-in_err-label : goal.returns-in_err-label
 returns-in_err-label c w =

@@ -2,11 +2,11 @@
 use Rattle.std.proofs.Common.{◌<◌, length, ap, arith}
 use Rattle.arcs.proofs.Ways.{way_size}
 use Rattle.trail.proofs.Filled.{stored_one, stored_all}
-use Rattle.trail.proofs.Ways.{way_on, next, at_end}
+use Rattle.trail.proofs.Ways.{way_of, next, at_end}
 use Rattle.trail.proofs.lay_way.Goals as goal
 
 pub hop-requires : goal.hop-requires
-hop-requires c = let w = c.requires.way in way_on w (c.loop-a.invariant w).0
+hop-requires c = let w = c.requires.way in way_of w.parts (c.loop-a.invariant w).0
 
 pub bounds-buf-at : goal.bounds-buf-at
 bounds-buf-at c =

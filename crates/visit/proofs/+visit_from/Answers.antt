@@ -12,7 +12,7 @@ loop-a-preserved t c w =
     let k = c.loop-a in
     let g = k.invariant w in
     let below = c.loop-a-test.true in
-    let near : at c.args.ends.now.heads k.a < max_switches = w.heads_in k.a below (flagged _ _ _ _ _ below g) in
+    let near : at c.args.heads.now k.a < max_switches = w.heads_in k.a below (flagged _ _ _ _ _ below g) in
     elim c.if-not-v-to.branch [
       | then-not-v-to z ↦ rw z.v-is (turn_new _ _ _ _ _ below g c.requires.n_bound near z.if-not-v-to.true (rw z.enter.ensures at (z.visit_from-v.ensures w)) _ (goes_next _ _ _ _ _ below g w.chained))
       | else-not-v-to z ↦ rw z.v-is (turn_old _ _ _ _ _ below g z.if-not-v-to.false _ (goes_next _ _ _ _ _ below g w.chained))
@@ -25,15 +25,15 @@ pub enter-requires-clause-next_lt_max_switches : goal.enter-requires-clause-next
 enter-requires-clause-next_lt_max_switches t c =
     let w = c.requires.some_arcs in
     let g = c.loop-a.invariant w in
-    let near : at c.args.ends.now.heads c.loop-a.a < max_switches = w.heads_in c.loop-a.a c.loop-a-test.true (flagged _ _ _ _ _ c.loop-a-test.true g) in
+    let near : at c.args.heads.now c.loop-a.a < max_switches = w.heads_in c.loop-a.a c.loop-a-test.true (flagged _ _ _ _ _ c.loop-a-test.true g) in
     enter-numbers c.loop-a.v _ g.room near c.if-not-v-to.true
 
 pub visit_from-v-requires : goal.visit_from-v-requires
 visit_from-v-requires t c =
     let w = c.requires.some_arcs in
     let g = c.loop-a.invariant w in
-    let near : at c.args.ends.now.heads c.loop-a.a < max_switches = w.heads_in c.loop-a.a c.loop-a-test.true (flagged _ _ _ _ _ c.loop-a-test.true g) in
-    let new : get_or c.loop-a.v.seen (at c.args.ends.now.heads c.loop-a.a) false ≡ false = c.if-not-v-to.true in
+    let near : at c.args.heads.now c.loop-a.a < max_switches = w.heads_in c.loop-a.a c.loop-a-test.true (flagged _ _ _ _ _ c.loop-a-test.true g) in
+    let new : get_or c.loop-a.v.seen (at c.args.heads.now c.loop-a.a) false ≡ false = c.if-not-v-to.true in
     rw c.enter.ensures (
       omega (arith, enter_falls c.loop-a.v _ g.room near new, unvisited-kept c.args.v0.seen c.loop-a.v.seen g.kept, c.decreases),
       (c.requires.n_bound, (w, enter-at c.loop-a.v _ g.room near new _)),

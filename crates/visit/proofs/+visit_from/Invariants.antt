@@ -9,7 +9,7 @@ abbrev pub decreases-visit_from : goal.decreases-visit_from
 decreases-visit_from l = unvisited l.v0.seen
 
 abbrev pub invariant-loop-a : goal.invariant-loop-a
-invariant-loop-a l = (w : SomeArcs l.n l.ends.heads l.chains.first l.chains.after) → Goes l.n w.tl (at l.ends.heads) w.ok l.from l.a l.fn.v0 l.v
+invariant-loop-a l = (w : SomeArcs l.n l.heads l.chains.first l.chains.after) → Goes l.n w.tl (at l.heads) w.ok l.from l.a l.fn.v0 l.v
 
 abbrev pub decreases-loop-a : goal.decreases-loop-a
 decreases-loop-a l = l.n - l.a
