@@ -16,7 +16,8 @@ use plant::Plant;
 use std::array;
 use visit::AllChains;
 
-// The components: `count` of them with their roots, for each switch the number of its component, the bridges and the arcs in use. A place past the switches has the number that stands for none.
+// The components: `count` of them with their roots, for each switch the number of its component, the bridges and the arcs in use. A place past the switches has the number that
+// stands for none.
 #[derive(Clone, Copy)]
 pub struct Found {
     pub count: u8,

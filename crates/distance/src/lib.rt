@@ -1,7 +1,7 @@
 // The fewest hops over arcs in use between every two switches, as a table by value. Inner: no call of document 01 is here.
 #![tactic(auto)]
 
-ghost use Rattle.std.specs.Prelude.{◌≡◌, List, ℕ, ◌≤◌, ◌<◌};
+ghost use Rattle.std.specs.Prelude.{◌≡◌, List, ℕ, ◌≤◌, ◌<◌, replicate};
 ghost use Rattle.lists.specs.Arrays.{flag, at};
 ghost use Rattle.limits.specs.Limits.{max_switches};
 ghost use Rattle.arcs.specs.Net.{Within};
@@ -11,23 +11,23 @@ ghost use Rattle.distance.specs.Ways.{Near, Left, Zeroed, FewInRow, FewHops, ByW
 use arcs::Net;
 use plant::Plant;
 
-// A table with 1 from the tail of each flagged arc to its head, and the number of switches elsewhere.
+// In a table that holds the number of switches everywhere, 1 from the tail of each flagged arc to its head.
 fn adjacent(
     net: Net,
     tails: &[u8; Plant::LABELS],
     heads: &[u8; Plant::LABELS],
     used: &[bool; Plant::LABELS],
-) -> [[u8; Plant::PLACES]; Plant::PLACES]
-    requires { Within net tails.now heads.now used.now }
-    ensures { Near net.switches net.labels (at tails.now) (at heads.now) (flag used.now) net.labels result }
+    t: &mut [[u8; Plant::PLACES]; Plant::PLACES],
+)
+    requires within { Within net tails.now heads.now used.now }
+    requires flat { t.old ≡ replicate max_switches (replicate max_switches net.switches) }
+    ensures { Near net.switches net.labels (at tails.now) (at heads.now) (flag used.now) net.labels t.new }
 {
-    let mut t = [[net.switches; Plant::PLACES]; Plant::PLACES];
     for a in 0..net.labels as usize {
         if used[a] {
             t[tails[a] as usize][heads[a] as usize] = 1;
         }
     }
-    t
 }
 
 // A table with 0 from each switch to itself, and elsewhere what it held.
@@ -100,7 +100,9 @@ pub fn distances(
     requires { Within net tails.now heads.now used.now }
     ensures { result ≡ distances_in net tails.now heads.now used.now }
 {
-    let mut t = diagonal(adjacent(net, tails, heads, used));
+    let mut t = [[net.switches; Plant::PLACES]; Plant::PLACES];
+    adjacent(net, tails, heads, used, &mut t);
+    t = diagonal(t);
     let left = left_by(net, tails, used);
     for k in 0..net.switches as usize {
         let way = left[k];

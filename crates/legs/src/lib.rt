@@ -57,8 +57,8 @@ fn firsts_reached(network: &Network) -> [u16; Plant::PLACES]
     low
 }
 
-// The legs of the trail, into a lent array from place `from` on. What is uncrossed is kept as the lowest uncrossed label of each switch. From a root that no arc in use leaves there is
-// no leg.
+// The legs of the trail, into a lent array from place `from` on. What is uncrossed is kept as the lowest uncrossed label of each switch. From a root that no arc in use leaves there
+// is no leg.
 fn legs_from(network: &Network, aims: &mut [u16; Plant::MAX_RULES], from: u16) -> Legs
     requires some_parts { SomePartsOf network.now from }
     requires aims_len { length aims.old ≡ max_rules }

@@ -1,5 +1,5 @@
-// The trail of a network from its root, by its legs: it is laid into a lent buffer from some place on, or compared with a lent one. Inner: the functions ask of their callers what those
-// have shown, and no call of document 01 is here.
+// The trail of a network from its root, by its legs: it is laid into a lent buffer from some place on, or compared with a lent one. Inner: the functions ask of their callers what
+// those have shown, and no call of document 01 is here.
 #![tactic(auto)]
 
 ghost use Rattle.std.specs.Prelude.{◌≡◌, ◌+◌, ◌≤◌, length};

@@ -14,6 +14,6 @@ returns c =
     let same = bridge-flag e.sound c.args.all.now.tells_all c.covered_links-c.ensures in
     record {
       places = c.from_fn.ensures.items.long;
-      tells = λ i. made_all _ (λ j. flag c.args.all.now.visited.entered j && not (flag c.covered_links-c.result j)) _ (λ x y q k. search (rules, tests)) _ max_links c.from_fn.ensures.items false
+      tells = λ i. made_all _ (λ j. flag c.args.all.now.visited.entered j && not (flag c.covered_links-c.result j)) _ (λ x y q k. (search (rules, tests), search (rules, tests))) _ max_links c.from_fn.ensures.items false
           (λ j g. same j ∙ bridge-past e.plant j (omega (arith, g, e.sound.few_links))) i ∙ same i;
     }

@@ -8,13 +8,13 @@ use Rattle.distance.proofs.adjacent.Goals as goal
 use Rattle.distance.proofs.adjacent.Goals.{then-used-a, else-used-a}
 
 pub loop-a-init : goal.loop-a-init
-loop-a-init c = near_none _ _ _ _ _
+loop-a-init c = rw c.requires.flat (near_none _ _ _ _ _)
 
 pub loop-a-preserved : goal.loop-a-preserved
 loop-a-preserved c =
     let k = c.loop-a in
     let s = c.args in
-    let w = c.requires in
+    let w = c.requires.within in
     let a_in : k.a < s.net.labels = omega arith in
     elim c.if-used-a.branch [
       | then-used-a b ↦

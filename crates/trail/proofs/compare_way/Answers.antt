@@ -17,7 +17,7 @@ pub returns-then-other : goal.returns-then-other
 returns-then-other c w =
     let k = c.loop-a in
     let got = c.in_ok-label.ensures.lookup.3 in
-    met_differs (k.invariant w).1 (next w (k.invariant w).0 c.in-Some.a c.in-Some.ensures).goes got.0 (λ e. c.if-other.true (got.1 0 ∙ e))
+    met_differs (k.invariant w).1 (next w (k.invariant w).0 c.in-Some.a c.in-Some.ensures).goes got.0 (λ e. omega (arith, e, got.1 0, c.if-other.true))
 
 pub bounds-network-a : goal.bounds-network-a
 bounds-network-a c =
