@@ -162,55 +162,57 @@ fn measured(ends: &ArcEnds, f: &Found, legs: &AllLegs) -> (Components, u16)
     (components, begin)
 }
 
-// The plan of a plant.
-fn planned(p: Plant) -> Plan
-    requires { Sound p }
-    ensures { result.layout.chart.ends.plant ≡ p }
-{
-    let ends = arcs::ends_of(p);
-    let f = components::find(&ends);
-    let net = net_of(&ends, ends.plant.start);
-    let chains = arcs::chains_of(&ends.tails, &f.used, net.labels);
-    let distances = distance::distances(net, &ends.tails, &ends.heads, &f.used);
-    let roots = &f.roots[..usize::from(f.count)];
-    let legs = legs::legs_of(net, &ends.tails, &ends.heads, &chains, distances, roots);
-    let (components, hops) = measured(&ends, &f, &legs);
-    let chart = Chart {
-        ends,
-        count: f.count,
-        roots: f.roots,
-        home: f.home,
-        bridges: f.bridges,
-        used: f.used,
-    };
-    let layout = Layout {
-        chart,
-        components,
-        hops,
-    };
-    Plan {
-        layout,
-        chains,
-        distances,
-        legs,
-    }
+// The plan of a sound plant. A plan is large, and the place of a call's result is cleared before the call and copied after it: so a macro makes a plan in the place where it is
+// answered, and the functions that answer one are not inlined.
+macro_rules! planned {
+    ($plant:expr) => {{
+        let ends = arcs::ends_of($plant);
+        let f = components::find(&ends);
+        let net = net_of(&ends, ends.plant.start);
+        let chains = arcs::chains_of(&ends.tails, &f.used, net.labels);
+        let distances = distance::distances(net, &ends.tails, &ends.heads, &f.used);
+        let roots = &f.roots[..usize::from(f.count)];
+        let legs = legs::legs_of(net, &ends.tails, &ends.heads, &chains, distances, roots);
+        let (components, hops) = measured(&ends, &f, &legs);
+        let chart = Chart {
+            ends,
+            count: f.count,
+            roots: f.roots,
+            home: f.home,
+            bridges: f.bridges,
+            used: f.used,
+        };
+        let layout = Layout {
+            chart,
+            components,
+            hops,
+        };
+        Plan {
+            layout,
+            chains,
+            distances,
+            legs,
+        }
+    }};
 }
 
 // The plan of a listing: refusals 1 to 8.
+#[inline(never)]
 pub fn plan_of(listing: &[u8]) -> Result<Plan, Refusal>
     ensures { answer_as (λ (x : Plan). x.layout.chart.ends.plant) result ≡ answer (reading listing.now) }
 {
     let p = reading::read(listing)?;
-    Ok(planned(p))
+    Ok(planned!(p))
 }
 
-// The plan of a listing that has the named switch: refusals 1 to 8, then 11. The switch is tried before the plan is made.
+// The plan of a listing that has the named switch: refusals 1 to 8, then 11.
+#[inline(never)]
 pub fn plan_at(listing: &[u8], switch: u8) -> Result<Plan, Refusal>
     ensures { answer_as (λ (x : Plan). x.layout.chart.ends.plant) result ≡ answer (planning_at listing.now switch) }
 {
     let p = reading::read(listing)?;
     answers::judge(p.switches <= switch, Refusal::SwitchOutOfRange)?;
-    Ok(planned(p))
+    Ok(planned!(p))
 }
 
 // ---- the component of a switch
