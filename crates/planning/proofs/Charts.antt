@@ -1,5 +1,5 @@
--- What is known of the components of a plant by their numbers, and what a plan tells of them: the root and the network of each, the links in service of each, and the component of a
--- switch. Assumes a sound plant.
+-- What is known of the components of a plant by their numbers, and what a layout tells of them: the root of each, the links in service of each, and the component of a switch.
+-- Assumes a sound plant.
 use mathlib.Core.Path.{◌≡◌, sym, ap, ◌∙◌}
 use mathlib.Core.Logic.{◌↔◌}
 use mathlib.Core.Bool.{Bool, ◌&&◌}
@@ -28,12 +28,10 @@ use Rattle.walks.specs.Round.{round_from}
 use Rattle.walks.proofs.Components.{root_in, roots_few, listed_in, component_in, component-root, component-is, links-none}
 use Rattle.walks.proofs.Round.{round-length}
 use Rattle.walks.proofs.Valid.{sound_valid}
-use Rattle.arcs.specs.declared.Net.{Net}
-use Rattle.arcs.specs.Net.{rooted}
 use Rattle.planning.specs.declared.Components.{Components}
-use Rattle.planning.specs.declared.Plan.{Plan}
+use Rattle.planning.specs.declared.Layout.{Layout}
 use Rattle.planning.specs.Components.{zero_component, components_with, component_at, component_with, components_of}
-use Rattle.planning.specs.Plans.{net_of, HomesAre, LinksBy}
+use Rattle.planning.specs.Plans.{HomesAre, LinksBy}
 
 -- link l is in service, and of component i
 abbrev pub of_component : Plant → ℕ → ℕ → Bool
@@ -76,15 +74,12 @@ module _ (p : Plant) (sound : Sound p) where
   pub home-place : (home : List ℕ) → HomesAre p home → (y : ℕ) → y < p.switches → at home y < max_switches
   home-place home homes y h = omega (arith, homes y h, component_in p ok sound.start_in y h, few_components)
 
-module _ (x : Plan) where
+module _ (x : Layout) where
   abbrev p : Plant
-  p = x.network.ends.plant
+  p = x.chart.ends.plant
 
   sure : Valid p
-  sure = sound_valid p x.network.ends.sound
-
-  pub net_is : (i : ℕ) → i < length (roots p) → rooted x.network.net (at x.roots i) ≡ net_of p (get_or (roots p) i 0)
-  net_is i h = ap (λ (n : Net). rooted n (at x.roots i)) x.network_is.net_is ∙ ap (λ (r : ℕ). net_of p r) (x.charted.roots_are i h)
+  sure = sound_valid p x.chart.ends.sound
 
   -- ---- the component of a switch
 
@@ -94,20 +89,21 @@ module _ (x : Plan) where
       padded-at max_switches zero_component (map (component_at p) (range 0 (length (roots p)))) i ∙ values-at (component_at p) zero_component (length (roots p)) i h
 
   module _ (y : ℕ) (y_in : y < p.switches) where
-    pub component-told : get_or x.components.list (at x.home y) zero_component ≡ component_with p y
+    pub component-told : get_or x.components.list (at x.chart.home y) zero_component ≡ component_with p y
     component-told =
-        ap (λ (cs : Components). get_or cs.list (at x.home y) zero_component) x.measured.components_are
-        ∙ ap (λ (i : ℕ). get_or (components_of p).list i zero_component) (x.charted.homes y y_in) ∙ listed-component (component_of p y) (component_in p sure x.network.ends.sound.start_in y y_in)
+        ap (λ (cs : Components). get_or cs.list (at x.chart.home y) zero_component) x.measured.components_are
+        ∙ ap (λ (i : ℕ). get_or (components_of p).list i zero_component) (x.chart.charted.homes y y_in)
+        ∙ listed-component (component_of p y) (component_in p sure x.chart.ends.sound.start_in y y_in)
 
     -- its round trail has two hops to each link
     pub links-told : (component_with p y).round_hops / 2 ≡ links_with p y
     unfolding component_at links_with
     links-told =
-        let e = component-root p sure x.network.ends.sound.start_in y y_in in
+        let e = component-root p sure x.chart.ends.sound.start_in y y_in in
         omega (arith, ap (λ (r : ℕ). length (round_from p r)) e, round-length p sure (root_of p y) (root_of_in))
       where
         root_of_in : root_of p y < p.switches
-        root_of_in = root_in p sure x.network.ends.sound.start_in y y_in
+        root_of_in = root_in p sure x.chart.ends.sound.start_in y y_in
 
   pub none_told : (y : ℕ) → p.switches ≤ y → 0 ≡ links_with p y
-  none_told y h = sym (links-none p sure x.network.ends.sound.start_in y h)
+  none_told y h = sym (links-none p sure x.chart.ends.sound.start_in y h)

@@ -1,4 +1,4 @@
--- The numbers of a plan: by the flags of its bridges and of its arcs in use, and the hops of its trails. Assumes nothing.
+-- The forwarding table and the numbers of a plant: by the flags of its bridges and of its arcs in use, and the hops of its trails. Assumes nothing.
 use mathlib.Core.Path.{◌≡◌, ap, ◌∙◌}
 use mathlib.Core.Bool.{Bool}
 use mathlib.Core.List.{List}
@@ -19,14 +19,14 @@ use Rattle.walks.proofs.Live.{live_below}
 use Rattle.walks.proofs.Tests.{bridge-live}
 use Rattle.walks.proofs.Components.{used_arc}
 use Rattle.walks.proofs.Limits.{few-used}
-use Rattle.arcs.specs.declared.Net.{Net}
 use Rattle.arcs.specs.Flags.{Flags, count_set}
 use Rattle.uses.proofs.Uses.{flags_count}
 use Rattle.plan.specs.Plan.{table_of}
 use Rattle.plan.proofs.Plan as plant
 use Rattle.table.specs.Rules.{table_in}
 use Rattle.planning.specs.declared.Numbers.{Numbers}
-use Rattle.planning.specs.declared.Plan.{Plan}
+use Rattle.planning.specs.declared.Chart.{Chart}
+use Rattle.planning.specs.declared.Layout.{Layout}
 use Rattle.planning.specs.Numbers.{numbers_of}
 
 pub links-few : (p : Plant) → Sound p → live_links p ≤ max_links
@@ -37,49 +37,44 @@ links-few p sound = omega (arith, count-all p.count (live p), sound.few_links)
 pub flags_same : {n : ℕ} {test : ℕ → Bool} {fs : List Bool} → Flags n test fs → flag fs ≡ test
 flags_same f = λ j a. f.tells a j
 
-module _ (x : Plan) where
+module _ (x : Chart) where
   abbrev p : Plant
-  p = x.network.ends.plant
+  p = x.ends.plant
 
   bridges_are : count_set x.bridges ≡ bridges p
   unfolding bridges
   bridges_are =
-      flags_count max_links (bridge p) p.count x.bridges x.charted.bridges_are x.network.ends.sound.few_links
+      flags_count max_links (bridge p) p.count x.bridges x.charted.bridges_are x.ends.sound.few_links
       (λ l h. not_true_false (bridge p l) (λ e. omega (arith, live_below p l (bridge-live p l (true_T (bridge p l) e)))))
 
   rules-are : count_set x.used ≡ arcs_used p
   unfolding arcs_used
   rules-are =
-      flags_count (2 * max_links) (used p) (2 * p.count) x.used x.charted.used_are (omega (arith, x.network.ends.sound.few_links))
+      flags_count (2 * max_links) (used p) (2 * p.count) x.used x.charted.used_are (omega (arith, x.ends.sound.few_links))
       (λ a h. not_true_false (used p a) (λ e. omega (arith, arc_below p a (used_arc p a (true_T (used p a) e)))))
 
   -- there is a place for each label and each rule
-  pub places-enough : (x.network.net.labels ≤ 2 * max_links) × (count x.network.net.labels (flag x.used) ≤ max_rules)
+  pub places-enough : (2 * p.count ≤ 2 * max_links) × (count (2 * p.count) (flag x.used) ≤ max_rules)
   unfolding arcs_used
-  places-enough = (
-    omega (arith, ap (λ (n : Net). n.labels) x.network_is.net_is, x.network.ends.sound.few_links),
-    omega (arith, ap (λ (n : Net). count n.labels (flag x.used)) x.network_is.net_is, ap (count (2 * p.count)) (flags_same x.charted.used_are), few-used p x.network.ends.sound),
-  )
+  places-enough = (omega (arith, x.ends.sound.few_links), omega (arith, ap (count (2 * p.count)) (flags_same x.charted.used_are), few-used p x.ends.sound))
 
   -- its forwarding table is the plant's
-  pub table_is : table_in x.network.net.labels (at x.network.ends.tails) (at x.network.ends.heads) (flag x.used) ≡ table_of p
-  table_is =
-      ap (λ (n : Net). table_in n.labels (at x.network.ends.tails) (at x.network.ends.heads) (flag x.used)) x.network_is.net_is
-      ∙ plant.table_is p x.network.ends.ends.tails_are x.network.ends.ends.heads_are (flags_same x.charted.used_are)
+  pub table_is : table_in (2 * p.count) (at x.ends.tails) (at x.ends.heads) (flag x.used) ≡ table_of p
+  table_is = plant.table_is p x.ends.ends.tails_are x.ends.ends.heads_are (flags_same x.charted.used_are)
 
   pub bridges-few : count_set x.bridges ≤ max_links
   unfolding bridges
-  bridges-few = omega (arith, bridges_are, count-all p.count (bridge p), x.network.ends.sound.few_links)
+  bridges-few = omega (arith, bridges_are, count-all p.count (bridge p), x.ends.sound.few_links)
 
   pub rules-few : count_set x.used ≤ 2 * max_links
   unfolding arcs_used
-  rules-few = omega (arith, rules-are, count-all (2 * p.count) (used p), x.network.ends.sound.few_links)
+  rules-few = omega (arith, rules-are, count-all (2 * p.count) (used p), x.ends.sound.few_links)
 
-pub numbers-are : (x : Plan) (n b u : ℕ) → n ≡ live_links x.network.ends.plant → b ≡ count_set x.bridges → u ≡ count_set x.used
-    → record { switches = x.network.ends.plant.switches; links = n; bridges = b; rules = u; hops = x.hops } ≡ numbers_of x.network.ends.plant
+pub numbers-are : (x : Layout) (n b u : ℕ) → n ≡ live_links x.chart.ends.plant → b ≡ count_set x.chart.bridges → u ≡ count_set x.chart.used
+    → record { switches = x.chart.ends.plant.switches; links = n; bridges = b; rules = u; hops = x.hops } ≡ numbers_of x.chart.ends.plant
 unfolding numbers_of
 numbers-are x n b u k e d =
-    rw (k, e ∙ bridges_are x, d ∙ rules-are x) (ap with x.measured.hops_are)
+    rw (k, e ∙ bridges_are x.chart, d ∙ rules-are x.chart) (ap with x.measured.hops_are)
   where
     with : ℕ → Numbers
-    with h = record { switches = x.network.ends.plant.switches; links = live_links x.network.ends.plant; bridges = bridges x.network.ends.plant; rules = arcs_used x.network.ends.plant; hops = h }
+    with h = record { switches = x.chart.ends.plant.switches; links = live_links x.chart.ends.plant; bridges = bridges x.chart.ends.plant; rules = arcs_used x.chart.ends.plant; hops = h }

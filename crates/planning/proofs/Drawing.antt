@@ -15,8 +15,7 @@ use Rattle.lists.proofs.Sum.{sum_same}
 use Rattle.lists.proofs.SumOf.{sum_list}
 use Rattle.plant.specs.declared.Plant.{Plant}
 use Rattle.limits.specs.Limits.{max_switches, max_links, max_rules}
-use Rattle.limits.specs.Sound.{Sound}
-use Rattle.walks.specs.Components.{roots, used}
+use Rattle.walks.specs.Components.{roots}
 use Rattle.walks.specs.Graph.{arcs_used_from}
 use Rattle.walks.proofs.Components.{roots_few, arcs-sum}
 use Rattle.walks.proofs.Limits.{few-used}
@@ -24,8 +23,7 @@ use Rattle.walks.proofs.Valid.{sound_valid}
 use Rattle.arcs.specs.declared.Net.{Net}
 use Rattle.arcs.specs.declared.ArcEnds.{ArcEnds}
 use Rattle.arcs.specs.declared.AllLegs.{AllLegs}
-use Rattle.arcs.specs.declared.Network.{Network}
-use Rattle.arcs.specs.Flags.{Flags}
+use Rattle.arcs.specs.declared.Chains.{Chains}
 use Rattle.arcs.specs.Net.{rooted, Within}
 use Rattle.arcs.specs.Chains.{TailsIn, Chained}
 use Rattle.arcs.specs.Table.{distances_in}
@@ -34,81 +32,82 @@ use Rattle.arcs.specs.Legs.{no_legs, LegsIn}
 use Rattle.legs.specs.Several.{in_use, Several, LegsOfAll}
 use Rattle.components.specs.declared.Found.{Found}
 use Rattle.components.specs.Found.{Finds}
-use Rattle.planning.specs.Plans.{net_of, used_flags, NetworkOf, HopsBy, LegsBy, Charted}
+use Rattle.planning.specs.Plans.{net_of, used_flags, TablesBy, HopsBy, LegsBy, Charted}
 use Rattle.planning.proofs.Networks.{flags_from, all-within, all-tails, net_parts, net_trail}
 
--- ---- the network, by the ends of the arcs and the arcs in use
-
-module _ (e : ArcEnds) (flags : List Bool) (flags_are : Flags (2 * max_links) (used e.plant) flags) (net : Net) (net_is : net ≡ net_of e.plant e.plant.start) where
-  pub chains_asked : (net.labels ≤ 2 * max_links) × TailsIn net.labels e.tails flags
-  chains_asked = rw net_is (all-tails e.plant e.sound e.tails e.heads e.ends flags flags_are e.plant.start e.sound.start_in)
-
-  pub distances-asked : Within net e.tails e.heads flags
-  distances-asked = rw net_is (all-within e.plant e.sound e.tails e.heads e.ends flags flags_are e.plant.start e.sound.start_in)
-
-module _ (n : Network) where
+module _ (e : ArcEnds) (f : Found) (finds : Finds e.plant f) where
   abbrev p : Plant
-  p = n.ends.plant
+  p = e.plant
 
-  sound : Sound p
-  sound = n.ends.sound
+  pub charted : Charted p f.count f.roots f.home f.bridges f.used
+  charted = record { count_is = finds.count_is; roots_are = finds.roots_are; homes = finds.homes; bridges_are = finds.bridges_are; used_are = finds.used_are }
 
-  -- what the trail of each component is laid by
-  module _ (flags : List Bool) (flags_are : Flags (2 * max_links) (used p) flags) (of : NetworkOf flags n) where
-    pub tables : (r : ℕ) → In r (roots p) → network.Parts (net_of p r) n.ends.tails n.ends.heads (used_flags p r) n.chains.first n.chains.after n.hops
-    tables =
-        net_parts p sound n.ends.tails n.ends.heads n.ends.ends flags flags_are n.chains.first n.chains.after
-        (subst (λ (k : Net). Chained k.labels (at n.ends.tails) (flag flags) n.chains.first n.chains.after) of.net_is of.chained) n.hops
-        (subst (λ (k : Net). n.hops ≡ distances_in k n.ends.tails n.ends.heads flags) of.net_is of.hops_are)
+  -- the roots that were found
+  pub roots-are : (m : ℕ) → m ≡ f.count → length f.roots ≡ max_switches → take m f.roots ≡ roots p
+  roots-are m all places =
+      let number : length (take m f.roots) ≡ length (roots p) =
+      omega (arith, length-take m f.roots, finds.count_is, roots_few p (sound_valid p e.sound) e.sound.start_in, e.sound.few_switches) in
+      same_number_lists (take m f.roots) (roots p) number (λ i h. get_or-take m f.roots i 0 (omega (arith, number, finds.count_is)) ∙ finds.roots_are i (omega (arith, number)))
 
-  module _ (f : Found) (finds : Finds p f) (of : NetworkOf f.used n) where
-    pub charted : Charted p f.count f.roots f.home f.bridges f.used
-    charted = record { count_is = finds.count_is; roots_are = finds.roots_are; homes = finds.homes; bridges_are = finds.bridges_are; used_are = finds.used_are }
+  -- ---- the network, by the ends of the arcs and the arcs in use
 
-    -- ---- the legs
+  module _ (net : Net) (net_is : net ≡ net_of p p.start) where
+    pub chains_asked : (net.labels ≤ 2 * max_links) × TailsIn net.labels e.tails f.used
+    chains_asked = rw net_is (all-tails p e.sound e.tails e.heads e.ends f.used finds.used_are p.start e.sound.start_in)
 
-    abbrev flags_of : ℕ → List Bool
-    flags_of i = used_flags p (get_or (roots p) i 0)
+    pub distances-asked : Within net e.tails e.heads f.used
+    distances-asked = rw net_is (all-within p e.sound e.tails e.heads e.ends f.used finds.used_are p.start e.sound.start_in)
 
-    -- the arcs in use of all components together
-    room : sum (length (roots p)) (λ i. in_use n.net (flags_of i)) ≤ max_rules
-    unfolding arcs_used_from
-    room =
-        omega (
-          arith,
-          sum_same (length (roots p)) (λ i. in_use n.net (flags_of i)) (λ i. arcs_used_from p (get_or (roots p) i 0)) (λ i h. rw (of.net_is, flags_from p sound (get_or (roots p) i 0)) refl),
-          sum_list (arcs_used_from p) (roots p),
-          arcs-sum p (sound_valid p sound) sound.start_in,
-          few-used p sound,
-        )
+    module _ (chains : Chains) (chained : Chained net.labels (at e.tails) (flag f.used) chains.first chains.after) (t : List (List ℕ))
+        (table : t ≡ distances_in net e.tails e.heads f.used)
+      where
+        parts : (r : ℕ) → In r (roots p) → network.Parts (net_of p r) e.tails e.heads (used_flags p r) chains.first chains.after t
+        parts =
+            net_parts p e.sound e.tails e.heads e.ends f.used finds.used_are chains.first chains.after
+            (subst (λ (n : Net). Chained n.labels (at e.tails) (flag f.used) chains.first chains.after) net_is chained) t
+            (subst (λ (n : Net). t ≡ distances_in n e.tails e.heads f.used) net_is table)
 
-    -- the roots that were found
-    pub roots-are : (m : ℕ) → m ≡ f.count → length f.roots ≡ max_switches → take m f.roots ≡ roots p
-    roots-are m all places =
-        let number : length (take m f.roots) ≡ length (roots p) =
-        omega (arith, length-take m f.roots, finds.count_is, roots_few p (sound_valid p sound) sound.start_in, sound.few_switches) in
-        same_number_lists (take m f.roots) (roots p) number (λ i h. get_or-take m f.roots i 0 (omega (arith, number, finds.count_is)) ∙ finds.roots_are i (omega (arith, number)))
+        pub tables : TablesBy e chains t
+        tables r h = ∣ parts r h ∣₁
 
-    module _ (rs : List ℕ) (rs_are : rs ≡ roots p) where
-      -- the network of component i
-      rooted-is : (i : ℕ) → rooted n.net (at rs i) ≡ net_of p (get_or (roots p) i 0)
-      rooted-is i = rw (of.net_is, rs_are) refl
+        -- ---- the legs
 
-      pub legs-asked : Several n rs
-      legs-asked = record {
-        used = flags_of;
-        few = omega (arith, ap length rs_are, roots_few p (sound_valid p sound) sound.start_in, sound.few_switches);
-        parts = λ i h.
-            subst (λ (o : Net). network.Parts o n.ends.tails n.ends.heads (flags_of i) n.chains.first n.chains.after n.hops) (sym (rooted-is i))
-            (tables f.used finds.used_are of (get_or (roots p) i 0) (get_d_in (roots p) i (omega (arith, ap length rs_are))));
-        room = subst (λ (k : List ℕ). sum (length k) (λ i. in_use n.net (flags_of i)) ≤ max_rules) (sym rs_are) room;
-      }
+        abbrev flags_of : ℕ → List Bool
+        flags_of i = used_flags p (get_or (roots p) i 0)
 
-      module _ (legs : AllLegs) (own : (w : Several n rs) → LegsOfAll n rs w.used legs.aims legs.list) where
-        pub legs_by : LegsBy n.ends legs
-        unfolding legs-asked
-        legs_by i h =
-            subst (λ (o : Net). LegsIn o n.ends.tails n.ends.heads (flags_of i) legs.aims (get_or legs.list i no_legs)) (rooted-is i) (own legs-asked i (omega (arith, ap length rs_are)))
+        -- the arcs in use of all components together
+        room : sum (length (roots p)) (λ i. in_use net (flags_of i)) ≤ max_rules
+        unfolding arcs_used_from
+        room =
+            omega (
+              arith,
+              sum_same (length (roots p)) (λ i. in_use net (flags_of i)) (λ i. arcs_used_from p (get_or (roots p) i 0))
+                  (λ i h. rw (net_is, flags_from p e.sound (get_or (roots p) i 0)) refl),
+              sum_list (arcs_used_from p) (roots p),
+              arcs-sum p (sound_valid p e.sound) e.sound.start_in,
+              few-used p e.sound,
+            )
 
-        pub hops_by : HopsBy p legs.list
-        hops_by i h = (legs_by i h).hops_are ∙ ap length (net_trail p sound n.ends.tails n.ends.heads n.ends.ends (get_or (roots p) i 0))
+        module _ (rs : List ℕ) (rs_are : rs ≡ roots p) where
+          -- the network of component i
+          rooted-is : (i : ℕ) → rooted net (at rs i) ≡ net_of p (get_or (roots p) i 0)
+          rooted-is i = rw (net_is, rs_are) refl
+
+          pub legs-asked : Several net e.tails e.heads chains.first chains.after t rs
+          legs-asked = record {
+            used = flags_of;
+            few = omega (arith, ap length rs_are, roots_few p (sound_valid p e.sound) e.sound.start_in, e.sound.few_switches);
+            parts = λ i h.
+                subst (λ (n : Net). network.Parts n e.tails e.heads (flags_of i) chains.first chains.after t) (sym (rooted-is i))
+                (parts (get_or (roots p) i 0) (get_d_in (roots p) i (omega (arith, ap length rs_are))));
+            room = subst (λ (k : List ℕ). sum (length k) (λ i. in_use net (flags_of i)) ≤ max_rules) (sym rs_are) room;
+          }
+
+          module _ (legs : AllLegs) (own : (w : Several net e.tails e.heads chains.first chains.after t rs) → LegsOfAll net e.tails e.heads rs w.used legs.aims legs.list) where
+            pub legs_by : LegsBy e legs
+            unfolding legs-asked
+            legs_by i h =
+                subst (λ (n : Net). LegsIn n e.tails e.heads (flags_of i) legs.aims (get_or legs.list i no_legs)) (rooted-is i) (own legs-asked i (omega (arith, ap length rs_are)))
+
+            pub hops_by : HopsBy p legs.list
+            hops_by i h = (legs_by i h).hops_are ∙ ap length (net_trail p e.sound e.tails e.heads e.ends (get_or (roots p) i 0))

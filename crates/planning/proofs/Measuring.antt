@@ -68,12 +68,12 @@ module _ (p : Plant) (sound : Sound p) (f : Found) (finds : Finds p f) where
         omega (arith, so_far.round_is, both_are, rounds.begin-within p i i_in, (rounds.rounds-are p sound).short),
       )
 
-      pub measuring_next : Measuring p (i + 1) (record {
-        count = cs.count;
+      pub measuring_next : (count : ℕ) → Measuring p (i + 1) (record {
+        count = count;
         list = set cs.list i (record { first = at f.roots i; begin = begin; hops = hops; round_begin = round; round_hops = 2 * at links i });
       }) (begin + hops) (round + 2 * at links i)
       unfolding component_at
-      measuring_next =
+      measuring_next count =
           let e : i + 1 ≡ suc i = omega arith in
           record {
             list = laid_put zero_component max_switches (component_at p) i cs.list so_far.list _ (omega (arith, few_components p sound))

@@ -1,10 +1,13 @@
 -- The network of a plant from the root of each component, by arrays that tell the ends of its arcs and the arcs in use of all components: it keeps the limits, it is strongly
--- connected, the shared chains and distances are its own, and its trail is the component's. Assumes a sound plant.
+-- connected, the shared chains and distances are its own, and its trail is the component's. Where chains and distances are of some part, it is the one that is reached. Assumes a
+-- sound plant.
 use mathlib.Core.Path.{◌≡◌, refl, sym, ap, ◌∙◌, subst}
-use mathlib.Core.Logic.{◌⊎◌, inl, inr}
+use mathlib.Core.Logic.{◌⊎◌, inl, inr, ∥∥₁_elim}
 use mathlib.Core.Bool.{Bool, false}
 use mathlib.Core.List.{List, map}
 use Prim.Native.Nat.{ℕ, suc, ◌*◌, ◌≤◌, ◌<◌}
+use native.Mathlib.Bridge.{le_prop}
+use native.Mathlib.Nat.{ℕ_set}
 use native.Mathlib.Omega.{arith}
 use lib.Dec.{T}
 use lib.ListN.{get_or-eq_default}
@@ -36,7 +39,7 @@ use Rattle.arcs.specs.Parts as network
 use Rattle.arcs.specs.Flags.{Flags}
 use Rattle.arcs.proofs.Ways.{entry_in}
 use Rattle.planning.specs.Plans.{net_of, used_flags}
-use Rattle.planning.proofs.Shared.{following-same, dist_same, dist-apart}
+use Rattle.planning.proofs.Shared.{same_part, following-same, dist_same, dist-apart}
 
 module _ (p : Plant) (sound : Sound p) where
   ok : Valid p
@@ -71,6 +74,32 @@ module _ (p : Plant) (sound : Sound p) where
       head_in = by_arrays flags test e (λ tl hd u. (a : ℕ) → a < 2 * p.count → T (u a) → hd a < p.switches) (λ a h t. (ins a t).1);
     }
 
+    -- the part that is reached from a switch, by the arcs in use from there
+    module _ (r : ℕ) (r_in : r < p.switches) where
+      own-within : Within (net_of p r) tails heads (used_flags p r)
+      own-within = within_of (used_flags p r) (used_from p r) (flags_from r) (λ a t. (tail_in p ok a (from_arc p r a t), head_in p ok a (from_arc p r a t))) r r_in
+
+      own-strong : Strong p.switches (2 * p.count) (at tails) (at heads) (flag (used_flags p r)) r (reached_from p r)
+      own-strong = by_arrays (used_flags p r) (used_from p r) (flags_from r) (λ tl hd u. Strong p.switches (2 * p.count) tl hd u r (reached_from p r)) (part-strong p ok r r_in)
+
+      own-few : count (2 * p.count) (flag (used_flags p r)) ≤ max_rules
+      unfolding arcs_used_from
+      own-few = by_arrays (used_flags p r) (used_from p r) (flags_from r) (λ tl hd u. count (2 * p.count) u ≤ max_rules) (few_arcs p sound r r_in)
+
+      -- where there are parts of a plan, they tell of the switches that are reached
+      module _ {first after : List ℕ} {t : List (List ℕ)} (some : ∥ network.Parts (net_of p r) tails heads (used_flags p r) first after t ∥₁) where
+        pub parts_of : network.Parts (net_of p r) tails heads (used_flags p r) first after t
+        parts_of = record {
+          within = own-within;
+          few_arcs = own-few;
+          part = reached_from p r;
+          strong = own-strong;
+          firsts = λ x h. ∥∥₁_elim some (ℕ_set _ _) (λ q. q.firsts x (same_part own-strong q.strong x h));
+          afters = λ a l h. ∥∥₁_elim some (ℕ_set _ _) (λ q. q.afters a l h);
+          cells = λ u v h i. ∥∥₁_elim some (ℕ_set _ _) (λ q. q.cells u v (same_part own-strong q.strong u h) (same_part own-strong q.strong v i));
+          apart = λ v h out. ∥∥₁_elim some le_prop (λ q. q.apart v h (λ i. out (same_part q.strong own-strong v i)));
+        }
+
     module _ (all : List Bool) (flags : Flags (2 * max_links) (used p) all) where
       all-is : flag all ≡ used p
       all-is = λ j a. flags.tells a j
@@ -91,11 +120,7 @@ module _ (p : Plant) (sound : Sound p) where
           own = used_flags p r
 
           strong : Strong p.switches (2 * p.count) (at tails) (at heads) (flag own) r (reached_from p r)
-          strong = by_arrays own (used_from p r) (flags_from r) (λ tl hd u. Strong p.switches (2 * p.count) tl hd u r (reached_from p r)) (part-strong p ok r r_in)
-
-          few : count (2 * p.count) (flag own) ≤ max_rules
-          unfolding arcs_used_from
-          few = by_arrays own (used_from p r) (flags_from r) (λ tl hd u. count (2 * p.count) u ≤ max_rules) (few_arcs p sound r r_in)
+          strong = own-strong r r_in
 
           same : (a : ℕ) → T (reached_from p r (at tails a)) → flag all a ≡ flag own a
           same a h =
@@ -111,8 +136,8 @@ module _ (p : Plant) (sound : Sound p) where
 
           pub net_parts : network.Parts (net_of p r) tails heads own first after t
           net_parts = record {
-            within = within_of own (used_from p r) (flags_from r) (λ a t. (tail_in p ok a (from_arc p r a t), head_in p ok a (from_arc p r a t))) r r_in;
-            few_arcs = few;
+            within = own-within r r_in;
+            few_arcs = own-few r r_in;
             part = reached_from p r;
             strong = strong;
             firsts = λ x h. chained.firsts x (omega (arith, strong.inside x h, sound.few_switches)) ∙ chains x 0 h;

@@ -20,21 +20,21 @@ use Rattle.walks.proofs.Labels.{arc_below}
 use Rattle.walks.proofs.Valid.{sound_valid}
 use Rattle.routes.specs.Plants.{trail_from}
 use Rattle.plan.proofs.Rounds.{round-from}
-use Rattle.arcs.specs.declared.Net.{Net}
-use Rattle.arcs.specs.Net.{rooted}
+use Rattle.arcs.specs.declared.ArcEnds.{ArcEnds}
+use Rattle.arcs.specs.declared.Network.{Network}
 use Rattle.arcs.specs.Legs.{no_legs, LegsOf}
-use Rattle.arcs.specs.Table.{trail_in}
 use Rattle.std.specs.Prelude.{Option, Some, None}
 use Rattle.trail.specs.Filled.{filled_with, Tells}
-use Rattle.trail.specs.Ways.{Trailing, trail_by, Laid, TellsFrom}
+use Rattle.trail.specs.Ways.{TrailingOf, trail_by, Laid, TellsFrom}
 use Rattle.trail.proofs.Filled.{laid_none, laid_then, laid-long, laid-front, tells_none, tells_other, tells_then, tells-front}
 use Rattle.round.specs.declared.Round.{Round}
 use Rattle.round.specs.Round.{labels_of, Labels}
 use Rattle.round.proofs.Follow.{left-length}
+use Rattle.planning.specs.declared.Chart.{Chart}
 use Rattle.planning.specs.declared.Plan.{Plan}
-use Rattle.planning.specs.Plans.{used_flags, LegsAt}
+use Rattle.planning.specs.Plans.{net_of, used_flags, NetworkAt, LegsAt}
 use Rattle.planning.proofs.Networks.{net_trail}
-use Rattle.planning.proofs.Laid.{own_net, net_parts, net_legs}
+use Rattle.planning.proofs.Laid.{net_parts, net_legs}
 
 -- ---- lists that follow one another
 
@@ -109,36 +109,37 @@ module _ (f : ℕ → List ℕ) (rs : List ℕ) where
 
 -- ---- components by number
 
-module _ (x : Plan) where
-  pub numbered : {i : ℕ} → i < x.count → i < length (roots x.network.ends.plant)
+module _ (x : Chart) where
+  pub numbered : {i : ℕ} → i < x.count → i < length (roots x.ends.plant)
   numbered h = omega (arith, x.charted.count_is)
 
-  module _ {i : ℕ} (h : i < length (roots x.network.ends.plant)) where
-    pub root_in : at x.roots i < x.network.ends.plant.switches
+  module _ {i : ℕ} (h : i < length (roots x.ends.plant)) where
+    pub root_in : at x.roots i < x.ends.plant.switches
     root_in =
-        let r = get_or (roots x.network.ends.plant) i 0 in
-        omega (arith, x.charted.roots_are i h, listed_in x.network.ends.plant (sound_valid x.network.ends.plant x.network.ends.sound) x.network.ends.sound.start_in r (get_d_in (roots x.network.ends.plant) i h))
+        let r = get_or (roots x.ends.plant) i 0 in
+        omega (arith, x.charted.roots_are i h, listed_in x.ends.plant (sound_valid x.ends.plant x.ends.sound) x.ends.sound.start_in r (get_d_in (roots x.ends.plant) i h))
 
 -- ---- trails
 
--- that of component i, by its network
-module _ (x : Plan) {i : ℕ} (h : i < length (roots x.network.ends.plant)) where
+-- that of component i
+module _ (x : Plan) {i : ℕ} (h : i < length (roots x.layout.chart.ends.plant)) where
+  abbrev e : ArcEnds
+  e = x.layout.chart.ends
+
   abbrev r : ℕ
-  r = get_or (roots x.network.ends.plant) i 0
+  r = get_or (roots e.plant) i 0
 
-  pub legs_at : {legs : List ℕ} → let own = get_or x.legs.list i no_legs in legs ≡ slice own.from own.to x.legs.aims → LegsAt x.network x.roots i legs
-  legs_at is = record { are = subst (LegsOf (rooted x.network.net (at x.roots i)) x.network.ends.tails x.network.ends.heads (used_flags x.network.ends.plant r)) (sym is) (net_legs x i h).are }
+  pub legs_at : {legs : List ℕ} → let own = get_or x.legs.list i no_legs in legs ≡ slice own.from own.to x.legs.aims → LegsAt e i legs
+  legs_at is = subst (LegsOf (net_of e.plant r) e.tails e.heads (used_flags e.plant r)) (sym is) (net_legs x i h).are
 
-  -- and its legs
-  module _ {legs : List ℕ} (own : LegsAt x.network x.roots i legs) where
-    pub trailing : Trailing x.network (at x.roots i) legs
-    trailing = record { used = used_flags x.network.ends.plant r; parts = net_parts x i h; legs_are = own.are }
+  -- by its network and its legs
+  module _ {n : Network} (own : NetworkAt e x.chains x.distances i n) {legs : List ℕ} (along : LegsAt e i legs) where
+    pub trailing : TrailingOf n legs
+    trailing = record { used = used_flags e.plant r; parts = net_parts x i h n own; legs_are = rw (own.net_is, own.tails_are, own.heads_are) along }
 
-    pub trail_is : trail_by trailing ≡ trail_from x.network.ends.plant r
+    pub trail_is : trail_by trailing ≡ trail_from e.plant r
     unfolding trailing
-    trail_is =
-        ap (λ (n : Net). trail_in n x.network.ends.tails x.network.ends.heads (used_flags x.network.ends.plant r)) (own_net x i h)
-        ∙ net_trail x.network.ends.plant x.network.ends.sound x.network.ends.tails x.network.ends.heads x.network.ends.ends r
+    trail_is = rw (own.net_is, own.tails_are, own.heads_are) (net_trail e.plant e.sound e.tails e.heads e.ends r)
 
 -- ---- round trails
 

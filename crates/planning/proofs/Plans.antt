@@ -9,14 +9,13 @@ use Rattle.plant.specs.declared.Plant.{Plant}
 use Rattle.answers.specs.declared.Refusal.{Refusal}
 use Rattle.answers.specs.Answers.{given, refused, number_of}
 use Rattle.answers.specs.Checks.{Checked, trying, check, answer, ◌then◌}
-use Rattle.answers.specs.Results.{answer_as, Judges}
+use Rattle.answers.specs.Results.{answer_of, Judges}
 use Rattle.answers.proofs.Checks.{given-given, refuse-given, goes_on, came_from, result-given}
 use Rattle.answers.proofs.Results.{ok_then, err_then, passed, turned_down}
 use Rattle.limits.specs.Sound.{Sound}
 use Rattle.codec.specs.Field.{Bytes}
 use Rattle.listing.specs.Listing.{reading}
 use Rattle.listing.proofs.RoundTrip.{decode_sound}
-use Rattle.planning.specs.declared.Plan.{Plan}
 use Rattle.planning.specs.Planning.{switch_out_of_range, planning_at}
 
 -- ---- refusals 1 to 8, then 11
@@ -43,19 +42,19 @@ module _ (s : List ℕ) (x : ℕ) where
       let h = at-given u.0 u.1 in
       subst (λ (p : Plant). Sound p × (x < p.switches) × (answer (f p) ≡ given a)) (sym (result-given (planning_at s x) u.0 u.1)) (decode_sound s u.0 b h.0, h.1, u.2)
 
-  -- by the result r of a plan
-  module _ (r : Result Plan Refusal) (q : answer_as (λ (x : Plan). x.network.ends.plant) r ≡ answer (reading s)) where
+  -- by the result r of a reading
+  module _ (r : Result Plant Refusal) (q : answer_of r ≡ answer (reading s)) where
     pub at_refused : (k : Refusal) → r ≡ Err k → answer (planning_at s x) ≡ refused (number_of k)
     unfolding planning_at
-    at_refused k e = err_then (λ (x : Plan). x.network.ends.plant) (reading s) r q (λ p. check ((11, switch_out_of_range p x) ∷ []) p) k e
+    at_refused k e = err_then (λ p. p) (reading s) r q (λ p. check ((11, switch_out_of_range p x) ∷ []) p) k e
 
-    module _ (y : Plan) (e : r ≡ Ok y) (v : Result Unit Refusal) (j : Judges ((11, leb y.network.ends.plant.switches x) ∷ []) v) where
-      goes : answer (planning_at s x) ≡ trying ((11, leb y.network.ends.plant.switches x) ∷ []) (given y.network.ends.plant)
+    module _ (p : Plant) (e : r ≡ Ok p) (v : Result Unit Refusal) (j : Judges ((11, leb p.switches x) ∷ []) v) where
+      goes : answer (planning_at s x) ≡ trying ((11, leb p.switches x) ∷ []) (given p)
       unfolding planning_at switch_out_of_range
-      goes = ok_then (λ (x : Plan). x.network.ends.plant) (reading s) r q (λ p. check ((11, leb p.switches x) ∷ []) p) y e
+      goes = ok_then (λ p. p) (reading s) r q (λ p. check ((11, leb p.switches x) ∷ []) p) p e
 
       pub at_outside : (k : Refusal) → v ≡ Err k → answer (planning_at s x) ≡ refused (number_of k)
-      at_outside k d = goes ∙ turned_down ((11, leb y.network.ends.plant.switches x) ∷ []) v j (given y.network.ends.plant) k d
+      at_outside k d = goes ∙ turned_down ((11, leb p.switches x) ∷ []) v j (given p) k d
 
-      pub at_inside : (u : Unit) → v ≡ Ok u → answer (planning_at s x) ≡ given y.network.ends.plant
-      at_inside u d = goes ∙ passed ((11, leb y.network.ends.plant.switches x) ∷ []) v j (given y.network.ends.plant) u d
+      pub at_inside : (u : Unit) → v ≡ Ok u → answer (planning_at s x) ≡ given p
+      at_inside u d = goes ∙ passed ((11, leb p.switches x) ∷ []) v j (given p) u d

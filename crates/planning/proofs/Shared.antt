@@ -20,6 +20,10 @@ use Rattle.routes.proofs.Fewest.{dist-fewest}
 use Rattle.routes.proofs.Trails.{dist_lt}
 use Rattle.arcs.specs.Chains.{leaving, following}
 
+-- the part that arcs in use join from a root is theirs alone
+pub same_part : {S n : ℕ} {tl hd : ℕ → ℕ} {own : ℕ → Bool} {r : ℕ} {part other : ℕ → Bool} → Strong S n tl hd own r part → Strong S n tl hd own r other → (x : ℕ) → T (part x) → T (other x)
+same_part {r = r} {other = other} one two x h = keeps (λ y. T (other y)) (λ a k t. two.heads a k.0 k.1) two.starts (one.joined r x one.starts h)
+
 -- S switches, the labels below n, their tails and heads; `all` are in use, and `own` of these from the root r, whose part has the switches `part`
 module _ (S n : ℕ) (tl hd : ℕ → ℕ) (all own : ℕ → Bool) (r : ℕ) (part : ℕ → Bool) (strong : Strong S n tl hd own r part)
     (inside : (a : ℕ) → T (all a) → tl a < S) (same : (a : ℕ) → T (part (tl a)) → all a ≡ own a)

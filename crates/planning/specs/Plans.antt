@@ -1,6 +1,7 @@
 -- Inner: what the parts of a plan are: each is what the definitions say of the plant, over all its components. A plan says it of its fields. Assumes nothing.
 use Rattle.std.specs.Prelude.{◌≡◌, Bool, List, map, ℕ, ◌*◌, ◌<◌, length, get_or}
-use Rattle.lists.specs.Arrays.{flag, at}
+use Rattle.lists.specs.Arrays.{at}
+use Rattle.lists.specs.Members.{In}
 use Rattle.lists.specs.Numbers.{range}
 use Rattle.plant.specs.declared.Plant.{Plant}
 use Rattle.limits.specs.Limits.{max_links}
@@ -13,10 +14,9 @@ use Rattle.arcs.specs.declared.AllLegs.{AllLegs}
 use Rattle.arcs.specs.declared.Net.{Net}
 use Rattle.arcs.specs.declared.Legs.{Legs}
 use Rattle.arcs.specs.declared.ArcEnds.{ArcEnds}
-use Rattle.arcs.specs.Net.{rooted}
+use Rattle.arcs.specs.declared.Chains.{Chains}
 use Rattle.arcs.specs.declared.Network.{Network}
-use Rattle.arcs.specs.Chains.{Chained}
-use Rattle.arcs.specs.Table.{distances_in}
+use Rattle.arcs.specs.Parts.{Parts}
 use Rattle.arcs.specs.Flags.{Flags}
 use Rattle.arcs.specs.Legs.{no_legs, LegsOf, LegsIn}
 use Rattle.planning.specs.declared.Components.{Components}
@@ -48,11 +48,11 @@ LegsBy ends legs =
     (i : ℕ) → i < length (roots ends.plant)
     → let r = get_or (roots ends.plant) i 0 in LegsIn (net_of ends.plant r) ends.tails ends.heads (used_flags ends.plant r) legs.aims (get_or legs.list i no_legs)
 
--- a network is that of its plant from the start, with the chains of the flagged arcs and the distances over them
-pub record NetworkOf (flags : List Bool) (n : Network) : Type 0 where
-  pub net_is : n.net ≡ net_of n.ends.plant n.ends.plant.start
-  pub chained : Chained n.net.labels (at n.ends.tails) (flag flags) n.chains.first n.chains.after
-  pub hops_are : n.hops ≡ distances_in n.net n.ends.tails n.ends.heads flags
+-- from each root, with the chains and the table of distances t they are what a trail is laid by. Of which switches these tell, and that arcs in use join them, is data, of which a
+-- plan keeps no more than that there is some
+abbrev pub TablesBy : ArcEnds → Chains → List (List ℕ) → Type 0
+TablesBy ends chains t =
+    (r : ℕ) → In r (roots ends.plant) → ∥ Parts (net_of ends.plant r) ends.tails ends.heads (used_flags ends.plant r) chains.first chains.after t ∥₁
 
 -- the component of each switch
 abbrev pub HomesAre : Plant → List ℕ → Type 0
@@ -71,6 +71,13 @@ pub record Measured (p : Plant) (components : Components) (hops : ℕ) : Type 0 
   pub components_are : components ≡ components_of p
   pub hops_are : hops ≡ length (trail_of p)
 
--- where the root of component i stands among these numbers: these arcs are the legs of its trail
-pub record LegsAt (n : Network) (numbers : List ℕ) (i : ℕ) (arcs : List ℕ) : Type 0 where
-  pub are : LegsOf (rooted n.net (at numbers i)) n.ends.tails n.ends.heads (used_flags n.ends.plant (get_or (roots n.ends.plant) i 0)) arcs
+-- of component i, the network that its trail is laid by, by reference to these parts; and the arcs are the legs of its trail
+pub record NetworkAt (ends : ArcEnds) (chains : Chains) (t : List (List ℕ)) (i : ℕ) (n : Network) : Type 0 where
+  pub net_is : n.net ≡ net_of ends.plant (get_or (roots ends.plant) i 0)
+  pub tails_are : n.tails.now ≡ ends.tails
+  pub heads_are : n.heads.now ≡ ends.heads
+  pub chains_are : n.chains.now ≡ chains
+  pub hops_are : n.hops.now ≡ t
+
+abbrev pub LegsAt : ArcEnds → ℕ → List ℕ → Type 0
+LegsAt ends i arcs = let r = get_or (roots ends.plant) i 0 in LegsOf (net_of ends.plant r) ends.tails ends.heads (used_flags ends.plant r) arcs

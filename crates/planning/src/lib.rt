@@ -16,13 +16,13 @@ ghost use Rattle.trail.specs.Filled.{filled_with, Tells};
 ghost use Rattle.trail.specs.Ways.{Laid, TellsFrom};
 ghost use Rattle.round.specs.Round.{labels_of};
 ghost use Rattle.planning.specs.Components.{components_with, component_with, components_of};
-ghost use Rattle.planning.specs.Plans.{net_of, trail_at, round_at, NetworkOf, HomesAre, HopsBy, LinksBy, LegsBy, Charted, Measured, LegsAt};
+ghost use Rattle.planning.specs.Plans.{net_of, trail_at, round_at, HomesAre, HopsBy, LinksBy, Charted, Measured, TablesBy, LegsBy, NetworkAt, LegsAt};
 ghost use Rattle.planning.specs.OneAfterAnother.{LaysEach, TellsEach};
 ghost use Rattle.planning.specs.Planning.{planning_at};
 ghost use Rattle.planning.specs.Numbers.{numbers_of};
 
 use answers::Refusal;
-use arcs::{AllLegs, ArcEnds, Legs, Net, Network};
+use arcs::{AllLegs, ArcEnds, Chains, Legs, Net, Network};
 use components::Found;
 use plant::{Plant, in_service};
 use round::Round;
@@ -46,23 +46,37 @@ pub struct Components {
     pub list: [Component; Plant::PLACES],
 }
 
-// The plan of a plant: its network from its start, which holds the plant, how many components there are, their roots, the component of each switch, the bridges, the arcs in
-// use, the legs of the trail of each component, the components with their hops, and the hops of all. Each is what the definitions say of the plant.
+// What is found of a plant before its trails: the plant with the ends of its arcs, how many components there are, their roots, the component of each switch, the bridges, and
+// the arcs in use. Each is what the definitions say of the plant.
 #[derive(Clone, Copy)]
-pub struct Plan {
-    pub network: Network,
+pub struct Chart {
+    pub ends: ArcEnds,
     pub count: u8,
     pub roots: [u8; Plant::PLACES],
     pub home: [u8; Plant::PLACES],
     pub bridges: [bool; Plant::MAX_LINKS],
     pub used: [bool; Plant::LABELS],
-    pub legs: AllLegs,
+    pub ghost charted: { Charted ends.plant count roots home bridges used },
+}
+
+// A chart, the components with their hops, and the hops of all.
+#[derive(Clone, Copy)]
+pub struct Layout {
+    pub chart: Chart,
     pub components: Components,
     pub hops: u16,
-    pub ghost network_is: { NetworkOf used network },
-    pub ghost charted: { Charted network.ends.plant count roots home bridges used },
-    pub ghost legs_are: { LegsBy network.ends legs },
-    pub ghost measured: { Measured network.ends.plant components hops },
+    pub ghost measured: { Measured chart.ends.plant components hops },
+}
+
+// The plan of a plant: a layout, and what the trail of each component is laid by: the chains of the arcs in use, the distances over these, and the legs.
+#[derive(Clone, Copy)]
+pub struct Plan {
+    pub layout: Layout,
+    pub chains: Chains,
+    pub distances: [[u8; Plant::PLACES]; Plant::PLACES],
+    pub legs: AllLegs,
+    pub ghost tables: { TablesBy layout.chart.ends chains distances },
+    pub ghost legs_are: { LegsBy layout.chart.ends legs },
 }
 
 // Switches, links in service, bridges, rules and hops of a plant.
@@ -99,23 +113,6 @@ fn net_of(ends: &ArcEnds, root: u8) -> Net
         switches: ends.plant.switches,
         labels: 2 * ends.plant.count,
         root,
-    }
-}
-
-// The network of a plant from its start, by the ends of its arcs and flags of its arcs in use.
-fn network_of(ends: ArcEnds, flags: &[bool; Plant::LABELS]) -> Network
-    requires { Flags (2 * max_links) (used ends.plant) flags.now }
-    ensures ends_value { result.ends ≡ ends }
-    ensures network_is { NetworkOf flags.now result }
-{
-    let net = net_of(&ends, ends.plant.start);
-    let chains = arcs::chains_of(&ends.tails, flags, net.labels);
-    let hops = distance::distances(net, &ends, flags);
-    Network {
-        net,
-        ends,
-        chains,
-        hops,
     }
 }
 
@@ -165,66 +162,75 @@ fn measured(ends: &ArcEnds, f: &Found, legs: &AllLegs) -> (Components, u16)
     (components, begin)
 }
 
-// The plan of a plant.
-fn planned(p: Plant) -> Plan
-    requires { Sound p }
-    ensures { result.network.ends.plant ≡ p }
-{
-    let ends = arcs::ends_of(p);
-    let f = components::find(&ends);
-    let network = network_of(ends, &f.used);
-    let roots = &f.roots[..usize::from(f.count)];
-    let legs = legs::legs_of(&network, roots);
-    let (components, hops) = measured(&network.ends, &f, &legs);
-    Plan {
-        network,
-        count: f.count,
-        roots: f.roots,
-        home: f.home,
-        bridges: f.bridges,
-        used: f.used,
-        legs,
-        components,
-        hops,
-    }
+// The plan of a sound plant. A plan is large, and the place of a call's result is cleared before the call and copied after it: so a macro makes a plan in the place where it is
+// answered, and the functions that answer one are not inlined.
+macro_rules! planned {
+    ($plant:expr) => {{
+        let ends = arcs::ends_of($plant);
+        let f = components::find(&ends);
+        let net = net_of(&ends, ends.plant.start);
+        let chains = arcs::chains_of(&ends.tails, &f.used, net.labels);
+        let distances = distance::distances(net, &ends.tails, &ends.heads, &f.used);
+        let roots = &f.roots[..usize::from(f.count)];
+        let legs = legs::legs_of(net, &ends.tails, &ends.heads, &chains, distances, roots);
+        let (components, hops) = measured(&ends, &f, &legs);
+        let chart = Chart {
+            ends,
+            count: f.count,
+            roots: f.roots,
+            home: f.home,
+            bridges: f.bridges,
+            used: f.used,
+        };
+        let layout = Layout {
+            chart,
+            components,
+            hops,
+        };
+        Plan {
+            layout,
+            chains,
+            distances,
+            legs,
+        }
+    }};
 }
 
 // The plan of a listing: refusals 1 to 8.
+#[inline(never)]
 pub fn plan_of(listing: &[u8]) -> Result<Plan, Refusal>
-    ensures { answer_as (λ (x : Plan). x.network.ends.plant) result ≡ answer (reading listing.now) }
+    ensures { answer_as (λ (x : Plan). x.layout.chart.ends.plant) result ≡ answer (reading listing.now) }
 {
     let p = reading::read(listing)?;
-    Ok(planned(p))
+    Ok(planned!(p))
 }
 
 // The plan of a listing that has the named switch: refusals 1 to 8, then 11.
+#[inline(never)]
 pub fn plan_at(listing: &[u8], switch: u8) -> Result<Plan, Refusal>
-    ensures { answer_as (λ (x : Plan). x.network.ends.plant) result ≡ answer (planning_at listing.now switch) }
+    ensures { answer_as (λ (x : Plan). x.layout.chart.ends.plant) result ≡ answer (planning_at listing.now switch) }
 {
-    let x = plan_of(listing)?;
-    answers::judge(
-        x.network.ends.plant.switches <= switch,
-        Refusal::SwitchOutOfRange,
-    )?;
-    Ok(x)
+    let p = reading::read(listing)?;
+    answers::judge(p.switches <= switch, Refusal::SwitchOutOfRange)?;
+    Ok(planned!(p))
 }
 
 // ---- the component of a switch
 
 // The component of a switch.
-pub fn component_with(x: &Plan, switch: u8) -> Component
-    requires { switch < x.now.network.ends.plant.switches }
-    ensures { result ≡ component_with x.now.network.ends.plant switch }
+pub fn component_with(x: &Layout, switch: u8) -> Component
+    requires { switch < x.now.chart.ends.plant.switches }
+    ensures { result ≡ component_with x.now.chart.ends.plant switch }
 {
-    let i = usize::from(x.home[usize::from(switch)]);
+    let i = usize::from(x.chart.home[usize::from(switch)]);
     x.components.list[i]
 }
 
 // E for a switch, the links in service of its component; a switch that is none has no link.
-pub fn links_with(x: &Plan, switch: u8) -> u16
-    ensures { result ≡ links_with x.now.network.ends.plant switch }
+pub fn links_with(x: &Layout, switch: u8) -> u16
+    ensures { result ≡ links_with x.now.chart.ends.plant switch }
 {
-    if switch < x.network.ends.plant.switches {
+    if switch < x.chart.ends.plant.switches {
         let c = component_with(x, switch);
         return c.round_hops / 2;
     }
@@ -233,10 +239,25 @@ pub fn links_with(x: &Plan, switch: u8) -> u16
 
 // ---- the trails
 
+// The network that the trail of component i is laid by.
+fn network_at(x: &Plan, i: usize) -> Network<'_>
+    requires { i < length (roots x.now.layout.chart.ends.plant) }
+    ensures { NetworkAt x.now.layout.chart.ends x.now.chains x.now.distances i result }
+{
+    let chart = &x.layout.chart;
+    Network {
+        net: net_of(&chart.ends, chart.roots[i]),
+        tails: &chart.ends.tails,
+        heads: &chart.ends.heads,
+        chains: &x.chains,
+        hops: &x.distances,
+    }
+}
+
 // The arcs that the legs of the trail of component i cross.
-fn legs_at<'a>(x: &'a Plan, i: usize) -> &'a [u16]
-    requires { i < length (roots x.now.network.ends.plant) }
-    ensures { LegsAt x.now.network x.now.roots i result.now }
+fn legs_at(x: &Plan, i: usize) -> &[u16]
+    requires { i < length (roots x.now.layout.chart.ends.plant) }
+    ensures { LegsAt x.now.layout.chart.ends i result.now }
 {
     let legs = x.legs.list[i];
     &x.legs.aims[usize::from(legs.from)..usize::from(legs.to)]
@@ -256,14 +277,14 @@ fn lay_each<F: Fn(usize, usize, &mut [u16]) -> usize>(count: u8, lay: F, buf: &m
 
 // The trails of a plan one after another into the front of a lent buffer that has room for them; the places after them keep their contents.
 pub fn lay(x: &Plan, buf: &mut [u16])
-    requires { length (trail_of x.now.network.ends.plant) ≤ length buf.old }
-    ensures { buf.new ≡ filled_with (trail_of x.now.network.ends.plant) buf.old }
+    requires { length (trail_of x.now.layout.chart.ends.plant) ≤ length buf.old }
+    ensures { buf.new ≡ filled_with (trail_of x.now.layout.chart.ends.plant) buf.old }
 {
     let one = |i: usize, from: usize, b: &mut [u16]| -> usize
-        requires { (i < length (roots x.now.network.ends.plant)) × (from + length (trail_at x.now.network.ends.plant i) ≤ length b.now) }
-        ensures { Laid (trail_at x.entry.now.network.ends.plant i) b.entry.now from b.exit.now result }
-    { trail::lay(&x.network, x.roots[i], legs_at(x, i), b, from) };
-    lay_each(x.count, one, buf);
+        requires { (i < length (roots x.now.layout.chart.ends.plant)) × (from + length (trail_at x.now.layout.chart.ends.plant i) ≤ length b.now) }
+        ensures { Laid (trail_at x.entry.now.layout.chart.ends.plant i) b.entry.now from b.exit.now result }
+    { trail::lay(&network_at(x, i), legs_at(x, i), b, from) };
+    lay_each(x.layout.chart.count, one, buf);
 }
 
 // Lists compared one after another, each from the place where the one before ended: `compare` tells it of list i.
@@ -280,68 +301,72 @@ fn compare_each<F: Fn(usize, usize) -> Option<usize>>(count: u8, compare: F) -> 
 
 // Does the lent slice begin with the hops of the trails of a plan, one after another? Then how many they are.
 pub fn compare(x: &Plan, lent: &[u16]) -> Option<usize>
-    ensures { Tells lent.now (trail_of x.now.network.ends.plant) result }
+    ensures { Tells lent.now (trail_of x.now.layout.chart.ends.plant) result }
 {
     let one = |i: usize, from: usize| -> Option<usize>
-        requires { i < length (roots x.now.network.ends.plant) }
-        ensures { TellsFrom from lent.entry.now (trail_at x.entry.now.network.ends.plant i) result }
-    { trail::compare(&x.network, x.roots[i], legs_at(x, i), lent, from) };
-    compare_each(x.count, one)
+        requires { i < length (roots x.now.layout.chart.ends.plant) }
+        ensures { TellsFrom from lent.entry.now (trail_at x.entry.now.layout.chart.ends.plant i) result }
+    { trail::compare(&network_at(x, i), legs_at(x, i), lent, from) };
+    compare_each(x.layout.chart.count, one)
 }
 
 // ---- the round trails
 
 // The round trail of component i.
-fn round_at(x: &Plan, i: usize) -> Round
-    requires { i < length (roots x.now.network.ends.plant) }
-    ensures { labels_of result ≡ round_at x.now.network.ends.plant i }
+fn round_at(x: &Chart, i: usize) -> Round
+    requires { i < length (roots x.now.ends.plant) }
+    ensures { labels_of result ≡ round_at x.now.ends.plant i }
 {
-    let v = visit::visit(&x.network.ends, x.roots[i]);
-    round::round_of(&x.network.ends, v)
+    let v = visit::visit(&x.ends, x.roots[i]);
+    round::round_of(&x.ends, v)
 }
 
-// The round trails of a plan one after another into the front of a lent buffer that has room for them; the places after them keep their contents.
-pub fn lay_round(x: &Plan, buf: &mut [u16])
-    requires { length (round_of x.now.network.ends.plant) ≤ length buf.old }
-    ensures { buf.new ≡ filled_with (round_of x.now.network.ends.plant) buf.old }
+// The round trails of a plant one after another into the front of a lent buffer that has room for them; the places after them keep their contents.
+pub fn lay_round(x: &Chart, buf: &mut [u16])
+    requires { length (round_of x.now.ends.plant) ≤ length buf.old }
+    ensures { buf.new ≡ filled_with (round_of x.now.ends.plant) buf.old }
 {
     let one = |i: usize, from: usize, b: &mut [u16]| -> usize
-        requires { (i < length (roots x.now.network.ends.plant)) × (from + length (round_at x.now.network.ends.plant i) ≤ length b.now) }
-        ensures { Laid (round_at x.entry.now.network.ends.plant i) b.entry.now from b.exit.now result }
+        requires { (i < length (roots x.now.ends.plant)) × (from + length (round_at x.now.ends.plant i) ≤ length b.now) }
+        ensures { Laid (round_at x.entry.now.ends.plant i) b.entry.now from b.exit.now result }
     { round::lay(round_at(x, i), b, from) };
     lay_each(x.count, one, buf);
 }
 
-// Does the lent slice begin with the hops of the round trails of a plan, one after another? Then how many they are.
-pub fn compare_round(x: &Plan, lent: &[u16]) -> Option<usize>
-    ensures { Tells lent.now (round_of x.now.network.ends.plant) result }
+// Does the lent slice begin with the hops of the round trails of a plant, one after another? Then how many they are.
+pub fn compare_round(x: &Chart, lent: &[u16]) -> Option<usize>
+    ensures { Tells lent.now (round_of x.now.ends.plant) result }
 {
     let one = |i: usize, from: usize| -> Option<usize>
-        requires { i < length (roots x.now.network.ends.plant) }
-        ensures { TellsFrom from lent.entry.now (round_at x.entry.now.network.ends.plant i) result }
+        requires { i < length (roots x.now.ends.plant) }
+        ensures { TellsFrom from lent.entry.now (round_at x.entry.now.ends.plant i) result }
     { round::compare(round_at(x, i), lent, from) };
     compare_each(x.count, one)
 }
 
 // ---- the forwarding table and the numbers, over all components
 
-// The forwarding table of a plan.
-pub fn table_of(x: &Plan) -> Table
-    ensures { result ≡ table_of x.now.network.ends.plant }
+// The forwarding table of a plant.
+pub fn table_of(x: &Chart) -> Table
+    ensures { result ≡ table_of x.now.ends.plant }
 {
-    let n = &x.network;
-    table::table_of(&n.ends.tails, &n.ends.heads, &x.used, n.net.labels)
+    table::table_of(
+        &x.ends.tails,
+        &x.ends.heads,
+        &x.used,
+        2 * x.ends.plant.count,
+    )
 }
 
-// The numbers of a plan.
-pub fn numbers_of(x: &Plan) -> Numbers
-    ensures { result ≡ numbers_of x.now.network.ends.plant }
+// The numbers of a plant.
+pub fn numbers_of(x: &Layout) -> Numbers
+    ensures { result ≡ numbers_of x.now.chart.ends.plant }
 {
-    let bridges = uses::count_set(&x.bridges);
-    let rules = uses::count_set(&x.used);
-    let links = arcs::links_in_service(x.network.ends.plant);
+    let bridges = uses::count_set(&x.chart.bridges);
+    let rules = uses::count_set(&x.chart.used);
+    let links = arcs::links_in_service(x.chart.ends.plant);
     Numbers {
-        switches: x.network.ends.plant.switches,
+        switches: x.chart.ends.plant.switches,
         links,
         bridges: bridges as u16,
         rules: rules as u16,

@@ -104,15 +104,15 @@ fn put_trails(list: &[Component], labels: &[u16], buf: &mut [u8], at: usize) -> 
 
 // The page of a plan at the front of a buffer that has room for as many hops as its trails have. The trails are laid into the lent labels first.
 fn put_plan(x: &Plan, labels: &mut [u16], buf: &mut [u8]) -> usize
-    requires labels_room { length (trail_of x.now.network.ends.plant) ≤ length labels.old }
-    requires page_room { page_room (length (trail_of x.now.network.ends.plant)) ≤ length buf.old }
-    ensures { Laid buf.old 0 (plant_output x.now.network.ends.plant) buf.new result }
+    requires labels_room { length (trail_of x.now.layout.chart.ends.plant) ≤ length labels.old }
+    requires page_room { page_room (length (trail_of x.now.layout.chart.ends.plant)) ≤ length buf.old }
+    ensures { Laid buf.old 0 (plant_output x.now.layout.chart.ends.plant) buf.new result }
 {
     planning::lay(x, labels);
-    let t = planning::table_of(x);
+    let t = planning::table_of(&x.layout.chart);
     let rules = &t.rules[..usize::from(t.count)];
-    let cs = &x.components.list[..usize::from(x.components.count)];
-    let next = put_numbers(planning::numbers_of(x), buf);
+    let cs = &x.layout.components.list[..usize::from(x.layout.components.count)];
+    let next = put_numbers(planning::numbers_of(&x.layout), buf);
     let end = put_rules(rules, buf, next);
     put_trails(cs, labels, buf, end)
 }
@@ -132,9 +132,9 @@ fn print_plan<W: Write, const HOPS: usize, const BYTES: usize>(
     x: &Plan,
     listing: &[u8],
 ) -> io::Result<()>
-    requires hops_bound { (length (trail_of x.now.network.ends.plant) ≤ HOPS) × (HOPS ≤ max_hops) }
+    requires hops_bound { (length (trail_of x.now.layout.chart.ends.plant) ≤ HOPS) × (HOPS ≤ max_hops) }
     requires bytes_are { BYTES ≡ page_room HOPS }
-    requires output { plant_output x.now.network.ends.plant ≡ printed listing.now }
+    requires output { plant_output x.now.layout.chart.ends.plant ≡ printed listing.now }
     ensures ok { OnOk result (Appends (W.contents out.old) (W.contents out.new) (printed listing.now)) }
     ensures err { OnErr result (AppendsFront (W.contents out.old) (W.contents out.new) (printed listing.now)) }
 {
@@ -142,6 +142,20 @@ fn print_plan<W: Write, const HOPS: usize, const BYTES: usize>(
     let mut bytes = [0u8; BYTES];
     let n = put_plan(x, &mut labels, &mut bytes);
     write_output(out, &bytes[..n], listing)
+}
+
+// The page of a plan, by way of a short buffer where its trails are short. It is not inlined, so that the plan is not copied for its two ways.
+#[inline(never)]
+fn print_page<W: Write>(out: &mut W, x: &Plan, listing: &[u8]) -> io::Result<()>
+    requires { plant_output x.now.layout.chart.ends.plant ≡ printed listing.now }
+    ensures ok { OnOk result (Appends (W.contents out.old) (W.contents out.new) (printed listing.now)) }
+    ensures err { OnErr result (AppendsFront (W.contents out.old) (W.contents out.new) (printed listing.now)) }
+{
+    if usize::from(x.layout.hops) <= SHORT {
+        print_plan::<W, SHORT, SHORT_PAGE>(out, x, listing)
+    } else {
+        print_plan::<W, LONG, LONG_PAGE>(out, x, listing)
+    }
 }
 
 // The line of a refusal.
@@ -161,13 +175,7 @@ pub fn print_listing<W: Write>(out: &mut W, listing: &[u8]) -> io::Result<()>
     ensures err { OnErr result (AppendsFront (W.contents out.old) (W.contents out.new) (printed listing.now)) }
 {
     match planning::plan_of(listing) {
-        Ok(x) => {
-            if usize::from(x.hops) <= SHORT {
-                print_plan::<W, SHORT, SHORT_PAGE>(out, &x, listing)
-            } else {
-                print_plan::<W, LONG, LONG_PAGE>(out, &x, listing)
-            }
-        }
+        Ok(x) => print_page(out, &x, listing),
         Err(k) => print_refusal(out, k, listing),
     }
 }

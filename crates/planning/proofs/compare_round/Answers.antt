@@ -12,4 +12,4 @@ pub returns : goal.returns
 unfolding rounds_of
 returns c =
     let x = c.args.x.now in
-    c.compare_each.ensures (record { lent = c.args.lent.now; list = round_from x.network.ends.plant; numbers = roots x.network.ends.plant; count_is = x.charted.count_is; told = λ i from r h e. e })
+    c.compare_each.ensures (record { lent = c.args.lent.now; list = round_from x.ends.plant; numbers = roots x.ends.plant; count_is = x.charted.count_is; told = λ i from r h e. e })

@@ -8,9 +8,9 @@ pub lay_each-requires : goal.lay_each-requires
 unfolding trails_of
 lay_each-requires c =
     record {
-      list = trail_from c.args.x.now.network.ends.plant;
-      numbers = roots c.args.x.now.network.ends.plant;
-      count_is = c.args.x.now.charted.count_is;
+      list = trail_from c.args.x.now.layout.chart.ends.plant;
+      numbers = roots c.args.x.now.layout.chart.ends.plant;
+      count_is = c.args.x.now.layout.chart.charted.count_is;
       fits = c.requires;
       may_lay = λ i from b h room. (h, room);
       laid = λ i from b j d h e. e;
@@ -20,9 +20,9 @@ pub returns : goal.returns
 unfolding trails_of
 returns c =
     c.lay_each.ensures (record {
-      list = trail_from c.args.x.now.network.ends.plant;
-      numbers = roots c.args.x.now.network.ends.plant;
-      count_is = c.args.x.now.charted.count_is;
+      list = trail_from c.args.x.now.layout.chart.ends.plant;
+      numbers = roots c.args.x.now.layout.chart.ends.plant;
+      count_is = c.args.x.now.layout.chart.charted.count_is;
       fits = c.requires;
       may_lay = λ i from b h room. (h, room);
       laid = λ i from b j d h e. e;

@@ -8,8 +8,8 @@ pub lay_each-requires : goal.lay_each-requires
 unfolding rounds_of
 lay_each-requires c =
     record {
-      list = round_from c.args.x.now.network.ends.plant;
-      numbers = roots c.args.x.now.network.ends.plant;
+      list = round_from c.args.x.now.ends.plant;
+      numbers = roots c.args.x.now.ends.plant;
       count_is = c.args.x.now.charted.count_is;
       fits = c.requires;
       may_lay = λ i from b h room. (h, room);
@@ -20,8 +20,8 @@ pub returns : goal.returns
 unfolding rounds_of
 returns c =
     c.lay_each.ensures (record {
-      list = round_from c.args.x.now.network.ends.plant;
-      numbers = roots c.args.x.now.network.ends.plant;
+      list = round_from c.args.x.now.ends.plant;
+      numbers = roots c.args.x.now.ends.plant;
       count_is = c.args.x.now.charted.count_is;
       fits = c.requires;
       may_lay = λ i from b h room. (h, room);

@@ -26,7 +26,7 @@ overflow_add-round c =
 pub loop-i-preserved : goal.loop-i-preserved
 loop-i-preserved c =
     let i_in : c.loop-i.i < length (roots c.args.ends.now.plant) = omega (arith, c.requires.finds.count_is) in
-    measuring_next _ c.args.ends.now.sound _ c.requires.finds _ i_in _ _ _ c.loop-i.invariant _ c.requires.hops_by _ c.links_by-links.ensures
+    measuring_next _ c.args.ends.now.sound _ c.requires.finds _ i_in _ _ _ c.loop-i.invariant _ c.requires.hops_by _ c.links_by-links.ensures _
 
 pub returns : goal.returns
 returns c =

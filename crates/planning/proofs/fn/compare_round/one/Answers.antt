@@ -5,7 +5,7 @@ use Rattle.planning.proofs.OneAfterAnother.{round-labels}
 use Rattle.planning.proofs.fn.compare_round.one.Goals as goal
 
 pub compare-requires : goal.compare-requires
-compare-requires c = round-labels c.captures.x.now.network.ends.sound c.requires _ c.round_at.ensures
+compare-requires c = round-labels c.captures.x.now.ends.sound c.requires _ c.round_at.ensures
 
 pub returns : goal.returns
 returns c = subst (λ (w : List ℕ). TellsFrom c.args.from c.captures.lent.now w c.compare.result) c.round_at.ensures c.compare.ensures

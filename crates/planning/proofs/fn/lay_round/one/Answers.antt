@@ -7,8 +7,8 @@ use Rattle.planning.proofs.fn.lay_round.one.Goals as goal
 pub lay-requires : goal.lay-requires
 lay-requires c =
     record {
-      labels = round-labels c.captures.x.now.network.ends.sound c.requires.0 _ c.round_at.ensures;
-      hops_in_bounds = omega (arith, round-hops c.captures.x.now.network.ends.sound c.requires.0 _ c.round_at.ensures);
+      labels = round-labels c.captures.x.now.ends.sound c.requires.0 _ c.round_at.ensures;
+      hops_in_bounds = omega (arith, round-hops c.captures.x.now.ends.sound c.requires.0 _ c.round_at.ensures);
     }
 
 pub returns : goal.returns
