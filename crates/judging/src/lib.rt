@@ -7,12 +7,12 @@ ghost use Rattle.answers.specs.Results.{answer_of, Judges};
 ghost use Rattle.judging.specs.Conditions.{trail_differs, states_short, search_unsound, lent_checks, round_checks, probe_wanted};
 
 use answers::Refusal;
-use planning::Plan;
+use planning::{Chart, Plan};
 use search::Search;
 
 // Refusal 12: does the lent trail begin with other hops than the trails of the plant, one after another, or has it another length?
 pub fn differs(plan: &Plan, trail: &[u16]) -> bool
-    ensures { result ≡ trail_differs plan.now.network.ends.plant trail.now }
+    ensures { result ≡ trail_differs plan.now.layout.chart.ends.plant trail.now }
 {
     match planning::compare(plan, trail) {
         Some(hops) => trail.len() != hops,
@@ -30,23 +30,23 @@ pub fn too_few(states: &[u8], needed: u16) -> bool
 
 // Refusals 12 and 13 of a lent trail and state bytes.
 pub fn judge_lent(plan: &Plan, trail: &[u16], states: &[u8]) -> Result<(), Refusal>
-    ensures { Judges (lent_checks plan.now.network.ends.plant trail.now states.now) result }
+    ensures { Judges (lent_checks plan.now.layout.chart.ends.plant trail.now states.now) result }
 {
     let other = answers::judge(differs(plan, trail), Refusal::TrailDiffers);
     let short = answers::judge(
-        too_few(states, plan.network.ends.plant.count),
+        too_few(states, plan.layout.chart.ends.plant.count),
         Refusal::StatesShort,
     );
     other.and(short)
 }
 
 // Refusals 12, by the hops alone, and 13 of a lent round trail and a state byte for each label.
-pub fn judge_round(plan: &Plan, round: &[u16], states: &[u8]) -> Result<(), Refusal>
-    ensures { Judges (round_checks plan.now.network.ends.plant round.now states.now) result }
+pub fn judge_round(chart: &Chart, round: &[u16], states: &[u8]) -> Result<(), Refusal>
+    ensures { Judges (round_checks chart.now.ends.plant round.now states.now) result }
 {
-    match planning::compare_round(plan, round) {
+    match planning::compare_round(chart, round) {
         Some(_) => answers::judge(
-            too_few(states, 2 * plan.network.ends.plant.count),
+            too_few(states, 2 * chart.ends.plant.count),
             Refusal::StatesShort,
         ),
         None => Err(Refusal::TrailDiffers),

@@ -1,7 +1,7 @@
 -- The buying page of a plan in a lent buffer: the spare is judged, then the room. Assumes nothing.
 use mathlib.Core.Path.{◌≡◌, refl, sym, ap, ◌∙◌}
 use mathlib.Core.List.{List, [], ◌∷◌, ◌++◌}
-use mathlib.Core.Logic.{◌⊎◌, inl, inr}
+use mathlib.Core.Logic.{◌⊎◌, ⊎_elim}
 use Prim.Native.Nat.{ℕ, ◌+◌, ◌*◌, ◌≤◌}
 use borrow.Author.Tests.{ltb-false}
 use lib.Dec.{ltb}
@@ -77,8 +77,13 @@ module _ (p : Plant) (spare : ℕ) (b : List ℕ) (r : Result Sheet Refusal) (q 
       unfolding writing_page
       room_refused k g = goes_on ∙ turned_down (writing_page s b).checks w room_judged (given (page_length s)) k g
 
-  -- so of the two, the spare before the room, the first that refuses is the call's refusal
-  pub quote_refused : (n : ℕ) → n ≡ line_columns * (p.switches + 1) → (w : Result Unit Refusal) → Judges ((18, ltb (length b) n) ∷ []) w
-      → (k : Refusal) → (r ≡ Err k) ⊎ ((s : Sheet) × (r ≡ Ok s) × (w ≡ Err k)) → refused (number_of k) ≡ answer (quoting p spare b)
-  quote_refused n f w j k (inl e) = sym (spare_refused k e)
-  quote_refused n f w j k (inr h) = sym (room_refused h.0 h.1 n f w j k h.2)
+  -- so of the two, the spare before the room, the first that refuses is the call's refusal: the spare, or where that is none, what a room for n bytes comes to
+  module _ (k : Refusal)
+      (first : (r ≡ Err k)
+      ⊎ ((s : Sheet) × (r ≡ Ok s) × (n : ℕ) × (n ≡ line_columns * (p.switches + 1)) × (w : Result Unit Refusal) × Judges ((18, ltb (length b) n) ∷ []) w × (w ≡ Err k)))
+    where
+      pub quote_refused : refused (number_of k) ≡ answer (quoting p spare b)
+      quote_refused = sym (⊎_elim (spare_refused k) (λ h. room_refused h.0 h.1 h.2 h.3 h.4 h.5 k h.6) first)
+
+      pub quote_kept : b ≡ quoted_out p spare b
+      quote_kept = sym (out-kept p spare b (number_of k) (sym quote_refused))

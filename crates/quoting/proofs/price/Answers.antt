@@ -30,14 +30,14 @@ module _ (p : Plant) (b : BySwitch) (f : b ≡ by_switch (table_of p)) (spare : 
       refuses_so (order_quantity (by_switch (table_of p)).total spare) (sheet_with p (by_switch (table_of p))) k (ap (λ (r : BySwitch). answer (order_quantity r.total spare)) (sym f) ∙ e)
 
 pub by_switch-rules-requires : goal.by_switch-rules-requires
-by_switch-rules-requires c = subst Placed (sym c.table_of-table.ensures) (placed _ c.args.x.now.network.ends.sound)
+by_switch-rules-requires c = subst Placed (sym c.table_of-table.ensures) (placed _ c.args.x.now.ends.sound)
 
 pub returns-in_err-n : goal.returns-in_err-n
 returns-in_err-n c =
     let rules-are = c.by_switch-rules.ensures ∙ ap by_switch c.table_of-table.ensures in
-    exit (λ (s : Sheet). s) _ _ c.from_residual.ensures.1 ∙ sym (price_refused c.args.x.now.network.ends.plant _ rules-are c.args.spare _ (sym c.in_err-n.ensures))
+    exit (λ (s : Sheet). s) _ _ c.from_residual.ensures.1 ∙ sym (price_refused c.args.x.now.ends.plant _ rules-are c.args.spare _ (sym c.in_err-n.ensures))
 
 pub returns : goal.returns
 returns c =
     let rules-are = c.by_switch-rules.ensures ∙ ap by_switch c.table_of-table.ensures in
-    ap given c.sheet_of.ensures ∙ sym (price_given c.args.x.now.network.ends.plant _ rules-are c.args.spare _ (sym c.in_ok-n.ensures))
+    ap given c.sheet_of.ensures ∙ sym (price_given c.args.x.now.ends.plant _ rules-are c.args.spare _ (sym c.in_ok-n.ensures))
