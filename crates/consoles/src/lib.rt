@@ -21,9 +21,9 @@ fn size_of(console: u8, listing: &[u8], switch: u8) -> Result<Size, Refusal>
     let past = usize::from(console) >= Desk::CONSOLES;
     answers::judge(past, Refusal::ConsoleOutOfRange)?;
     let plan = planning::plan_of(listing)?;
-    let links = planning::links_with(&plan, switch);
+    let links = planning::links_with(&plan.layout, switch);
     Ok(Size {
-        switches: plan.network.ends.plant.switches,
+        switches: plan.layout.chart.ends.plant.switches,
         links,
     })
 }

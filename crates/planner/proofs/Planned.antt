@@ -5,12 +5,14 @@ use Prim.Native.Nat.{ℕ}
 use Rattle.std.specs.Prelude.{Result, IsErrAnd}
 use Rattle.plant.specs.declared.Plant.{Plant}
 use Rattle.answers.specs.declared.Refusal.{Refusal}
-use Rattle.answers.specs.Answers.{given, refused, number_of}
+use Rattle.answers.specs.Answers.{given, refused, number_of, ◌>>=◌}
 use Rattle.answers.specs.Checks.{answer, ◌giving◌}
 use Rattle.answers.specs.Results.{answer_of}
-use Rattle.answers.proofs.Checks.{gives_so, refuses_so}
+use Rattle.answers.proofs.Checks.{gives_so, refuses_so, trying_then}
 use Rattle.answers.proofs.Results.{exit}
 use Rattle.listing.specs.Listing.{reading}
+use Rattle.planning.specs.Components.{components_of}
+use Rattle.planner.specs.Calls.{bridge_flags, bridging, parting}
 
 -- a call that gives g of the plant of the listing s
 module _ {B : Type 0} (s : List ℕ) (g : Plant → B) where
@@ -19,3 +21,15 @@ module _ {B : Type 0} (s : List ℕ) (g : Plant → B) where
 
   pub plan_refusing : (k : Refusal) → refused (number_of k) ≡ answer (reading s) → (u : Result B Refusal) → IsErrAnd u (λ e. e ≡ k) → answer_of u ≡ answer (reading s giving g)
   plan_refusing k e u d = exit (λ b. b) u k d ∙ sym (refuses_so (reading s) g (number_of k) (sym e))
+
+-- what a call on a listing comes to, by what the listing comes to
+giving_is : {B : Type 0} (s : List ℕ) (g : Plant → B) → answer (reading s giving g) ≡ (answer (reading s) >>= λ p. given (g p))
+giving_is s g = sym (trying_then (reading s).checks (given (reading s).result) (λ p. given (g p)))
+
+pub bridging_is : (s : List ℕ) → answer (bridging s) ≡ (answer (reading s) >>= λ p. given (bridge_flags p))
+unfolding bridging
+bridging_is s = giving_is s bridge_flags
+
+pub parting_is : (s : List ℕ) → answer (parting s) ≡ (answer (reading s) >>= λ p. given (components_of p))
+unfolding parting
+parting_is s = giving_is s components_of

@@ -58,7 +58,7 @@ pub fn forwarding_table(listing: &[u8]) -> Result<Table, Refusal>
     ensures { answer_of result ≡ answer (tabling listing.now) }
 {
     let plan = planning::plan_of(listing)?;
-    Ok(planning::table_of(&plan))
+    Ok(planning::table_of(&plan.layout.chart))
 }
 
 // The number of rules of a listing that each switch sends by, and their total over switches: refusals 1 to 8.
@@ -67,25 +67,27 @@ pub fn rules_by_switch(listing: &[u8]) -> Result<BySwitch, Refusal>
     ensures adds_up { AddsUp listing.now result }
 {
     let plan = planning::plan_of(listing)?;
-    let table = planning::table_of(&plan);
+    let table = planning::table_of(&plan.layout.chart);
     let rules = senders::by_switch(table);
     Ok(rules)
 }
 
 // The bridges of a listing, a flag for each link place; a link out of service is none: refusals 1 to 8.
+#[tactic(auto, using(crate::proofs::Planned::bridging_is, crate::proofs::Trailing::flags_are))]
 pub fn find_bridges(listing: &[u8]) -> Result<[bool; Plant::MAX_LINKS], Refusal>
     ensures { answer_of result ≡ answer (bridging listing.now) }
 {
-    let Plan { bridges, .. } = planning::plan_of(listing)?;
+    let bridges = planning::plan_of(listing)?.layout.chart.bridges;
     Ok(bridges)
 }
 
 // The components of a listing in their order: how many, and of each its root, where its trail begins among the trails of all and its hops, and the same of its round trail:
 // refusals 1 to 8.
+#[tactic(auto, using(crate::proofs::Planned::parting_is))]
 pub fn find_components(listing: &[u8]) -> Result<Components, Refusal>
     ensures { answer_of result ≡ answer (parting listing.now) }
 {
-    let Plan { components, .. } = planning::plan_of(listing)?;
+    let components = planning::plan_of(listing)?.layout.components;
     Ok(components)
 }
 
@@ -94,7 +96,7 @@ pub fn summarize(listing: &[u8]) -> Result<Numbers, Refusal>
     ensures { answer_of result ≡ answer (summing listing.now) }
 {
     let plan = planning::plan_of(listing)?;
-    Ok(planning::numbers_of(&plan))
+    Ok(planning::numbers_of(&plan.layout))
 }
 
 // The trails of a listing's components one after another into the front of the lent buffer, and their hops: refusals 1 to 8, then 10.
@@ -104,12 +106,12 @@ pub fn lay_trail(listing: &[u8], buffer: &mut [u16]) -> Result<u16, Refusal>
 {
     let plan = planning::plan_of(listing)?;
     judge_room(
-        usize::from(plan.hops),
+        usize::from(plan.layout.hops),
         buffer.len(),
         Refusal::TrailBufferShort,
     )?;
     planning::lay(&plan, buffer);
-    Ok(plan.hops)
+    Ok(plan.layout.hops)
 }
 
 // The round trails of a listing's components one after another into the front of the lent buffer, and their hops: refusals 1 to 8, then 10.
@@ -119,9 +121,9 @@ pub fn lay_round_trail(listing: &[u8], buffer: &mut [u16]) -> Result<u16, Refusa
     ensures buffer_now { buffer.new ≡ round_laid_out listing.now buffer.old }
 {
     let plan = planning::plan_of(listing)?;
-    let hops = 2 * arcs::links_in_service(plan.network.ends.plant);
+    let hops = 2 * arcs::links_in_service(plan.layout.chart.ends.plant);
     judge_room(usize::from(hops), buffer.len(), Refusal::TrailBufferShort)?;
-    planning::lay_round(&plan, buffer);
+    planning::lay_round(&plan.layout.chart, buffer);
     Ok(hops)
 }
 
@@ -131,7 +133,7 @@ pub fn write_buying_page(listing: &[u8], spare: u8, buffer: &mut [u8]) -> Result
     ensures buffer_now { buffer.new ≡ bought_out listing.now spare buffer.old }
 {
     let plan = planning::plan_of(listing)?;
-    quoting::put_page(&plan, spare, buffer)
+    quoting::put_page(&plan.layout.chart, spare, buffer)
 }
 
 // The counts of a buying page: refusal 18.

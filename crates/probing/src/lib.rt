@@ -25,7 +25,7 @@ use answers::Refusal;
 use choosing::Choice;
 use order::{Order, Ring, Span};
 use packet::End;
-use planning::Plan;
+use planning::{Chart, Layout, Plan};
 use plant::Plant;
 use search::{Outcome, Progress, Said, Search};
 
@@ -49,37 +49,37 @@ pub fn outcome_of(end: End) -> Outcome
 // ---- the component of a switch in lent trails
 
 // The trail of the component of a switch, as a part of the lent trails of all components.
-fn own_trail<'a>(plan: &Plan, switch: u8, trail: &'a [u16]) -> &'a [u16]
-    requires switch_lt_switches { switch < plan.now.network.ends.plant.switches }
-    requires trail_value { trail.now ≡ trail_of plan.now.network.ends.plant }
-    ensures { result.now ≡ trail_with plan.now.network.ends.plant switch }
+fn own_trail<'a>(layout: &Layout, switch: u8, trail: &'a [u16]) -> &'a [u16]
+    requires switch_lt_switches { switch < layout.now.chart.ends.plant.switches }
+    requires trail_value { trail.now ≡ trail_of layout.now.chart.ends.plant }
+    ensures { result.now ≡ trail_with layout.now.chart.ends.plant switch }
 {
-    let c = planning::component_with(plan, switch);
+    let c = planning::component_with(layout, switch);
     order::part(trail, c.begin as usize, c.hops as usize)
 }
 
 // Its round trail, as a part of the lent round trails of all components, which may have spare places.
-fn own_round<'a>(plan: &Plan, switch: u8, round: &'a [u16]) -> &'a [u16]
-    requires switch_lt_switches { switch < plan.now.network.ends.plant.switches }
-    requires round_value { hops_differ (round_of plan.now.network.ends.plant) round.now ≡ false }
-    ensures { result.now ≡ round_with plan.now.network.ends.plant switch }
+fn own_round<'a>(layout: &Layout, switch: u8, round: &'a [u16]) -> &'a [u16]
+    requires switch_lt_switches { switch < layout.now.chart.ends.plant.switches }
+    requires round_value { hops_differ (round_of layout.now.chart.ends.plant) round.now ≡ false }
+    ensures { result.now ≡ round_with layout.now.chart.ends.plant switch }
 {
-    let c = planning::component_with(plan, switch);
+    let c = planning::component_with(layout, switch);
     order::part(round, c.round_begin as usize, c.round_hops as usize)
 }
 
 // ---- a packet that is no probe
 
 // A packet runs under the forwarding table of a plan alone: refusal 13.
-fn run_in(plan: &Plan, switch: u8, labels: &[u16], states: &[u8]) -> Result<End, Refusal>
-    ensures { answer_as end_of result ≡ answer (run_in switch labels.now states.now plan.now.network.ends.plant) }
+fn run_in(chart: &Chart, switch: u8, labels: &[u16], states: &[u8]) -> Result<End, Refusal>
+    ensures { answer_as end_of result ≡ answer (run_in switch labels.now states.now chart.now.ends.plant) }
 {
-    if judging::too_few(states, plan.network.ends.plant.count) {
+    if judging::too_few(states, chart.ends.plant.count) {
         return Err(Refusal::StatesShort);
     }
     Ok(packet::run_on(
-        &plan.network.ends,
-        &plan.used,
+        &chart.ends.plant,
+        &chart.used,
         states,
         packet::injected(switch),
         labels,
@@ -91,24 +91,24 @@ pub fn run(listing: &[u8], switch: u8, labels: &[u16], states: &[u8]) -> Result<
     ensures { answer_as end_of result ≡ answer (running listing.now switch labels.now states.now) }
 {
     let plan = planning::plan_at(listing, switch)?;
-    run_in(&plan, switch, labels, states)
+    run_in(&plan.layout.chart, switch, labels, states)
 }
 
 // ---- the full check
 
 // The full check in a plan: refusals 12 and 13.
 fn check_in(plan: &Plan, switch: u8, trail: &[u16], states: &[u8]) -> Result<End, Refusal>
-    requires { switch < plan.now.network.ends.plant.switches }
-    ensures { answer_as end_of result ≡ answer (check_in switch trail.now states.now plan.now.network.ends.plant) }
+    requires { switch < plan.now.layout.chart.ends.plant.switches }
+    ensures { answer_as end_of result ≡ answer (check_in switch trail.now states.now plan.now.layout.chart.ends.plant) }
 {
     judging::judge_lent(plan, trail, states)?;
-    let own = own_trail(plan, switch, trail);
+    let own = own_trail(&plan.layout, switch, trail);
     let ring = Ring {
-        ends: &plan.network.ends,
+        plant: &plan.layout.chart.ends.plant,
         switch,
         trail: own,
     };
-    Ok(packet::full_check(&ring, &plan.used, states))
+    Ok(packet::full_check(&ring, &plan.layout.chart.used, states))
 }
 
 // The full check from a switch: refusals 1 to 8, 11, 12 and 13.
@@ -122,14 +122,14 @@ pub fn full_check(listing: &[u8], switch: u8, trail: &[u16], states: &[u8]) -> R
 // ---- the round run
 
 // The round run over a lent round trail in a plan: refusals 12 and 13.
-fn round_in(plan: &Plan, switch: u8, round: &[u16], states: &[u8]) -> Result<End, Refusal>
-    requires { switch < plan.now.network.ends.plant.switches }
-    ensures { answer_as end_of result ≡ answer (round_in switch round.now states.now plan.now.network.ends.plant) }
+fn round_in(layout: &Layout, switch: u8, round: &[u16], states: &[u8]) -> Result<End, Refusal>
+    requires { switch < layout.now.chart.ends.plant.switches }
+    ensures { answer_as end_of result ≡ answer (round_in switch round.now states.now layout.now.chart.ends.plant) }
 {
-    judging::judge_round(plan, round, states)?;
-    let own = own_round(plan, switch, round);
+    judging::judge_round(&layout.chart, round, states)?;
+    let own = own_round(layout, switch, round);
     let ring = Ring {
-        ends: &plan.network.ends,
+        plant: &layout.chart.ends.plant,
         switch,
         trail: own,
     };
@@ -141,20 +141,20 @@ pub fn round_run(listing: &[u8], switch: u8, round: &[u16], states: &[u8]) -> Re
     ensures { answer_as end_of result ≡ answer (round_running listing.now switch round.now states.now) }
 {
     let plan = planning::plan_at(listing, switch)?;
-    round_in(&plan, switch, round, states)
+    round_in(&plan.layout, switch, round, states)
 }
 
 // ---- the shorter of two lent trails
 
 // Of the trail and the round trail of the component of a switch in a plan, where the round trails of all are lent: refusal 12.
-fn choose_from(plan: &Plan, switch: u8, round: &[u16]) -> Result<Choice, Refusal>
-    requires { switch < plan.now.network.ends.plant.switches }
-    ensures { answer_of result ≡ answer (choice_from switch round.now plan.now.network.ends.plant) }
+fn choose_from(layout: &Layout, switch: u8, round: &[u16]) -> Result<Choice, Refusal>
+    requires { switch < layout.now.chart.ends.plant.switches }
+    ensures { answer_of result ≡ answer (choice_from switch round.now layout.now.chart.ends.plant) }
 {
-    let Some(_) = planning::compare_round(plan, round) else {
+    let Some(_) = planning::compare_round(&layout.chart, round) else {
         return Err(Refusal::TrailDiffers);
     };
-    let c = planning::component_with(plan, switch);
+    let c = planning::component_with(layout, switch);
     Ok(choosing::fewer(
         c.begin as usize,
         c.hops as usize,
@@ -165,13 +165,13 @@ fn choose_from(plan: &Plan, switch: u8, round: &[u16]) -> Result<Choice, Refusal
 
 // Of the lent trails and the lent round trails of all components in a plan: refusal 12 of either.
 fn choose_in(plan: &Plan, switch: u8, trail: &[u16], round: &[u16]) -> Result<Choice, Refusal>
-    requires { switch < plan.now.network.ends.plant.switches }
-    ensures { answer_of result ≡ answer (choice_in switch trail.now round.now plan.now.network.ends.plant) }
+    requires { switch < plan.now.layout.chart.ends.plant.switches }
+    ensures { answer_of result ≡ answer (choice_in switch trail.now round.now plan.now.layout.chart.ends.plant) }
 {
     let Some(_) = planning::compare(plan, trail) else {
         return Err(Refusal::TrailDiffers);
     };
-    choose_from(plan, switch, round)
+    choose_from(&plan.layout, switch, round)
 }
 
 // Which of the trail and the round trail of the component of a switch has fewer hops, where it begins in what is lent, and how many: refusals 1 to 8, 11 and 12. Both may have spare places.
@@ -199,15 +199,15 @@ pub fn chosen<'a>(trail: &'a [u16], round: &'a [u16], choice: Choice) -> &'a [u1
 
 // The order of links in a plan: refusal 12.
 fn order_in(plan: &Plan, switch: u8, trail: &[u16]) -> Result<Order, Refusal>
-    requires { switch < plan.now.network.ends.plant.switches }
-    ensures { answer_of result ≡ answer (order_in switch trail.now plan.now.network.ends.plant) }
+    requires { switch < plan.now.layout.chart.ends.plant.switches }
+    ensures { answer_of result ≡ answer (order_in switch trail.now plan.now.layout.chart.ends.plant) }
 {
     if judging::differs(plan, trail) {
         return Err(Refusal::TrailDiffers);
     }
-    let own = own_trail(plan, switch, trail);
+    let own = own_trail(&plan.layout, switch, trail);
     let ring = Ring {
-        ends: &plan.network.ends,
+        plant: &plan.layout.chart.ends.plant,
         switch,
         trail: own,
     };
@@ -226,11 +226,11 @@ pub fn order_of_links(listing: &[u8], switch: u8, trail: &[u16]) -> Result<Order
 
 // Where the outward labels of probe m over so many links stand in the trail of a component: the whole ring, if m is their number.
 fn span_in(ring: &Ring, links: u16, m: u16) -> Span
-    requires own_value { ring.now.trail.now ≡ trail_with ring.now.ends.now.plant ring.now.switch }
-    requires links_value { links ≡ links_with ring.now.ends.now.plant ring.now.switch }
+    requires own_value { ring.now.trail.now ≡ trail_with ring.now.plant.now ring.now.switch }
+    requires links_value { links ≡ links_with ring.now.plant.now ring.now.switch }
     requires le_m { 1 ≤ m }
     requires m_le_max_links { m ≤ max_links }
-    ensures { result ≡ own_span ring.now.ends.now.plant ring.now.switch m }
+    ensures { result ≡ own_span ring.now.plant.now ring.now.switch m }
 {
     if m == links {
         return order::ring_span(ring);
@@ -239,18 +239,18 @@ fn span_in(ring: &Ring, links: u16, m: u16) -> Span
 }
 
 // Where they stand in the lent trails of all components.
-fn span_of(plan: &Plan, switch: u8, trail: &[u16], links: u16, m: u16) -> Span
-    requires switch_lt_switches { switch < plan.now.network.ends.plant.switches }
-    requires trail_value { trail.now ≡ trail_of plan.now.network.ends.plant }
-    requires links_value { links ≡ links_with plan.now.network.ends.plant switch }
+fn span_of(layout: &Layout, switch: u8, trail: &[u16], links: u16, m: u16) -> Span
+    requires switch_lt_switches { switch < layout.now.chart.ends.plant.switches }
+    requires trail_value { trail.now ≡ trail_of layout.now.chart.ends.plant }
+    requires links_value { links ≡ links_with layout.now.chart.ends.plant switch }
     requires le_m { 1 ≤ m }
     requires m_le_links { m ≤ links }
-    ensures { result ≡ out_span plan.now.network.ends.plant switch m }
+    ensures { result ≡ out_span layout.now.chart.ends.plant switch m }
 {
-    let c = planning::component_with(plan, switch);
-    let own = own_trail(plan, switch, trail);
+    let c = planning::component_with(layout, switch);
+    let own = own_trail(layout, switch, trail);
     let ring = Ring {
-        ends: &plan.network.ends,
+        plant: &layout.chart.ends.plant,
         switch,
         trail: own,
     };
@@ -260,15 +260,15 @@ fn span_of(plan: &Plan, switch: u8, trail: &[u16], links: u16, m: u16) -> Span
 
 // The outward labels in a plan: refusals 12, 14 and 15.
 fn outward_in(plan: &Plan, switch: u8, trail: &[u16], search: Search) -> Result<Span, Refusal>
-    requires { switch < plan.now.network.ends.plant.switches }
-    ensures { answer_of result ≡ answer (outward_in switch trail.now search plan.now.network.ends.plant) }
+    requires { switch < plan.now.layout.chart.ends.plant.switches }
+    ensures { answer_of result ≡ answer (outward_in switch trail.now search plan.now.layout.chart.ends.plant) }
 {
     if judging::differs(plan, trail) {
         return Err(Refusal::TrailDiffers);
     }
-    let links = planning::links_with(plan, switch);
+    let links = planning::links_with(&plan.layout, switch);
     let m = judging::probe_wanted(links, search)?;
-    Ok(span_of(plan, switch, trail, links, m))
+    Ok(span_of(&plan.layout, switch, trail, links, m))
 }
 
 // Where the outward labels of the probe that a search wants stand in the lent trail: refusals 1 to 8, 11, 12, 14 and 15.
@@ -309,12 +309,12 @@ fn probe_over(
     links: u16,
     search: Search,
 ) -> Result<End, Refusal>
-    requires can_run { CanRun ring.now.ends.now.plant table.now states.now }
-    requires table_value { flag table.now ≡ used ring.now.ends.now.plant }
-    requires own_value { ring.now.trail.now ≡ trail_with ring.now.ends.now.plant ring.now.switch }
-    requires links_value { links ≡ links_with ring.now.ends.now.plant ring.now.switch }
+    requires can_run { CanRun ring.now.plant.now table.now states.now }
+    requires table_value { flag table.now ≡ used ring.now.plant.now }
+    requires own_value { ring.now.trail.now ≡ trail_with ring.now.plant.now ring.now.switch }
+    requires links_value { links ≡ links_with ring.now.plant.now ring.now.switch }
     requires links_le_max_links { links ≤ max_links }
-    ensures { answer_as end_of result ≡ answer (probe_over ring.now.ends.now.plant ring.now.switch states.now search) }
+    ensures { answer_as end_of result ≡ answer (probe_over ring.now.plant.now ring.now.switch states.now search) }
 {
     let m = judging::probe_wanted(links, search)?;
     Ok(packet::probe_run(ring, table, states, links, m))
@@ -328,18 +328,18 @@ fn probe_in(
     states: &[u8],
     search: Search,
 ) -> Result<End, Refusal>
-    requires { switch < plan.now.network.ends.plant.switches }
-    ensures { answer_as end_of result ≡ answer (probe_in switch trail.now states.now search plan.now.network.ends.plant) }
+    requires { switch < plan.now.layout.chart.ends.plant.switches }
+    ensures { answer_as end_of result ≡ answer (probe_in switch trail.now states.now search plan.now.layout.chart.ends.plant) }
 {
     judging::judge_lent(plan, trail, states)?;
-    let own = own_trail(plan, switch, trail);
-    let links = planning::links_with(plan, switch);
+    let own = own_trail(&plan.layout, switch, trail);
+    let links = planning::links_with(&plan.layout, switch);
     let ring = Ring {
-        ends: &plan.network.ends,
+        plant: &plan.layout.chart.ends.plant,
         switch,
         trail: own,
     };
-    probe_over(&ring, &plan.used, states, links, search)
+    probe_over(&ring, &plan.layout.chart.used, states, links, search)
 }
 
 // The run of the probe that a search wants: refusals 1 to 8 and 11 to 15.
@@ -360,9 +360,9 @@ pub fn run_probe(
 
 // What is named in the component of a switch with this trail by what a sound search says.
 fn name_of(ring: &Ring, said: Said) -> Named
-    requires own_value { ring.now.trail.now ≡ trail_with ring.now.ends.now.plant ring.now.switch }
+    requires own_value { ring.now.trail.now ≡ trail_with ring.now.plant.now ring.now.switch }
     requires says_in { SaysIn max_links said }
-    ensures { name_as result ≡ named_in (order_of ring.now.ends.now.plant (trail_with ring.now.ends.now.plant ring.now.switch) ring.now.switch) said }
+    ensures { name_as result ≡ named_in (order_of ring.now.plant.now (trail_with ring.now.plant.now ring.now.switch) ring.now.switch) said }
 {
     match said {
         Said::Open => Named::Open,
@@ -377,19 +377,19 @@ fn name_of(ring: &Ring, said: Said) -> Named
 
 // What a search names in a plan: refusals 12 and 14.
 fn name_in(plan: &Plan, switch: u8, trail: &[u16], search: Search) -> Result<Named, Refusal>
-    requires { switch < plan.now.network.ends.plant.switches }
-    ensures { answer_as name_as result ≡ answer (name_in switch trail.now search plan.now.network.ends.plant) }
+    requires { switch < plan.now.layout.chart.ends.plant.switches }
+    ensures { answer_as name_as result ≡ answer (name_in switch trail.now search plan.now.layout.chart.ends.plant) }
 {
     if judging::differs(plan, trail) {
         return Err(Refusal::TrailDiffers);
     }
-    let links = planning::links_with(plan, switch);
+    let links = planning::links_with(&plan.layout, switch);
     if judging::unsound(links, search) {
         return Err(Refusal::SearchUnsound);
     }
-    let own = own_trail(plan, switch, trail);
+    let own = own_trail(&plan.layout, switch, trail);
     let ring = Ring {
-        ends: &plan.network.ends,
+        plant: &plan.layout.chart.ends.plant,
         switch,
         trail: own,
     };
@@ -416,7 +416,7 @@ pub fn new_search(listing: &[u8], switch: u8) -> Result<Search, Refusal>
     ensures { answer_of result ≡ answer (beginning listing.now switch) }
 {
     let plan = planning::plan_at(listing, switch)?;
-    let links = planning::links_with(&plan, switch);
+    let links = planning::links_with(&plan.layout, switch);
     Ok(Search::new(links))
 }
 
@@ -441,6 +441,6 @@ pub fn perform(listing: &[u8], switch: u8, calls: &[u8]) -> Result<Progress, Ref
     ensures performs { Performs listing.now switch (calls_in calls.now) (answer_of result) }
 {
     let plan = planning::plan_at(listing, switch)?;
-    let links = planning::links_with(&plan, switch);
+    let links = planning::links_with(&plan.layout, switch);
     Ok(performing::perform(links, calls))
 }

@@ -12,7 +12,7 @@ use Rattle.consoles.proofs.size_of.Goals as goal
 
 -- of what the listing comes to
 abbrev plant_of : Plan → Plant
-plant_of y = y.network.ends.plant
+plant_of y = y.layout.chart.ends.plant
 
 pub returns-in_err-judge : goal.returns-in_err-judge
 unfolding console_out_of_range

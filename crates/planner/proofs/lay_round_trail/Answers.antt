@@ -18,7 +18,7 @@ hops_are p n ok e = ap (◌*◌ 2) e ∙ sym (rounds-are p ok).number
 
 pub overflow_mul-hops : goal.overflow_mul-hops
 overflow_mul-hops c =
-    let ok = c.in_ok-plan.plan.network.ends.sound in
+    let ok = c.in_ok-plan.plan.layout.chart.ends.sound in
     omega (arith, hops_are _ _ ok c.links_in_service-hops.ensures, (rounds-are _ ok).short)
 
 pub returns-in_err-plan-clause-result_value : goal.returns-in_err-plan-clause-result_value
@@ -34,27 +34,27 @@ pub returns-in_err-judge_room-clause-result_value : goal.returns-in_err-judge_ro
 unfolding round_trailing
 returns-in_err-judge_room-clause-result_value c =
     let read = sym c.in_ok-plan.ensures in
-    exit (λ n. n) _ _ c.from_residual-in_err-judge_room.ensures.1 ∙ sym (short_answer round_of _ _ _ read _ (c.from.ensures ∙ hops_are _ _ c.in_ok-plan.plan.network.ends.sound c.links_in_service-hops.ensures) _ c.judge_room.ensures _ c.in_err-judge_room.was)
+    exit (λ n. n) _ _ c.from_residual-in_err-judge_room.ensures.1 ∙ sym (short_answer round_of _ _ _ read _ (c.from.ensures ∙ hops_are _ _ c.in_ok-plan.plan.layout.chart.ends.sound c.links_in_service-hops.ensures) _ c.judge_room.ensures _ c.in_err-judge_room.was)
 
 pub returns-in_err-judge_room-clause-buffer_now : goal.returns-in_err-judge_room-clause-buffer_now
 unfolding round_laid_out
 returns-in_err-judge_room-clause-buffer_now c =
     let read = sym c.in_ok-plan.ensures in
-    short_left round_of _ _ _ read _ (c.from.ensures ∙ hops_are _ _ c.in_ok-plan.plan.network.ends.sound c.links_in_service-hops.ensures) _ c.judge_room.ensures _ c.in_err-judge_room.was
+    short_left round_of _ _ _ read _ (c.from.ensures ∙ hops_are _ _ c.in_ok-plan.plan.layout.chart.ends.sound c.links_in_service-hops.ensures) _ c.judge_room.ensures _ c.in_err-judge_room.was
 
 pub lay_round-requires : goal.lay_round-requires
 lay_round-requires c =
     let read = sym c.in_ok-plan.ensures in
-    enough_room round_of _ _ _ read _ (c.from.ensures ∙ hops_are _ _ c.in_ok-plan.plan.network.ends.sound c.links_in_service-hops.ensures) _ c.judge_room.ensures _ c.in_ok-judge_room.was
+    enough_room round_of _ _ _ read _ (c.from.ensures ∙ hops_are _ _ c.in_ok-plan.plan.layout.chart.ends.sound c.links_in_service-hops.ensures) _ c.judge_room.ensures _ c.in_ok-judge_room.was
 
 pub returns-clause-result_value : goal.returns-clause-result_value
 unfolding round_trailing
 returns-clause-result_value c =
     let read = sym c.in_ok-plan.ensures in
-    enough_answer round_of _ _ _ read _ (c.from.ensures ∙ hops_are _ _ c.in_ok-plan.plan.network.ends.sound c.links_in_service-hops.ensures) _ c.judge_room.ensures _ c.in_ok-judge_room.was _ (hops_are _ _ c.in_ok-plan.plan.network.ends.sound c.links_in_service-hops.ensures)
+    enough_answer round_of _ _ _ read _ (c.from.ensures ∙ hops_are _ _ c.in_ok-plan.plan.layout.chart.ends.sound c.links_in_service-hops.ensures) _ c.judge_room.ensures _ c.in_ok-judge_room.was _ (hops_are _ _ c.in_ok-plan.plan.layout.chart.ends.sound c.links_in_service-hops.ensures)
 
 pub returns-clause-buffer_now : goal.returns-clause-buffer_now
 unfolding round_laid_out
 returns-clause-buffer_now c =
     let read = sym c.in_ok-plan.ensures in
-    c.lay_round.ensures ∙ enough_left round_of _ _ _ read _ (c.from.ensures ∙ hops_are _ _ c.in_ok-plan.plan.network.ends.sound c.links_in_service-hops.ensures) _ c.judge_room.ensures _ c.in_ok-judge_room.was
+    c.lay_round.ensures ∙ enough_left round_of _ _ _ read _ (c.from.ensures ∙ hops_are _ _ c.in_ok-plan.plan.layout.chart.ends.sound c.links_in_service-hops.ensures) _ c.judge_room.ensures _ c.in_ok-judge_room.was

@@ -18,27 +18,27 @@ pub returns-in_err-judge_room-clause-result_value : goal.returns-in_err-judge_ro
 unfolding trailing
 returns-in_err-judge_room-clause-result_value c =
     let read = sym c.in_ok-plan.ensures in
-    exit (λ n. n) _ _ c.from_residual-in_err-judge_room.ensures.1 ∙ sym (short_answer trail_of _ _ _ read _ (c.from.ensures ∙ c.in_ok-plan.plan.measured.hops_are) _ c.judge_room.ensures _ c.in_err-judge_room.was)
+    exit (λ n. n) _ _ c.from_residual-in_err-judge_room.ensures.1 ∙ sym (short_answer trail_of _ _ _ read _ (c.from.ensures ∙ c.in_ok-plan.plan.layout.measured.hops_are) _ c.judge_room.ensures _ c.in_err-judge_room.was)
 
 pub returns-in_err-judge_room-clause-buffer_now : goal.returns-in_err-judge_room-clause-buffer_now
 unfolding laid_out
 returns-in_err-judge_room-clause-buffer_now c =
     let read = sym c.in_ok-plan.ensures in
-    short_left trail_of _ _ _ read _ (c.from.ensures ∙ c.in_ok-plan.plan.measured.hops_are) _ c.judge_room.ensures _ c.in_err-judge_room.was
+    short_left trail_of _ _ _ read _ (c.from.ensures ∙ c.in_ok-plan.plan.layout.measured.hops_are) _ c.judge_room.ensures _ c.in_err-judge_room.was
 
 pub lay-requires : goal.lay-requires
 lay-requires c =
     let read = sym c.in_ok-plan.ensures in
-    enough_room trail_of _ _ _ read _ (c.from.ensures ∙ c.in_ok-plan.plan.measured.hops_are) _ c.judge_room.ensures _ c.in_ok-judge_room.was
+    enough_room trail_of _ _ _ read _ (c.from.ensures ∙ c.in_ok-plan.plan.layout.measured.hops_are) _ c.judge_room.ensures _ c.in_ok-judge_room.was
 
 pub returns-clause-result_value : goal.returns-clause-result_value
 unfolding trailing
 returns-clause-result_value c =
     let read = sym c.in_ok-plan.ensures in
-    enough_answer trail_of _ _ _ read _ (c.from.ensures ∙ c.in_ok-plan.plan.measured.hops_are) _ c.judge_room.ensures _ c.in_ok-judge_room.was _ c.in_ok-plan.plan.measured.hops_are
+    enough_answer trail_of _ _ _ read _ (c.from.ensures ∙ c.in_ok-plan.plan.layout.measured.hops_are) _ c.judge_room.ensures _ c.in_ok-judge_room.was _ c.in_ok-plan.plan.layout.measured.hops_are
 
 pub returns-clause-buffer_now : goal.returns-clause-buffer_now
 unfolding laid_out
 returns-clause-buffer_now c =
     let read = sym c.in_ok-plan.ensures in
-    c.lay.ensures ∙ enough_left trail_of _ _ _ read _ (c.from.ensures ∙ c.in_ok-plan.plan.measured.hops_are) _ c.judge_room.ensures _ c.in_ok-judge_room.was
+    c.lay.ensures ∙ enough_left trail_of _ _ _ read _ (c.from.ensures ∙ c.in_ok-plan.plan.layout.measured.hops_are) _ c.judge_room.ensures _ c.in_ok-judge_room.was

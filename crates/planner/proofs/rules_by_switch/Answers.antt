@@ -18,13 +18,13 @@ use Rattle.planner.proofs.Planned.{plan_giving, plan_refusing}
 use Rattle.planner.proofs.rules_by_switch.Goals as goal
 
 -- what is found of the plant that was planned adds up
-adds_up : (s : List ℕ) (x : Plan) (b : BySwitch) → answer (reading s) ≡ given x.network.ends.plant → b ≡ by_switch (table_of x.network.ends.plant)
+adds_up : (s : List ℕ) (x : Plan) (b : BySwitch) → answer (reading s) ≡ given x.layout.chart.ends.plant → b ≡ by_switch (table_of x.layout.chart.ends.plant)
     → (p : Plant) → answer (reading s) ≡ given p → Totals p b
 adds_up s x b e q p g =
-    subst (λ (k : Plant). Totals k b) (given-given x.network.ends.plant p (sym e ∙ g)) (subst (Totals x.network.ends.plant) (sym q) (totals x.network.ends.plant x.network.ends.sound))
+    subst (λ (k : Plant). Totals k b) (given-given x.layout.chart.ends.plant p (sym e ∙ g)) (subst (Totals x.layout.chart.ends.plant) (sym q) (totals x.layout.chart.ends.plant x.layout.chart.ends.sound))
 
 pub by_switch-rules-requires : goal.by_switch-rules-requires
-by_switch-rules-requires c = subst Placed (sym c.table_of-table.ensures) (placed _ c.in_ok-plan.plan.network.ends.sound)
+by_switch-rules-requires c = subst Placed (sym c.table_of-table.ensures) (placed _ c.in_ok-plan.plan.layout.chart.ends.sound)
 
 pub returns-in_err-plan-clause-counts : goal.returns-in_err-plan-clause-counts
 unfolding tabling counting

@@ -13,15 +13,15 @@ pub own_trail-own-requires-clause-trail_value : goal.own_trail-own-requires-clau
 own_trail-own-requires-clause-trail_value c = lent_same _ _ _ _ c.in_ok-judge_lent.ensures
 
 pub invariant_of-ring : goal.invariant_of-ring
-invariant_of-ring c = record { over_arcs = own-arcs c.args.plan.now.network.ends.plant c.args.plan.now.network.ends.sound c.args.switch c.requires _ c.own_trail-own.ensures }
+invariant_of-ring c = record { sound = c.args.plan.now.layout.chart.ends.sound; over_arcs = own-arcs c.args.plan.now.layout.chart.ends.plant c.args.plan.now.layout.chart.ends.sound c.args.switch c.requires _ c.own_trail-own.ensures }
 
 pub full_check-requires : goal.full_check-requires
-full_check-requires c = can_run c.args.plan.now.network.ends.plant _ _ c.args.plan.now.charted.used_are (lent_enough _ _ _ _ c.in_ok-judge_lent.ensures)
+full_check-requires c = can_run c.args.plan.now.layout.chart.ends.plant _ _ c.args.plan.now.layout.chart.charted.used_are (lent_enough _ _ _ _ c.in_ok-judge_lent.ensures)
 
 pub returns : goal.returns
 unfolding check_in
 returns c =
-    checked c.args.plan.now.network.ends.plant _ c.args.switch c.own_trail-own.ensures (flags_same c.args.plan.now.charted.used_are) (up_by_link c.args.states.now) (end_of c.full_check.result)
+    checked c.args.plan.now.layout.chart.ends.plant _ c.args.switch c.own_trail-own.ensures (flags_same c.args.plan.now.layout.chart.charted.used_are) (up_by_link c.args.states.now) (end_of c.full_check.result)
     c.full_check.ensures
     ∙ sym (passed _ _ c.in_ok-judge_lent.ensures _ _ refl)
 

@@ -12,7 +12,7 @@ returns c =
     let d = c.component_with-c.result in
     let chosen : c.fewer.result ≡ choice_of d.begin d.hops d.round_begin d.round_hops = c.fewer.ensures in
     fails 12 _ _ _ (hops-same _ _ _ c.in-Some.ensures)
-    (ap given (chosen ∙ chosen_at c.args.plan.now.network.ends.plant c.args.plan.now.network.ends.sound c.args.switch c.requires d c.component_with-c.ensures))
+    (ap given (chosen ∙ chosen_at c.args.layout.now.chart.ends.plant c.args.layout.now.chart.ends.sound c.args.switch c.requires d c.component_with-c.ensures))
 
 pub returns-in_default : goal.returns-in_default
 returns-in_default c = holds 12 _ _ (hops_other _ _ c.in_default.ensures)

@@ -26,12 +26,12 @@ pub name_of-requires-clause-own_value : goal.name_of-requires-clause-own_value
 name_of-requires-clause-own_value c = c.own_trail-own.ensures
 
 pub invariant_of-ring : goal.invariant_of-ring
-invariant_of-ring c = record { over_arcs = own-arcs c.args.plan.now.network.ends.plant c.args.plan.now.network.ends.sound c.args.switch c.requires _ c.own_trail-own.ensures }
+invariant_of-ring c = record { sound = c.args.plan.now.layout.chart.ends.sound; over_arcs = own-arcs c.args.plan.now.layout.chart.ends.plant c.args.plan.now.layout.chart.ends.sound c.args.switch c.requires _ c.own_trail-own.ensures }
 
 pub name_of-requires-clause-says_in : goal.name_of-requires-clause-says_in
 name_of-requires-clause-says_in c =
     rw c.says.ensures
-    (says-few c.args.plan.now.network.ends.plant c.args.plan.now.network.ends.sound c.args.switch c.requires c.args.search
+    (says-few c.args.plan.now.layout.chart.ends.plant c.args.plan.now.layout.chart.ends.sound c.args.switch c.requires c.args.search
     (ap (λ (e : ℕ). search_unsound e c.args.search) (sym c.links_with-links.ensures) ∙ sym c.unsound.ensures ∙ c.if-unsound.false))
 
 pub returns : goal.returns

@@ -15,7 +15,7 @@ pub own_trail-own-requires-clause-trail_value : goal.own_trail-own-requires-clau
 own_trail-own-requires-clause-trail_value c = trail-same _ _ (sym c.differs.ensures ∙ c.if-differs.false)
 
 pub invariant_of-ring : goal.invariant_of-ring
-invariant_of-ring c = record { over_arcs = own-arcs c.args.plan.now.network.ends.plant c.args.plan.now.network.ends.sound c.args.switch c.requires _ c.own_trail-own.ensures }
+invariant_of-ring c = record { sound = c.args.plan.now.layout.chart.ends.sound; over_arcs = own-arcs c.args.plan.now.layout.chart.ends.plant c.args.plan.now.layout.chart.ends.sound c.args.switch c.requires _ c.own_trail-own.ensures }
 
 pub returns : goal.returns
 returns c = ordered _ _ _ _ _ (sym c.differs.ensures ∙ c.if-differs.false) c.own_trail-own.ensures c.order_of.ensures

@@ -24,11 +24,11 @@ pub returns : goal.returns
 unfolding outward_in
 returns c =
     fails 12 _ _ _ (sym c.differs.ensures ∙ c.if-differs.false)
-    (rw c.links_with-links.ensures at (probe-given _ _ _ c.probe_wanted.ensures (out_span c.args.plan.now.network.ends.plant c.args.switch) _ _ c.in_ok-m.was c.span_of.ensures))
+    (rw c.links_with-links.ensures at (probe-given _ _ _ c.probe_wanted.ensures (out_span c.args.plan.now.layout.chart.ends.plant c.args.switch) _ _ c.in_ok-m.was c.span_of.ensures))
 
 pub returns-in_err-m : goal.returns-in_err-m
 unfolding outward_in
 returns-in_err-m c =
     exit _ _ _ c.from_residual.ensures.1
     ∙ fails 12 _ _ _ (sym c.differs.ensures ∙ c.if-differs.false)
-    (rw c.links_with-links.ensures at (probe-refused _ _ _ c.probe_wanted.ensures (out_span c.args.plan.now.network.ends.plant c.args.switch) _ c.in_err-m.was))
+    (rw c.links_with-links.ensures at (probe-refused _ _ _ c.probe_wanted.ensures (out_span c.args.plan.now.layout.chart.ends.plant c.args.switch) _ c.in_err-m.was))

@@ -4,5 +4,5 @@ use Rattle.probing.proofs.own_trail.Goals as goal
 
 pub returns : goal.returns
 returns c =
-    trail-part c.args.plan.now.network.ends.plant c.args.plan.now.network.ends.sound c.args.switch c.requires.switch_lt_switches c.args.trail.now _ c.component_with-c.result
+    trail-part c.args.layout.now.chart.ends.plant c.args.layout.now.chart.ends.sound c.args.switch c.requires.switch_lt_switches c.args.trail.now _ c.component_with-c.result
     c.requires.trail_value c.component_with-c.ensures c.part.ensures

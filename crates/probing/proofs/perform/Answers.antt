@@ -17,7 +17,7 @@ returns c =
     try_giving (planning_at _ _) (performed_in _ cs) _ _ plots
     (c.perform.ensures ∙ ap (λ (e : ℕ). perform (begun e) cs) c.links_with-links.ensures)
     in
-    record { result_value = r; performs = performs _ _ cs _ (sym plots) c.in_ok-plan.plan.network.ends.sound _ r }
+    record { result_value = r; performs = performs _ _ cs _ (sym plots) c.in_ok-plan.plan.layout.chart.ends.sound _ r }
 
 pub returns-in_err-plan : goal.returns-in_err-plan
 unfolding performing performed_in

@@ -10,15 +10,15 @@ pub own_trail-own-requires-clause-trail_value : goal.own_trail-own-requires-clau
 own_trail-own-requires-clause-trail_value c = lent_same _ _ _ _ c.in_ok-judge_lent.ensures
 
 pub invariant_of-ring : goal.invariant_of-ring
-invariant_of-ring c = record { over_arcs = own-arcs c.args.plan.now.network.ends.plant c.args.plan.now.network.ends.sound c.args.switch c.requires _ c.own_trail-own.ensures }
+invariant_of-ring c = record { sound = c.args.plan.now.layout.chart.ends.sound; over_arcs = own-arcs c.args.plan.now.layout.chart.ends.plant c.args.plan.now.layout.chart.ends.sound c.args.switch c.requires _ c.own_trail-own.ensures }
 
 pub probe_over-requires-clause-can_run : goal.probe_over-requires-clause-can_run
 probe_over-requires-clause-can_run c =
-    can_run c.args.plan.now.network.ends.plant _ _ c.args.plan.now.charted.used_are (lent_enough _ _ _ _ c.in_ok-judge_lent.ensures)
+    can_run c.args.plan.now.layout.chart.ends.plant _ _ c.args.plan.now.layout.chart.charted.used_are (lent_enough _ _ _ _ c.in_ok-judge_lent.ensures)
 
 pub probe_over-requires-clause-links_le_max_links : goal.probe_over-requires-clause-links_le_max_links
 probe_over-requires-clause-links_le_max_links c =
-    omega (arith, c.links_with-links.ensures, links-few c.args.plan.now.network.ends.plant c.args.plan.now.network.ends.sound c.args.switch c.requires)
+    omega (arith, c.links_with-links.ensures, links-few c.args.plan.now.layout.chart.ends.plant c.args.plan.now.layout.chart.ends.sound c.args.switch c.requires)
 
 pub returns : goal.returns
 unfolding probe_in

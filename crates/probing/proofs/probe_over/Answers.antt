@@ -15,10 +15,10 @@ probe_run-requires-clause-m_le_max_links c = omega (arith, (probe_among _ _ _ c.
 
 pub returns : goal.returns
 returns c =
-    rw c.requires.links_value at (probe-given _ _ _ c.probe_wanted.ensures (probe_end c.args.ring.now.ends.now.plant c.args.ring.now.switch c.args.states.now) _ _ c.in_ok-m.was
-    (probed c.args.ring.now.ends.now.plant _ _ c.requires.own_value c.requires.table_value _ (end_of c.probe_run.result) _ _ c.requires.links_value c.probe_run.ensures))
+    rw c.requires.links_value at (probe-given _ _ _ c.probe_wanted.ensures (probe_end c.args.ring.now.plant.now c.args.ring.now.switch c.args.states.now) _ _ c.in_ok-m.was
+    (probed c.args.ring.now.plant.now _ _ c.requires.own_value c.requires.table_value _ (end_of c.probe_run.result) _ _ c.requires.links_value c.probe_run.ensures))
 
 pub returns-in_err-m : goal.returns-in_err-m
 returns-in_err-m c =
     exit _ _ _ c.from_residual.ensures.1
-    ∙ rw c.requires.links_value at (probe-refused _ _ _ c.probe_wanted.ensures (probe_end c.args.ring.now.ends.now.plant c.args.ring.now.switch c.args.states.now) _ c.in_err-m.was)
+    ∙ rw c.requires.links_value at (probe-refused _ _ _ c.probe_wanted.ensures (probe_end c.args.ring.now.plant.now c.args.ring.now.switch c.args.states.now) _ c.in_err-m.was)

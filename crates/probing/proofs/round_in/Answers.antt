@@ -8,7 +8,7 @@ use Rattle.probing.proofs.Lent.{round-enough, round-arcs}
 use Rattle.probing.proofs.round_in.Goals as goal
 
 pub invariant_of-ring : goal.invariant_of-ring
-invariant_of-ring c = record { over_arcs = round-arcs c.args.plan.now.network.ends.plant c.args.plan.now.network.ends.sound c.args.switch c.requires _ c.own_round-own.ensures }
+invariant_of-ring c = record { sound = c.args.layout.now.chart.ends.sound; over_arcs = round-arcs c.args.layout.now.chart.ends.plant c.args.layout.now.chart.ends.sound c.args.switch c.requires _ c.own_round-own.ensures }
 
 pub round_run-requires : goal.round_run-requires
 round_run-requires c = round-enough _ _ _ _ c.in_ok-judge_round.ensures
@@ -16,7 +16,7 @@ round_run-requires c = round-enough _ _ _ _ c.in_ok-judge_round.ensures
 pub returns : goal.returns
 unfolding round_in
 returns c =
-    ap given (c.round_run.ensures ∙ ap (λ (w : List ℕ). round_run c.args.plan.now.network.ends.plant w c.args.switch c.args.states.now) c.own_round-own.ensures)
+    ap given (c.round_run.ensures ∙ ap (λ (w : List ℕ). round_run c.args.layout.now.chart.ends.plant w c.args.switch c.args.states.now) c.own_round-own.ensures)
     ∙ sym (passed _ _ c.in_ok-judge_round.ensures _ _ refl)
 
 pub returns-in_err-judge_round : goal.returns-in_err-judge_round

@@ -15,10 +15,10 @@ returns-then-too_few c = holds 13 _ _ (sym c.too_few.ensures ∙ c.if-too_few.tr
 
 pub run_on-requires-clause-can_run : goal.run_on-requires-clause-can_run
 run_on-requires-clause-can_run c =
-    can_run c.args.plan.now.network.ends.plant _ _ c.args.plan.now.charted.used_are (states-enough _ _ (sym c.too_few.ensures ∙ c.if-too_few.false))
+    can_run c.args.chart.now.ends.plant _ _ c.args.chart.now.charted.used_are (states-enough _ _ (sym c.too_few.ensures ∙ c.if-too_few.false))
 
 pub returns : goal.returns
 unfolding run_in
 returns c =
     fails 13 _ _ _ (sym c.too_few.ensures ∙ c.if-too_few.false)
-    (ran_as _ _ _ _ _ (flags_same c.args.plan.now.charted.used_are) (end_of c.injected.result) (end_of c.run_on.result) c.injected.ensures c.run_on.ensures)
+    (ran_as _ _ _ _ _ (flags_same c.args.chart.now.charted.used_are) (end_of c.injected.result) (end_of c.run_on.result) c.injected.ensures c.run_on.ensures)
