@@ -59,7 +59,7 @@ const OF_LINK: usize = 2;
 const OF_LABEL: usize = 1;
 
 // What packets run under: a sound plant, rules as flags of its labels, and a state byte for each N labels. The rules are for arcs of the plant, and its labels have
-// their bytes. The public functions below take a ring with rules and states, and no course beside it: each would have the plant.
+// their bytes. The check, the round run and a probe take a ring with rules and states, and no course beside it: each would have the plant.
 #[derive(Clone, Copy)]
 struct Course<'a, const N: usize> {
     plant: &'a Plant,

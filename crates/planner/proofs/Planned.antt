@@ -12,7 +12,9 @@ use Rattle.answers.proofs.Checks.{gives_so, refuses_so, trying_then}
 use Rattle.answers.proofs.Results.{exit}
 use Rattle.listing.specs.Listing.{reading}
 use Rattle.planning.specs.Components.{components_of}
-use Rattle.planner.specs.Calls.{bridge_flags, bridging, parting}
+use Rattle.plan.specs.Plan.{table_of}
+use Rattle.senders.specs.Senders.{by_switch}
+use Rattle.planner.specs.Calls.{bridge_flags, bridging, parting, tabling, counting}
 
 -- a call that gives g of the plant of the listing s
 module _ {B : Type 0} (s : List ℕ) (g : Plant → B) where
@@ -33,3 +35,7 @@ bridging_is s = giving_is s bridge_flags
 pub parting_is : (s : List ℕ) → answer (parting s) ≡ (answer (reading s) >>= λ p. given (components_of p))
 unfolding parting
 parting_is s = giving_is s components_of
+
+pub counting_is : (s : List ℕ) → answer (counting s) ≡ (answer (reading s) >>= λ p. given (by_switch (table_of p)))
+unfolding tabling counting
+counting_is s = giving_is s (λ p. by_switch (table_of p))

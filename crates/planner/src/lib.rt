@@ -14,7 +14,7 @@ ghost use Rattle.planner.specs.Calls.{rewriting, rewritten, rereading, tabling, 
 ghost use Rattle.planner.specs.Answers.{AddsUp};
 
 use answers::{Refusal, judge_room};
-use planning::{Components, Numbers, Plan};
+use planning::{Components, Numbers};
 use plant::Plant;
 use senders::BySwitch;
 use sheet::Sheet;
@@ -62,12 +62,13 @@ pub fn forwarding_table(listing: &[u8]) -> Result<Table, Refusal>
 }
 
 // The number of rules of a listing that each switch sends by, and their total over switches: refusals 1 to 8.
+#[tactic(auto, using(crate::proofs::Planned::counting_is))]
 pub fn rules_by_switch(listing: &[u8]) -> Result<BySwitch, Refusal>
     ensures counts { answer_of result ≡ answer (counting listing.now) }
     ensures adds_up { AddsUp listing.now result }
 {
-    let plan = planning::plan_of(listing)?;
-    let table = planning::table_of(&plan.layout.chart);
+    let planned = planning::plan_of(listing)?;
+    let table = planning::table_of(&planned.layout.chart);
     let rules = senders::by_switch(table);
     Ok(rules)
 }

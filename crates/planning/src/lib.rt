@@ -5,12 +5,9 @@ ghost use Rattle.std.specs.Prelude.{◌≡◌, [], ℕ, ◌+◌, ◌*◌, ◌≤
 ghost use mathlib.Core.List.{flatten};
 ghost use Rattle.answers.specs.Checks.{answer};
 ghost use Rattle.answers.specs.Results.{answer_as};
-ghost use Rattle.limits.specs.Limits.{max_links};
-ghost use Rattle.limits.specs.Sound.{Sound};
 ghost use Rattle.listing.specs.Listing.{reading};
 ghost use Rattle.walks.specs.Components.{roots, used, links_with};
 ghost use Rattle.plan.specs.Plan.{trail_of, round_of, table_of};
-ghost use Rattle.arcs.specs.Flags.{Flags};
 ghost use Rattle.components.specs.Found.{Finds};
 ghost use Rattle.trail.specs.Filled.{filled_with, Tells};
 ghost use Rattle.trail.specs.Ways.{Laid, TellsFrom};
@@ -22,7 +19,7 @@ ghost use Rattle.planning.specs.Planning.{planning_at};
 ghost use Rattle.planning.specs.Numbers.{numbers_of};
 
 use answers::Refusal;
-use arcs::{AllLegs, ArcEnds, Chains, Legs, Net, Network};
+use arcs::{AllLegs, ArcEnds, Chains, Net, Network};
 use components::Found;
 use plant::{Plant, in_service};
 use round::Round;

@@ -4,7 +4,7 @@ use Prim.Native.Nat.{ℕ}
 use Rattle.plant.specs.declared.Plant.{Plant}
 use Rattle.answers.specs.Answers.{given}
 use Rattle.answers.specs.Checks.{answer}
-use Rattle.answers.proofs.Checks.{given-given, given-refused}
+use Rattle.answers.proofs.Checks.{given-given}
 use Rattle.senders.specs.declared.BySwitch.{BySwitch}
 use Rattle.senders.specs.Senders.{by_switch}
 use Rattle.senders.specs.Placed.{Placed}
@@ -14,7 +14,7 @@ use Rattle.plan.proofs.Totals.{placed, totals}
 use Rattle.planning.specs.declared.Plan.{Plan}
 use Rattle.listing.specs.Listing.{reading}
 use Rattle.planner.specs.Calls.{tabling, counting}
-use Rattle.planner.proofs.Planned.{plan_giving, plan_refusing}
+use Rattle.planner.proofs.Planned.{plan_giving}
 use Rattle.planner.proofs.rules_by_switch.Goals as goal
 
 -- what is found of the plant that was planned adds up
@@ -24,20 +24,13 @@ adds_up s x b e q p g =
     subst (λ (k : Plant). Totals k b) (given-given x.layout.chart.ends.plant p (sym e ∙ g)) (subst (Totals x.layout.chart.ends.plant) (sym q) (totals x.layout.chart.ends.plant x.layout.chart.ends.sound))
 
 pub by_switch-rules-requires : goal.by_switch-rules-requires
-by_switch-rules-requires c = subst Placed (sym c.table_of-table.ensures) (placed _ c.in_ok-plan.plan.layout.chart.ends.sound)
-
-pub returns-in_err-plan-clause-counts : goal.returns-in_err-plan-clause-counts
-unfolding tabling counting
-returns-in_err-plan-clause-counts c = plan_refusing _ (λ p. by_switch (table_of p)) _ c.in_err-plan.ensures _ c.from_residual.ensures.1
-
-pub returns-in_err-plan-clause-adds_up : goal.returns-in_err-plan-clause-adds_up
-returns-in_err-plan-clause-adds_up c = λ p g. absurd (given-refused p _ (sym (c.in_err-plan.ensures ∙ g)))
+by_switch-rules-requires c = subst Placed (sym c.table_of-table.ensures) (placed _ c.in_ok-planned.planned.layout.chart.ends.sound)
 
 pub returns-clause-counts : goal.returns-clause-counts
 unfolding tabling counting
 returns-clause-counts c =
-    plan_giving _ (λ p. by_switch (table_of p)) _ c.in_ok-plan.ensures _ (c.by_switch-rules.ensures ∙ ap by_switch c.table_of-table.ensures)
+    plan_giving _ (λ p. by_switch (table_of p)) _ c.in_ok-planned.ensures _ (c.by_switch-rules.ensures ∙ ap by_switch c.table_of-table.ensures)
 
 pub returns-clause-adds_up : goal.returns-clause-adds_up
 returns-clause-adds_up c =
-    adds_up _ c.in_ok-plan.plan _ (sym c.in_ok-plan.ensures) (c.by_switch-rules.ensures ∙ ap by_switch c.table_of-table.ensures)
+    adds_up _ c.in_ok-planned.planned _ (sym c.in_ok-planned.ensures) (c.by_switch-rules.ensures ∙ ap by_switch c.table_of-table.ensures)
