@@ -101,15 +101,15 @@ module _ (p : Plant) (sound : Sound p) where
       begins-not n t = n (covers.homeless x (omega (arith, x_in, sound.few_switches)) (away t))
 
   module _ (f : Forest) (covers : Covers p (roots p) f) where
-    -- all roots tell the components of the plant
-    pub finds : (home : List ℕ) (bridges arcs : List Bool) → ((x : ℕ) → x < max_switches → at home x ≡ unwrap_or (get_or f.home x None) max_switches) → Flags max_links (bridge p) bridges
+    -- all roots tell the components of the plant, whichever number stands for none
+    pub finds : (none : ℕ) (home : List ℕ) (bridges arcs : List Bool) → ((x : ℕ) → x < max_switches → at home x ≡ unwrap_or (get_or f.home x None) none) → Flags max_links (bridge p) bridges
         → Flags (2 * max_links) (used p) arcs → Finds p (record { count = f.count; roots = f.roots; home = home; bridges = bridges; used = arcs })
-    finds home bridges arcs numbered b u = record {
+    finds none home bridges arcs numbered b u = record {
       count_is = covers.count_is;
       roots_are = covers.roots_are;
       homes = λ x h.
           numbered x (omega (arith, h, sound.few_switches))
-          ∙ ap (λ (o : Option ℕ). unwrap_or o max_switches)
+          ∙ ap (λ (o : Option ℕ). unwrap_or o none)
           (covers.homes _ x (component_in p ok sound.start_in x h) ((component-is p ok sound.start_in _ x (component_in p ok sound.start_in x h) h).1 refl));
       bridges_are = b;
       used_are = u;

@@ -1,5 +1,5 @@
 -- The consoles of a desk: the one that is put in its place is found there, and the other three are as they were. Assumes nothing.
-use mathlib.Core.Path.{◌≡◌, refl}
+use mathlib.Core.Path.{◌≡◌, refl, ap}
 use mathlib.Core.List.{List, [], ◌∷◌, map}
 use Prim.Native.Nat.{ℕ, zero, suc, min, ◌≤◌}
 use lib.Dec.{eqb}
@@ -33,7 +33,6 @@ four_consoles P h (a ∷ b ∷ c ∷ d ∷ f ∷ l) e = absurd (omega (arith, e)
 abbrev put : List Console → Console → ℕ → List Console
 put l c i = map (λ j. choose (eqb j i) c (get_or l (min j 3) idle)) (0 ∷ 1 ∷ 2 ∷ 3 ∷ [])
 
--- as the code puts it there, in its array of four
 pub put_set : (c : Console) (i : ℕ) → i ≤ 3 → (l : List Console) → length l ≡ 4 → slice_set l i c ≡ put l c i
 put_set c =
     four (λ i. (l : List Console) → length l ≡ 4 → slice_set l i c ≡ put l c i)
@@ -41,6 +40,11 @@ put_set c =
     (four_consoles (λ l. slice_set l 1 c ≡ put l c 1) (λ x y z w. refl))
     (four_consoles (λ l. slice_set l 2 c ≡ put l c 2) (λ x y z w. refl))
     (four_consoles (λ l. slice_set l 3 c ≡ put l c 3) (λ x y z w. refl))
+
+-- as the code puts it there, in its array of four
+pub put_is : (l : List Console) (k : ℕ) (c : Console) → length l ≡ 4 → record { consoles = slice_set l (min k 3) c } ≡ with_console (record { consoles = l }) k c
+unfolding with_console console_of
+put_is l k c e = ap (λ (x : List Console). record { consoles = x }) (put_set c (min k 3) (omega arith) l e)
 
 put_found : (l : List Console) (c : Console) (i : ℕ) → i ≤ 3 → get_or (put l c i) i idle ≡ c
 put_found l c = four (λ i. get_or (put l c i) i idle ≡ c) refl refl refl refl

@@ -192,7 +192,7 @@ pub fn console_of(d: &Desk, k: u8) -> Console
 }
 
 // What a call of console k came to, once its console is laid down on the desk, beside the other three as they are. A refusal leaves the desk as it is.
-#[tactic(auto, using(crate::proofs::Consoles::put_set), unfolding(crate::specs::Desk::with_console, crate::specs::Desk::console_of))]
+#[tactic(auto, using(crate::proofs::Consoles::put_is))]
 pub fn kept(d: &mut Desk, k: u8, c: Result<Console, Refusal>) -> Result<Console, Refusal>
     ensures result_value { result ≡ c }
     ensures desk_after { d.new ≡ desk_after d.old k (answer_of c) }

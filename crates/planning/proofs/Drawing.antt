@@ -15,7 +15,7 @@ use Rattle.lists.proofs.Sum.{sum_same}
 use Rattle.lists.proofs.SumOf.{sum_list}
 use Rattle.plant.specs.declared.Plant.{Plant}
 use Rattle.limits.specs.Limits.{max_switches, max_links, max_rules}
-use Rattle.walks.specs.Components.{roots}
+use Rattle.walks.specs.Components.{roots, used}
 use Rattle.walks.specs.Graph.{arcs_used_from}
 use Rattle.walks.proofs.Components.{roots_few, arcs-sum}
 use Rattle.walks.proofs.Limits.{few-used}
@@ -28,12 +28,18 @@ use Rattle.arcs.specs.Net.{rooted, Within}
 use Rattle.arcs.specs.Chains.{TailsIn, Chained}
 use Rattle.arcs.specs.Table.{distances_in}
 use Rattle.arcs.specs.Parts as network
+use Rattle.arcs.specs.Flags.{Flags}
 use Rattle.arcs.specs.Legs.{no_legs, LegsIn}
 use Rattle.legs.specs.Several.{in_use, Several, LegsOfAll}
 use Rattle.components.specs.declared.Found.{Found}
 use Rattle.components.specs.Found.{Finds}
-use Rattle.planning.specs.Plans.{net_of, used_flags, TablesBy, HopsBy, LegsBy, Charted}
+use Rattle.planning.specs.Plans.{net_of, used_flags, TablesBy, NetworkOf, HopsBy, LegsBy, Charted}
 use Rattle.planning.proofs.Networks.{flags_from, all-within, all-tails, net_parts, net_trail}
+
+-- with the chains of the arcs in use and the fewest hops over these between every two switches, from each root they are what a trail is laid by
+module _ (e : ArcEnds) (flags : List Bool) (flags_are : Flags (2 * max_links) (used e.plant) flags) (chains : Chains) (t : List (List ℕ)) (of : NetworkOf flags e chains t) where
+  pub parts : (r : ℕ) → In r (roots e.plant) → network.Parts (net_of e.plant r) e.tails e.heads (used_flags e.plant r) chains.first chains.after t
+  parts = net_parts e.plant e.sound e.tails e.heads e.ends flags flags_are chains.first chains.after of.chained t of.hops_are
 
 module _ (e : ArcEnds) (f : Found) (finds : Finds e.plant f) where
   abbrev p : Plant
@@ -61,14 +67,17 @@ module _ (e : ArcEnds) (f : Found) (finds : Finds e.plant f) where
     module _ (chains : Chains) (chained : Chained net.labels (at e.tails) (flag f.used) chains.first chains.after) (t : List (List ℕ))
         (table : t ≡ distances_in net e.tails e.heads f.used)
       where
-        parts : (r : ℕ) → In r (roots p) → network.Parts (net_of p r) e.tails e.heads (used_flags p r) chains.first chains.after t
-        parts =
-            net_parts p e.sound e.tails e.heads e.ends f.used finds.used_are chains.first chains.after
-            (subst (λ (n : Net). Chained n.labels (at e.tails) (flag f.used) chains.first chains.after) net_is chained) t
-            (subst (λ (n : Net). t ≡ distances_in n e.tails e.heads f.used) net_is table)
+        pub network_is : NetworkOf f.used e chains t
+        network_is = record {
+          chained = subst (λ (n : Net). Chained n.labels (at e.tails) (flag f.used) chains.first chains.after) net_is chained;
+          hops_are = subst (λ (n : Net). t ≡ distances_in n e.tails e.heads f.used) net_is table;
+        }
+
+        own-parts : (r : ℕ) → In r (roots p) → network.Parts (net_of p r) e.tails e.heads (used_flags p r) chains.first chains.after t
+        own-parts = parts e f.used finds.used_are chains t network_is
 
         pub tables : TablesBy e chains t
-        tables r h = ∣ parts r h ∣₁
+        tables r h = ∣ own-parts r h ∣₁
 
         -- ---- the legs
 
@@ -99,7 +108,7 @@ module _ (e : ArcEnds) (f : Found) (finds : Finds e.plant f) where
             few = omega (arith, ap length rs_are, roots_few p (sound_valid p e.sound) e.sound.start_in, e.sound.few_switches);
             parts = λ i h.
                 subst (λ (n : Net). network.Parts n e.tails e.heads (flags_of i) chains.first chains.after t) (sym (rooted-is i))
-                (parts (get_or (roots p) i 0) (get_d_in (roots p) i (omega (arith, ap length rs_are))));
+                (own-parts (get_or (roots p) i 0) (get_d_in (roots p) i (omega (arith, ap length rs_are))));
             room = subst (λ (k : List ℕ). sum (length k) (λ i. in_use net (flags_of i)) ≤ max_rules) (sym rs_are) room;
           }
 

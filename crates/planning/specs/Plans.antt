@@ -1,6 +1,6 @@
 -- Inner: what the parts of a plan are: each is what the definitions say of the plant, over all its components. A plan says it of its fields. Assumes nothing.
 use Rattle.std.specs.Prelude.{◌≡◌, Bool, List, map, ℕ, ◌*◌, ◌<◌, length, get_or}
-use Rattle.lists.specs.Arrays.{at}
+use Rattle.lists.specs.Arrays.{flag, at}
 use Rattle.lists.specs.Members.{In}
 use Rattle.lists.specs.Numbers.{range}
 use Rattle.plant.specs.declared.Plant.{Plant}
@@ -16,6 +16,8 @@ use Rattle.arcs.specs.declared.Legs.{Legs}
 use Rattle.arcs.specs.declared.ArcEnds.{ArcEnds}
 use Rattle.arcs.specs.declared.Chains.{Chains}
 use Rattle.arcs.specs.declared.Network.{Network}
+use Rattle.arcs.specs.Chains.{Chained}
+use Rattle.arcs.specs.Table.{distances_in}
 use Rattle.arcs.specs.Parts.{Parts}
 use Rattle.arcs.specs.Flags.{Flags}
 use Rattle.arcs.specs.Legs.{no_legs, LegsOf, LegsIn}
@@ -53,6 +55,11 @@ LegsBy ends legs =
 abbrev pub TablesBy : ArcEnds → Chains → List (List ℕ) → Type 0
 TablesBy ends chains t =
     (r : ℕ) → In r (roots ends.plant) → ∥ Parts (net_of ends.plant r) ends.tails ends.heads (used_flags ends.plant r) chains.first chains.after t ∥₁
+
+-- the chains are those of the flagged arcs, and the table t has the fewest hops over these between every two switches
+pub record NetworkOf (flags : List Bool) (ends : ArcEnds) (chains : Chains) (t : List (List ℕ)) : Type 0 where
+  pub chained : Chained (2 * ends.plant.count) (at ends.tails) (flag flags) chains.first chains.after
+  pub hops_are : t ≡ distances_in (net_of ends.plant ends.plant.start) ends.tails ends.heads flags
 
 -- the component of each switch
 abbrev pub HomesAre : Plant → List ℕ → Type 0

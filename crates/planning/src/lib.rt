@@ -1,7 +1,7 @@
 // The plan of a listing, which every call that plans goes through. Inner: the calls are those of docs/CALLS.md.
 #![tactic(auto, using(crate::proofs::Charts::few_components, crate::proofs::OneAfterAnother::root_in))]
 
-ghost use Rattle.std.specs.Prelude.{◌≡◌, [], ℕ, ◌+◌, ◌*◌, ◌≤◌, ◌<◌, length, map};
+ghost use Rattle.std.specs.Prelude.{◌≡◌, [], ℕ, ◌+◌, ◌*◌, ◌≤◌, ◌<◌, length, map, IfOk};
 ghost use mathlib.Core.List.{flatten};
 ghost use Rattle.answers.specs.Checks.{answer};
 ghost use Rattle.answers.specs.Results.{answer_as};
@@ -13,7 +13,7 @@ ghost use Rattle.trail.specs.Filled.{filled_with, Tells};
 ghost use Rattle.trail.specs.Ways.{Laid, TellsFrom};
 ghost use Rattle.round.specs.Round.{labels_of};
 ghost use Rattle.planning.specs.Components.{components_with, component_with, components_of};
-ghost use Rattle.planning.specs.Plans.{net_of, trail_at, round_at, HomesAre, HopsBy, LinksBy, Charted, Measured, TablesBy, LegsBy, NetworkAt, LegsAt};
+ghost use Rattle.planning.specs.Plans.{net_of, trail_at, round_at, HomesAre, HopsBy, LinksBy, Charted, Measured, TablesBy, NetworkOf, LegsBy, NetworkAt, LegsAt};
 ghost use Rattle.planning.specs.OneAfterAnother.{LaysEach, TellsEach};
 ghost use Rattle.planning.specs.Planning.{planning_at};
 ghost use Rattle.planning.specs.Numbers.{numbers_of};
@@ -196,7 +196,8 @@ macro_rules! planned {
 // The plan of a listing: refusals 1 to 8.
 #[inline(never)]
 pub fn plan_of(listing: &[u8]) -> Result<Plan, Refusal>
-    ensures { answer_as (λ (x : Plan). x.layout.chart.ends.plant) result ≡ answer (reading listing.now) }
+    ensures plant_value { answer_as (λ (x : Plan). x.layout.chart.ends.plant) result ≡ answer (reading listing.now) }
+    ensures network_is { IfOk result (λ (x : Plan). NetworkOf x.layout.chart.used x.layout.chart.ends x.chains x.distances) }
 {
     let p = reading::read(listing)?;
     Ok(planned!(p))
@@ -205,7 +206,8 @@ pub fn plan_of(listing: &[u8]) -> Result<Plan, Refusal>
 // The plan of a listing that has the named switch: refusals 1 to 8, then 11.
 #[inline(never)]
 pub fn plan_at(listing: &[u8], switch: u8) -> Result<Plan, Refusal>
-    ensures { answer_as (λ (x : Plan). x.layout.chart.ends.plant) result ≡ answer (planning_at listing.now switch) }
+    ensures plant_value { answer_as (λ (x : Plan). x.layout.chart.ends.plant) result ≡ answer (planning_at listing.now switch) }
+    ensures network_is { IfOk result (λ (x : Plan). NetworkOf x.layout.chart.used x.layout.chart.ends x.chains x.distances) }
 {
     let p = reading::read(listing)?;
     answers::judge(p.switches <= switch, Refusal::SwitchOutOfRange)?;

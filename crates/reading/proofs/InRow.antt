@@ -19,7 +19,7 @@ use Rattle.reading.specs.Carried.{reading_at, bytes, left}
 
 -- the header
 module _ (s : Bor (List ℕ)) (r : Reading) (r_is : r ≡ reading_at s 0) where
-  header_refused : (n : ℕ) → refused n ≡ answer (header (left r)) → refused n ≡ answer (reading s.now)
+  pub header_refused : (n : ℕ) → refused n ≡ answer (header (left r)) → refused n ≡ answer (reading s.now)
   unfolding reading
   header_refused n e = sym (stops (header s.now then λ x. linked x.0 x.1) (λ x. ended x.0 x.1) n (stops (header s.now) (λ x. linked x.0 x.1) n (sym (rw r_is at e))))
 
@@ -31,12 +31,12 @@ module _ (s : Bor (List ℕ)) (r : Reading) (r_is : r ≡ reading_at s 0) where
     to_links : answer (header s.now then λ x. linked x.0 x.1) ≡ answer (linked (plant_of h) (left q))
     to_links = goes_on (header s.now) (λ x. linked x.0 x.1) (header_of s.now h) (sym (rw r_is at e)) ∙ rw q_at
 
-    links_refused : (n : ℕ) → refused n ≡ answer (linked (plant_of h) (left q)) → refused n ≡ answer (reading s.now)
+    pub links_refused : (n : ℕ) → refused n ≡ answer (linked (plant_of h) (left q)) → refused n ≡ answer (reading s.now)
     unfolding reading
     links_refused n f = sym (stops (header s.now then λ x. linked x.0 x.1) (λ x. ended x.0 x.1) n (to_links ∙ sym f))
 
     -- the end
-    all_given : (l : Linked) → given (linked_of (bytes q) l) ≡ answer (linked (plant_of h) (left q)) → (p : Reading) → p ≡ reading_at q.listing l.next
+    pub all_given : (l : Linked) → given (linked_of (bytes q) l) ≡ answer (linked (plant_of h) (left q)) → (p : Reading) → p ≡ reading_at q.listing l.next
         → (a : Answer Plant) → a ≡ answer (ended l.plant (left p)) → a ≡ answer (reading s.now)
     unfolding reading
     all_given l f p p_is a g =

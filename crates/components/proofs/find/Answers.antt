@@ -16,4 +16,4 @@ returns c =
     let home = c.visit_all-f.result.home in
     let numbered : (x : ℕ) → x < max_switches → at c.from_fn-home.result x ≡ unwrap_or (get_or home x None) max_switches =
     λ x. made _ (λ i. unwrap_or (get_or home i None) max_switches) _ (λ i y q k. (search (rules, tests) fits 5000, search (rules, tests) fits 5000)) _ max_switches c.from_fn-home.ensures.items x 0 in
-    finds _ c.args.ends.now.sound _ c.visit_all-f.ensures _ _ _ numbered c.bridges_of-bridges.ensures c.arcs_in_use-used.ensures
+    finds _ c.args.ends.now.sound _ c.visit_all-f.ensures _ _ _ _ numbered c.bridges_of-bridges.ensures c.arcs_in_use-used.ensures

@@ -27,10 +27,10 @@ unfolding console_out_of_range
 returns-in_err-plan c =
     let known : Judges ((19, console_out_of_range c.args.console) ∷ []) c.judge.result = subst (λ (n : ℕ). Judges ((19, leb 4 n) ∷ []) c.judge.result) c.from-past.ensures c.judge.ensures in
     exit sized _ _ c.from_residual-in_err-plan.ensures.1
-    ∙ sized_off c.args.console _ _ _ known plant_of _ (λ u h. c.plan_of.ensures) _ (ap (λ v. result_and v c.plan_of.result) c.in_ok-judge.was ∙ c.in_err-plan.was)
+    ∙ sized_off c.args.console _ _ _ known plant_of _ (λ u h. c.plan_of.ensures.plant_value) _ (ap (λ v. result_and v c.plan_of.result) c.in_ok-judge.was ∙ c.in_err-plan.was)
 
 pub returns : goal.returns
 unfolding console_out_of_range
 returns c =
     let known : Judges ((19, console_out_of_range c.args.console) ∷ []) c.judge.result = subst (λ (n : ℕ). Judges ((19, leb 4 n) ∷ []) c.judge.result) c.from-past.ensures c.judge.ensures in
-    sized_on c.args.console _ _ _ known plant_of _ (λ u h. c.plan_of.ensures) _ (ap (λ v. result_and v c.plan_of.result) c.in_ok-judge.was ∙ c.in_ok-plan.was) _ c.links_with-links.ensures
+    sized_on c.args.console _ _ _ known plant_of _ (λ u h. c.plan_of.ensures.plant_value) _ (ap (λ v. result_and v c.plan_of.result) c.in_ok-judge.was ∙ c.in_ok-plan.was) _ c.links_with-links.ensures

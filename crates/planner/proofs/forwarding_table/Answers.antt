@@ -5,8 +5,8 @@ use Rattle.planner.proofs.forwarding_table.Goals as goal
 
 pub returns-in_err-plan : goal.returns-in_err-plan
 unfolding tabling
-returns-in_err-plan c = plan_refusing _ table_of _ c.in_err-plan.ensures _ c.from_residual.ensures.1
+returns-in_err-plan c = plan_refusing _ table_of _ c.in_err-plan.ensures.plant_value _ c.from_residual.ensures.1
 
 pub returns : goal.returns
 unfolding tabling
-returns c = plan_giving _ table_of _ c.in_ok-plan.ensures _ c.table_of.ensures
+returns c = plan_giving _ table_of _ c.in_ok-plan.ensures.plant_value _ c.table_of.ensures

@@ -24,37 +24,37 @@ overflow_mul-hops c =
 pub returns-in_err-plan-clause-result_value : goal.returns-in_err-plan-clause-result_value
 unfolding round_trailing
 returns-in_err-plan-clause-result_value c =
-    exit (λ n. n) _ _ c.from_residual.ensures.1 ∙ sym (trail-refused round_of _ _ _ (sym c.in_err-plan.ensures))
+    exit (λ n. n) _ _ c.from_residual.ensures.1 ∙ sym (trail-refused round_of _ _ _ (sym c.in_err-plan.ensures.plant_value))
 
 pub returns-in_err-plan-clause-buffer_now : goal.returns-in_err-plan-clause-buffer_now
 unfolding round_laid_out
-returns-in_err-plan-clause-buffer_now c = left-refused round_of _ _ _ (sym c.in_err-plan.ensures)
+returns-in_err-plan-clause-buffer_now c = left-refused round_of _ _ _ (sym c.in_err-plan.ensures.plant_value)
 
 pub returns-in_err-judge_room-clause-result_value : goal.returns-in_err-judge_room-clause-result_value
 unfolding round_trailing
 returns-in_err-judge_room-clause-result_value c =
-    let read = sym c.in_ok-plan.ensures in
+    let read = sym c.in_ok-plan.ensures.plant_value in
     exit (λ n. n) _ _ c.from_residual-in_err-judge_room.ensures.1 ∙ sym (short_answer round_of _ _ _ read _ (c.from.ensures ∙ hops_are _ _ c.in_ok-plan.plan.layout.chart.ends.sound c.links_in_service-hops.ensures) _ c.judge_room.ensures _ c.in_err-judge_room.was)
 
 pub returns-in_err-judge_room-clause-buffer_now : goal.returns-in_err-judge_room-clause-buffer_now
 unfolding round_laid_out
 returns-in_err-judge_room-clause-buffer_now c =
-    let read = sym c.in_ok-plan.ensures in
+    let read = sym c.in_ok-plan.ensures.plant_value in
     short_left round_of _ _ _ read _ (c.from.ensures ∙ hops_are _ _ c.in_ok-plan.plan.layout.chart.ends.sound c.links_in_service-hops.ensures) _ c.judge_room.ensures _ c.in_err-judge_room.was
 
 pub lay_round-requires : goal.lay_round-requires
 lay_round-requires c =
-    let read = sym c.in_ok-plan.ensures in
+    let read = sym c.in_ok-plan.ensures.plant_value in
     enough_room round_of _ _ _ read _ (c.from.ensures ∙ hops_are _ _ c.in_ok-plan.plan.layout.chart.ends.sound c.links_in_service-hops.ensures) _ c.judge_room.ensures _ c.in_ok-judge_room.was
 
 pub returns-clause-result_value : goal.returns-clause-result_value
 unfolding round_trailing
 returns-clause-result_value c =
-    let read = sym c.in_ok-plan.ensures in
+    let read = sym c.in_ok-plan.ensures.plant_value in
     enough_answer round_of _ _ _ read _ (c.from.ensures ∙ hops_are _ _ c.in_ok-plan.plan.layout.chart.ends.sound c.links_in_service-hops.ensures) _ c.judge_room.ensures _ c.in_ok-judge_room.was _ (hops_are _ _ c.in_ok-plan.plan.layout.chart.ends.sound c.links_in_service-hops.ensures)
 
 pub returns-clause-buffer_now : goal.returns-clause-buffer_now
 unfolding round_laid_out
 returns-clause-buffer_now c =
-    let read = sym c.in_ok-plan.ensures in
+    let read = sym c.in_ok-plan.ensures.plant_value in
     c.lay_round.ensures ∙ enough_left round_of _ _ _ read _ (c.from.ensures ∙ hops_are _ _ c.in_ok-plan.plan.layout.chart.ends.sound c.links_in_service-hops.ensures) _ c.judge_room.ensures _ c.in_ok-judge_room.was

@@ -29,8 +29,8 @@ by_switch-rules-requires c = subst Placed (sym c.table_of-table.ensures) (placed
 pub returns-clause-counts : goal.returns-clause-counts
 unfolding tabling counting
 returns-clause-counts c =
-    plan_giving _ (λ p. by_switch (table_of p)) _ c.in_ok-planned.ensures _ (c.by_switch-rules.ensures ∙ ap by_switch c.table_of-table.ensures)
+    plan_giving _ (λ p. by_switch (table_of p)) _ c.in_ok-planned.ensures.plant_value _ (c.by_switch-rules.ensures ∙ ap by_switch c.table_of-table.ensures)
 
 pub returns-clause-adds_up : goal.returns-clause-adds_up
 returns-clause-adds_up c =
-    adds_up _ c.in_ok-planned.planned _ (sym c.in_ok-planned.ensures) (c.by_switch-rules.ensures ∙ ap by_switch c.table_of-table.ensures)
+    adds_up _ c.in_ok-planned.planned _ (sym c.in_ok-planned.ensures.plant_value) (c.by_switch-rules.ensures ∙ ap by_switch c.table_of-table.ensures)

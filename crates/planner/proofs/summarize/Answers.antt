@@ -5,8 +5,8 @@ use Rattle.planner.proofs.summarize.Goals as goal
 
 pub returns-in_err-plan : goal.returns-in_err-plan
 unfolding summing
-returns-in_err-plan c = plan_refusing _ numbers_of _ c.in_err-plan.ensures _ c.from_residual.ensures.1
+returns-in_err-plan c = plan_refusing _ numbers_of _ c.in_err-plan.ensures.plant_value _ c.from_residual.ensures.1
 
 pub returns : goal.returns
 unfolding summing
-returns c = plan_giving _ numbers_of _ c.in_ok-plan.ensures _ c.numbers_of.ensures
+returns c = plan_giving _ numbers_of _ c.in_ok-plan.ensures.plant_value _ c.numbers_of.ensures

@@ -2,7 +2,7 @@
 use Rattle.std.proofs.Common.{sym, arith}
 use Rattle.codec.proofs.FieldLaws.{bytes_known}
 use Rattle.listing.proofs.RoundTrip.{decode_sound}
-use Rattle.planning.proofs.Drawing.{roots-are, chains_asked, distances-asked, tables, legs-asked, hops_by, charted, legs_by}
+use Rattle.planning.proofs.Drawing.{roots-are, chains_asked, distances-asked, network_is, tables, legs-asked, hops_by, charted, legs_by}
 use Rattle.planning.proofs.plan_of.Goals as goal
 
 pub ends_of-ends-requires : goal.ends_of-ends-requires
@@ -37,3 +37,6 @@ invariant_of-result-clause-legs_are c =
     let e = c.ends_of-ends.result in
     let all = roots-are e _ c.find-f.ensures _ c.from.ensures (omega arith) in
     legs_by e _ c.find-f.ensures _ c.net_of-net.ensures _ c.chains_of-chains.ensures _ c.distances-distances.ensures _ all _ c.legs_of-legs.ensures
+
+pub returns-clause-network_is : goal.returns-clause-network_is
+returns-clause-network_is c = network_is c.ends_of-ends.result _ c.find-f.ensures _ c.net_of-net.ensures _ c.chains_of-chains.ensures _ c.distances-distances.ensures

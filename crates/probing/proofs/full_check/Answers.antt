@@ -6,12 +6,12 @@ use Rattle.probing.proofs.Lent.{planned_in}
 use Rattle.probing.proofs.full_check.Goals as goal
 
 pub check_in-requires : goal.check_in-requires
-check_in-requires c = planned_in _ _ _ c.in_ok-plan.ensures
+check_in-requires c = planned_in _ _ _ c.in_ok-plan.ensures.plant_value
 
 pub returns : goal.returns
 unfolding checking
-returns c = try_given (planning_at _ _) (check_in _ _ _) _ _ c.in_ok-plan.ensures c.check_in.ensures
+returns c = try_given (planning_at _ _) (check_in _ _ _) _ _ c.in_ok-plan.ensures.plant_value c.check_in.ensures
 
 pub returns-in_err-plan : goal.returns-in_err-plan
 unfolding checking
-returns-in_err-plan c = try_refused (planning_at _ _) (check_in _ _ _) _ _ _ c.from_residual.ensures.1 c.in_err-plan.ensures
+returns-in_err-plan c = try_refused (planning_at _ _) (check_in _ _ _) _ _ _ c.from_residual.ensures.1 c.in_err-plan.ensures.plant_value

@@ -6,12 +6,12 @@ use Rattle.probing.proofs.Lent.{planned_in}
 use Rattle.probing.proofs.link_named.Goals as goal
 
 pub name_in-requires : goal.name_in-requires
-name_in-requires c = planned_in _ _ _ c.in_ok-plan.ensures
+name_in-requires c = planned_in _ _ _ c.in_ok-plan.ensures.plant_value
 
 pub returns : goal.returns
 unfolding naming
-returns c = try_given (planning_at _ _) (name_in _ _ _) _ _ c.in_ok-plan.ensures c.name_in.ensures
+returns c = try_given (planning_at _ _) (name_in _ _ _) _ _ c.in_ok-plan.ensures.plant_value c.name_in.ensures
 
 pub returns-in_err-plan : goal.returns-in_err-plan
 unfolding naming
-returns-in_err-plan c = try_refused (planning_at _ _) (name_in _ _ _) _ _ _ c.from_residual.ensures.1 c.in_err-plan.ensures
+returns-in_err-plan c = try_refused (planning_at _ _) (name_in _ _ _) _ _ _ c.from_residual.ensures.1 c.in_err-plan.ensures.plant_value

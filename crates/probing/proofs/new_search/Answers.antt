@@ -11,8 +11,8 @@ pub returns : goal.returns
 unfolding beginning
 returns c =
     let begun : c.new.result ≡ new_search c.links_with-links.result = c.new.ensures in
-    try_giving (planning_at _ _) (λ p. new_search (links_with p c.args.switch)) _ _ c.in_ok-plan.ensures (begun ∙ ap new_search c.links_with-links.ensures)
+    try_giving (planning_at _ _) (λ p. new_search (links_with p c.args.switch)) _ _ c.in_ok-plan.ensures.plant_value (begun ∙ ap new_search c.links_with-links.ensures)
 
 pub returns-in_err-plan : goal.returns-in_err-plan
 unfolding beginning
-returns-in_err-plan c = try_no_giving (planning_at _ _) (λ p. new_search (links_with p c.args.switch)) _ _ _ c.from_residual.ensures.1 c.in_err-plan.ensures
+returns-in_err-plan c = try_no_giving (planning_at _ _) (λ p. new_search (links_with p c.args.switch)) _ _ _ c.from_residual.ensures.1 c.in_err-plan.ensures.plant_value

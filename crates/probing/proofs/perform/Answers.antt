@@ -12,7 +12,7 @@ pub returns : goal.returns
 unfolding performing performed_in
 returns c =
     let cs = calls_in c.args.calls.now in
-    let plots = c.in_ok-plan.ensures in
+    let plots = c.in_ok-plan.ensures.plant_value in
     let r =
     try_giving (planning_at _ _) (performed_in _ cs) _ _ plots
     (c.perform.ensures ∙ ap (λ (e : ℕ). perform (begun e) cs) c.links_with-links.ensures)
@@ -24,6 +24,6 @@ unfolding performing performed_in
 returns-in_err-plan c =
     let cs = calls_in c.args.calls.now in
     record {
-      result_value = try_no_giving (planning_at _ _) (performed_in _ cs) _ _ _ c.from_residual.ensures.1 c.in_err-plan.ensures;
+      result_value = try_no_giving (planning_at _ _) (performed_in _ cs) _ _ _ c.from_residual.ensures.1 c.in_err-plan.ensures.plant_value;
       performs = performs-none _ _ _ _ _ (exit _ _ _ c.from_residual.ensures.1);
     }

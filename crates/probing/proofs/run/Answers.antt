@@ -6,8 +6,8 @@ use Rattle.probing.proofs.run.Goals as goal
 
 pub returns : goal.returns
 unfolding running
-returns c = try_given (planning_at _ _) (run_in _ _ _) _ _ c.in_ok-plan.ensures c.run_in.ensures
+returns c = try_given (planning_at _ _) (run_in _ _ _) _ _ c.in_ok-plan.ensures.plant_value c.run_in.ensures
 
 pub returns-in_err-plan : goal.returns-in_err-plan
 unfolding running
-returns-in_err-plan c = try_refused (planning_at _ _) (run_in _ _ _) _ _ _ c.from_residual.ensures.1 c.in_err-plan.ensures
+returns-in_err-plan c = try_refused (planning_at _ _) (run_in _ _ _) _ _ _ c.from_residual.ensures.1 c.in_err-plan.ensures.plant_value

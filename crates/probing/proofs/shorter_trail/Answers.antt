@@ -8,16 +8,16 @@ use Rattle.probing.proofs.Rounds.{chosen-hops}
 use Rattle.probing.proofs.shorter_trail.Goals as goal
 
 pub choose_in-requires : goal.choose_in-requires
-choose_in-requires c = planned_in _ _ _ c.in_ok-plan.ensures
+choose_in-requires c = planned_in _ _ _ c.in_ok-plan.ensures.plant_value
 
 pub returns : goal.returns
 unfolding choosing
 returns c =
-    let r = try_given (planning_at _ _) (choice_in _ _ _) _ _ c.in_ok-plan.ensures c.choose_in.ensures in
+    let r = try_given (planning_at _ _) (choice_in _ _ _) _ _ c.in_ok-plan.ensures.plant_value c.choose_in.ensures in
     record { result_value = r; chosen_hops = chosen-hops _ (bytes_known c.args.listing.now (λ i. (c.type_inv.listing i).fits)) _ _ _ _ r }
 
 pub returns-in_err-plan : goal.returns-in_err-plan
 unfolding choosing
 returns-in_err-plan c =
-    let r = try_refused (planning_at _ _) (choice_in _ _ _) _ _ _ c.from_residual.ensures.1 c.in_err-plan.ensures in
+    let r = try_refused (planning_at _ _) (choice_in _ _ _) _ _ _ c.from_residual.ensures.1 c.in_err-plan.ensures.plant_value in
     record { result_value = r; chosen_hops = chosen-hops _ (bytes_known c.args.listing.now (λ i. (c.type_inv.listing i).fits)) _ _ _ _ r }
