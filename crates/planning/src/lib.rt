@@ -193,7 +193,7 @@ macro_rules! planned {
     }};
 }
 
-// The plan of a listing: refusals 1 to 8.
+// The plan of a listing: refusals 1 to 8. Its chains are those of its arcs in use, and its table has the fewest hops over these between every two switches.
 #[inline(never)]
 pub fn plan_of(listing: &[u8]) -> Result<Plan, Refusal>
     ensures plant_value { answer_as (λ (x : Plan). x.layout.chart.ends.plant) result ≡ answer (reading listing.now) }
