@@ -14,6 +14,9 @@ chains_of-chains-requires-clause-tails_in c = (chains_asked c.ends_of-ends.resul
 pub distances-distances-requires : goal.distances-distances-requires
 distances-distances-requires c = distances-asked c.ends_of-ends.result _ c.find-f.ensures _ c.net_of-net.ensures
 
+pub returns-clause-network_is : goal.returns-clause-network_is
+returns-clause-network_is c = network_is c.ends_of-ends.result _ c.find-f.ensures _ c.net_of-net.ensures _ c.chains_of-chains.ensures _ c.distances-distances.ensures
+
 pub legs_of-legs-requires : goal.legs_of-legs-requires
 legs_of-legs-requires c =
     let e = c.ends_of-ends.result in
@@ -37,6 +40,3 @@ invariant_of-result-clause-legs_are c =
     let e = c.ends_of-ends.result in
     let all = roots-are e _ c.find-f.ensures _ c.from.ensures (omega arith) in
     legs_by e _ c.find-f.ensures _ c.net_of-net.ensures _ c.chains_of-chains.ensures _ c.distances-distances.ensures _ all _ c.legs_of-legs.ensures
-
-pub returns-clause-network_is : goal.returns-clause-network_is
-returns-clause-network_is c = network_is c.ends_of-ends.result _ c.find-f.ensures _ c.net_of-net.ensures _ c.chains_of-chains.ensures _ c.distances-distances.ensures
