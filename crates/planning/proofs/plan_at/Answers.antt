@@ -29,9 +29,6 @@ chains_of-chains-requires-clause-tails_in c = (chains_asked c.ends_of-ends.resul
 pub distances-distances-requires : goal.distances-distances-requires
 distances-distances-requires c = distances-asked c.ends_of-ends.result _ c.find-f.ensures _ c.net_of-net.ensures
 
-pub returns-clause-network_is : goal.returns-clause-network_is
-returns-clause-network_is c = network_is c.ends_of-ends.result _ c.find-f.ensures _ c.net_of-net.ensures _ c.chains_of-chains.ensures _ c.distances-distances.ensures
-
 pub legs_of-legs-requires : goal.legs_of-legs-requires
 legs_of-legs-requires c =
     let e = c.ends_of-ends.result in
@@ -46,6 +43,9 @@ measured-hops-requires-clause-hops_by c =
 
 pub invariant_of-chart : goal.invariant_of-chart
 invariant_of-chart c = record { charted = charted c.ends_of-ends.result _ c.find-f.ensures }
+
+pub returns-clause-network_is : goal.returns-clause-network_is
+returns-clause-network_is c = network_is c.ends_of-ends.result _ c.find-f.ensures _ c.net_of-net.ensures _ c.chains_of-chains.ensures _ c.distances-distances.ensures
 
 pub invariant_of-result-clause-tables : goal.invariant_of-result-clause-tables
 invariant_of-result-clause-tables c = tables c.ends_of-ends.result _ c.find-f.ensures _ c.net_of-net.ensures _ c.chains_of-chains.ensures _ c.distances-distances.ensures
