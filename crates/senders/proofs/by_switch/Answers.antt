@@ -3,7 +3,7 @@ use Rattle.std.proofs.Common.{rules, refl, ◌≡◌, ℕ, List, ◌<◌, ◌^�
 use Rattle.std.proofs.iter.runs.Sources.{sums}
 use Rattle.limits.specs.Limits.{max_switches}
 use Rattle.senders.specs.Senders.{by_switch}
-use Rattle.senders.proofs.Senders.{total, counts_none, counts-after, counts_all, count_most, few_held, sender_in, places-total, total-most}
+use Rattle.senders.proofs.Senders.{total, counts_none, counts-after, counts_all, count_fits, sender_in, places-total, total-fits}
 use Rattle.senders.proofs.by_switch.Goals as goal
 use Rattle.senders.proofs.by_switch.Goals.{After-sender_of}
 
@@ -25,8 +25,8 @@ bounds-b-sender_of-in-loop-rule c = place (goal.at.bounds-b-sender_of-in-loop-ru
 pub overflow_add-b : goal.overflow_add-b
 overflow_add-b c =
     let k = c.loop-rule in
-    let small = count_most c.args.t c.requires c.from.ensures k.rule-index c.loop-rule-test.true k.b.counts k.invariant.counts _ (place (goal.at.overflow_add-b c).After-sender_of) in
-    omega (arith, small, c.loop-rule-test.true, few_held c.args.t c.requires c.from.ensures)
+    let small = count_fits c.args.t c.requires c.from.ensures k.rule-index c.loop-rule-test.true k.b.counts k.invariant.counts _ c.sender_of.ensures in
+    omega (arith, small)
 
 pub loop-rule-preserved : goal.loop-rule-preserved
 loop-rule-preserved c =
@@ -40,7 +40,7 @@ pub sum-requires-clause-fits : goal.sum-requires-clause-fits
 sum-requires-clause-fits c =
     let k = c.loop-rule in
     let counts = counts_all c.args.t c.requires c.from.ensures k.rule-index k.b.counts c.loop-rule-test.false k.invariant.counts in
-    let few : total k.b.counts < 2 ^ 16 = omega (arith, places-total c.args.t c.requires _ counts, total-most c.args.t c.requires, c.requires.few) in
+    let few : total k.b.counts < 2 ^ 16 = omega (arith, places-total c.args.t c.requires _ counts, total-fits c.args.t c.requires) in
     search (rules, sums)
 
 pub returns : goal.returns
