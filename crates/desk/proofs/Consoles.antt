@@ -33,6 +33,7 @@ four_consoles P h (a ∷ b ∷ c ∷ d ∷ f ∷ l) e = absurd (omega (arith, e)
 abbrev put : List Console → Console → ℕ → List Console
 put l c i = map (λ j. choose (eqb j i) c (get_or l (min j 3) idle)) (0 ∷ 1 ∷ 2 ∷ 3 ∷ [])
 
+-- setting place i of four makes just these
 pub put_set : (c : Console) (i : ℕ) → i ≤ 3 → (l : List Console) → length l ≡ 4 → slice_set l i c ≡ put l c i
 put_set c =
     four (λ i. (l : List Console) → length l ≡ 4 → slice_set l i c ≡ put l c i)
@@ -41,7 +42,7 @@ put_set c =
     (four_consoles (λ l. slice_set l 2 c ≡ put l c 2) (λ x y z w. refl))
     (four_consoles (λ l. slice_set l 3 c ≡ put l c 3) (λ x y z w. refl))
 
--- as the code puts it there, in its array of four
+-- so the desk whose place is set, as the code sets it, is the one with that console
 pub put_is : (l : List Console) (k : ℕ) (c : Console) → length l ≡ 4 → record { consoles = slice_set l (min k 3) c } ≡ with_console (record { consoles = l }) k c
 unfolding with_console console_of
 put_is l k c e = ap (λ (x : List Console). record { consoles = x }) (put_set c (min k 3) (omega arith) l e)

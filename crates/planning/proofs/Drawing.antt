@@ -36,7 +36,7 @@ use Rattle.components.specs.Found.{Finds}
 use Rattle.planning.specs.Plans.{net_of, used_flags, TablesBy, NetworkOf, HopsBy, LegsBy, Charted}
 use Rattle.planning.proofs.Networks.{flags_from, all-within, all-tails, net_parts, net_trail}
 
--- with the chains of the arcs in use and the fewest hops over these between every two switches, from each root they are what a trail is laid by
+-- the chains of the arcs in use, and the fewest hops over these between every two switches, are from each root what a trail is laid by
 module _ (e : ArcEnds) (flags : List Bool) (flags_are : Flags (2 * max_links) (used e.plant) flags) (chains : Chains) (t : List (List ℕ)) (of : NetworkOf flags e chains t) where
   pub parts : (r : ℕ) → In r (roots e.plant) → network.Parts (net_of e.plant r) e.tails e.heads (used_flags e.plant r) chains.first chains.after t
   parts = net_parts e.plant e.sound e.tails e.heads e.ends flags flags_are chains.first chains.after of.chained t of.hops_are

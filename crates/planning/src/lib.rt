@@ -203,7 +203,7 @@ pub fn plan_of(listing: &[u8]) -> Result<Plan, Refusal>
     Ok(planned!(p))
 }
 
-// The plan of a listing that has the named switch: refusals 1 to 8, then 11.
+// The plan of a listing that has the named switch, of which the same is told: refusals 1 to 8, then 11.
 #[inline(never)]
 pub fn plan_at(listing: &[u8], switch: u8) -> Result<Plan, Refusal>
     ensures plant_value { answer_as (λ (x : Plan). x.layout.chart.ends.plant) result ≡ answer (planning_at listing.now switch) }

@@ -141,7 +141,7 @@ module _ (t : Table) (f : Placed t) where
         pub count_most : (x : ℕ) → x < max_switches → at l x ≤ k
         count_most x i = omega (arith, c.tells x i, sent-most (take k rs) x, length-take-le k rs (omega arith))
 
-        -- so the next rule's counts too
+        -- so there is room to count the next rule
         pub count_fits : (x : ℕ) → x ≡ (get_or rs k zero_rule).from → at l x < max_rules
         count_fits x e = omega (arith, count_most x (sender_in x e), h, few_held)
 
@@ -163,5 +163,6 @@ module _ (t : Table) (f : Placed t) where
   pub total-most : over_switches (rules_held t) ≤ t.count
   total-most = omega (arith, over_switches_is (rules_held t), length-take-le t.count t.rules (omega (arith, f.few, f.places)))
 
+  -- so it is at most as many as there are places for rules
   pub total-fits : over_switches (rules_held t) ≤ max_rules
   total-fits = omega (arith, total-most, f.few)
